@@ -1,0 +1,11 @@
+-- `Laws` has the laws of this crate's definitions, for the proofs of the crates above it; the other files serve this crate's own.
+-- Assumes nothing.
+pub mod Laws
+mod Emissions
+mod Families
+mod Fields
+mod LowBytes
+mod Messages
+mod Openings
+mod Overlays
+mod Tests

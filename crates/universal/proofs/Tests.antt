@@ -1,0 +1,29 @@
+-- Lemmas on the outcomes of tests: both of two, and two that are the same or not. Assumes nothing.
+use mathlib.Core.Path.{_≡_, refl, sym}
+use mathlib.Core.Bool.{Bool, true, false, _&&_, Bool·beq, false≢true}
+
+-- Where both hold each does.
+pub and-parts : (a b : Bool) → a && b ≡ true → (a ≡ true) × (b ≡ true)
+and-parts true b h = (refl, h)
+and-parts false b h = absurd (false≢true h)
+
+-- Outcomes that are the same compare so.
+pub beq-same : (a b : Bool) → a ≡ b → Bool·beq a b ≡ true
+beq-same true true h = refl
+beq-same true false h = absurd (false≢true (sym h))
+beq-same false true h = absurd (false≢true h)
+beq-same false false h = refl
+
+-- Outcomes that are not the same compare so.
+pub beq-other : (a b : Bool) → (a ≡ b → ⊥) → Bool·beq a b ≡ false
+beq-other true true h = absurd (h refl)
+beq-other true false h = refl
+beq-other false true h = refl
+beq-other false false h = absurd (h refl)
+
+-- Outcomes that compare as the same are.
+pub beq-true : (a b : Bool) → Bool·beq a b ≡ true → a ≡ b
+beq-true true true h = refl
+beq-true true false h = absurd (false≢true h)
+beq-true false true h = absurd (false≢true h)
+beq-true false false h = refl

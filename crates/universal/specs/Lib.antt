@@ -1,0 +1,4 @@
+pub mod Emission
+pub mod Message
+pub mod Overlay
+pub mod Refusals
