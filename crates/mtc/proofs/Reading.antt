@@ -1,0 +1,102 @@
+-- Which messages are MIDI Time Code's of a kind, test by test, and what reading one kind answers. Assumes nothing.
+use Prim.Native.Nat.{ℕ, _≤_, _<_}
+use mathlib.Core.Path.{_≡_, refl, sym, ap, ap₂, _∙_}
+use mathlib.Core.Bool.{Bool, true, false, not}
+use mathlib.Core.List.{List}
+use mathlib.Core.Option.{Option, none, some}
+use lib.Dec.{eqb}
+use lib.ListN.{length}
+use borrow.Author.Tests.{eq-eqb, ne-eqb, not-true, not-false}
+use Rattle.universal.specs.Refusals.{Answer, gives, refused, refusal}
+use Rattle.universal.specs.declared.message.MaybeSubId2.the-variants.{NoSubId2, SubId2}
+use Rattle.universal.specs.declared.message.Universal.{Universal}
+use Rattle.universal.specs.declared.error.SysexError.the-variants.{Length}
+use Rattle.mtc.specs.Kind.{isTimeCode, readKind}
+use Rattle.mtc.specs.FullMessage.{fullMessage, receivedFull, fullMessageFrom}
+use Rattle.mtc.specs.UserBits.{answerWith, readUserBitsOf, noBits, bitsIn, receivedBits, userBitsFrom}
+use Rattle.mtc.specs.Time.{rawTime}
+use Rattle.mtc.specs.declared.time.MtcTime.{MtcTime}
+use Rattle.mtc.specs.declared.user_bits.UserBits.{UserBits}
+use Rattle.mtc.specs.declared.user_bits.UserBitsAnswer.the-variants.{NotThis, Refused}
+use Rattle.mtc.specs.declared.user_bits.ReadUserBits.{ReadUserBits}
+
+-- ---- the kind, test by test
+
+module _ (u : Universal) (n : ℕ) where
+  -- Non-Real Time.
+  pub not-real-time : not (u .«real_time») ≡ true → false ≡ isTimeCode u n
+  unfolding isTimeCode
+  not-real-time h = rw (not-true (u .«real_time») h)
+
+  module _ (real : not (u .«real_time») ≡ false) where
+    -- Another sub-ID 1.
+    pub other-sub-id1 : (u .«sub_id1» ≡ 1 → ⊥) → false ≡ isTimeCode u n
+    unfolding isTimeCode
+    other-sub-id1 h = rw (not-false (u .«real_time») real, ne-eqb (u .«sub_id1») 1 h)
+
+    -- No sub-ID 2.
+    pub without-sub-id2 : u .«sub_id1» ≡ 1 → u .«sub_id2» ≡ NoSubId2 → false ≡ isTimeCode u n
+    unfolding isTimeCode
+    without-sub-id2 h s = rw (not-false (u .«real_time») real, eq-eqb (u .«sub_id1») 1 h, s)
+
+    -- A sub-ID 2 decides.
+    pub by-sub-id2 : (k : ℕ) → u .«sub_id1» ≡ 1 → u .«sub_id2» ≡ SubId2 k → eqb k n ≡ isTimeCode u n
+    unfolding isTimeCode
+    by-sub-id2 k h s = rw (not-false (u .«real_time») real, eq-eqb (u .«sub_id1») 1 h, s)
+
+-- ---- one kind
+
+module _ {A : Type 0} (right : Bool) (n size : ℕ) (m : A) where
+  pub read-other : right ≡ false → readKind right (eqb n size) m ≡ gives none
+  read-other h = rw h
+
+  pub read-short : right ≡ true → (n ≡ size → ⊥) → readKind right (eqb n size) m ≡ refused (refusal 2)
+  read-short h l = rw (h, ne-eqb n size l)
+
+  pub read-whole : right ≡ true → n ≡ size → readKind right (eqb n size) m ≡ gives (some m)
+  read-whole h l = rw (h, eq-eqb n size l)
+
+-- ---- full messages
+
+module _ (u : Universal) (bs : List ℕ) where
+  pub full-other : isTimeCode u 1 ≡ false → gives none ≡ fullMessageFrom u bs
+  unfolding fullMessageFrom
+  full-other h = sym (read-other _ (length bs) 4 _ h)
+
+  pub full-short : isTimeCode u 1 ≡ true → (length bs ≡ 4 → ⊥) → refused (refusal 2) ≡ fullMessageFrom u bs
+  unfolding fullMessageFrom
+  full-short h l = sym (read-short _ (length bs) 4 _ h l)
+
+  pub full-whole : (t : MtcTime) → isTimeCode u 1 ≡ true → length bs ≡ 4 → t ≡ receivedFull (u .«device_id») bs .time
+      → gives (some (fullMessage (u .«device_id») t)) ≡ fullMessageFrom u bs
+  unfolding fullMessageFrom
+  full-whole t h l e =
+      ap (λ (x : MtcTime). gives (some (fullMessage (u .«device_id») x))) e ∙ sym (read-whole _ (length bs) 4 _ h l)
+
+-- ---- user bits
+
+-- What a reading of user bits owes: the answer, and the message beside it.
+abbrev pub Reads : ReadUserBits → Answer (Option UserBits) → Type 0
+Reads r a = (readUserBitsOf r ≡ a) × (r .bits ≡ bitsIn a)
+
+module _ (r : ReadUserBits) (u : Universal) (bs : List ℕ) where
+  pub bits-other : isTimeCode u 2 ≡ false → (r .answer ≡ NotThis) × (r .bits ≡ noBits) → Reads r (userBitsFrom u bs)
+  unfolding userBitsFrom
+  bits-other h p =
+      let e : userBitsFrom u bs ≡ gives none = read-other _ (length bs) 9 _ h in
+      rw e (ap₂ answerWith (p .0) (p .1), p .1)
+
+  pub bits-short : isTimeCode u 2 ≡ true → (length bs ≡ 9 → ⊥) → (r .answer ≡ Refused Length) × (r .bits ≡ noBits)
+      → Reads r (userBitsFrom u bs)
+  unfolding userBitsFrom
+  bits-short h l p =
+      let e : userBitsFrom u bs ≡ refused (refusal 2) = read-short _ (length bs) 9 _ h l in
+      rw e (ap₂ answerWith (p .0) (p .1), p .1)
+
+pub bits-whole : (u : Universal) (bs : List ℕ) → isTimeCode u 2 ≡ true → length bs ≡ 9
+    → (gives (some (receivedBits (u .«device_id») bs)) ≡ userBitsFrom u bs)
+    × (receivedBits (u .«device_id») bs ≡ bitsIn (userBitsFrom u bs))
+unfolding userBitsFrom
+bits-whole u bs h l =
+    let e : userBitsFrom u bs ≡ gives (some (receivedBits (u .«device_id») bs)) = read-whole _ (length bs) 9 _ h l in
+    rw e (refl, refl)
