@@ -1,32 +1,48 @@
--- Groups of 4 bits: values that are at most 0FH, as `all_nibbles` finds them one by one, and the eight groups of a message.
--- Assumes nothing.
-use Prim.Native.Nat.{ℕ, zero, suc, _+_, _≤_, _<_}
-use mathlib.Core.Path.{_≡_, refl, sym, ap, _∙_}
-use mathlib.Core.Bool.{true, false}
-use mathlib.Core.List.{List, [], _∷_}
-use native.Mathlib.Numerals.{add-one}
+-- Groups of 4 bits: values that are at most 0FH, one by one, and the eight groups of a message. Assumes nothing.
+use Prim.Native.Nat.{ℕ, zero, suc, _+_, _≤_, _<_, suc-le-suc}
+use mathlib.Core.Path.{_≡_, refl, ap, _∙_}
+use mathlib.Core.Bool.{Bool, true, false, and-eq-true-iff}
+use mathlib.Core.List.{List, [], _∷_, _++_}
+use native.Mathlib.Nat.{le-of-suc-le-suc, zero-lt-suc}
 use native.Mathlib.Omega.{arith}
+use lib.Dec.{leb, lit<}
 use lib.ListN.{length, drop, getD, drop-of-length-le}
 use lib.Seq.{drop-cons}
-use borrow.Author.Tests.{le-leb, lt-leb}
+use borrow.Author.Tests.{le-leb, leb-true}
+use Rattle.universal.specs.Message.{allLow}
+use Rattle.universal.proofs.Laws.{all-low-append, all-low-cons, all-low-none, all-low-of}
 use Rattle.mtc.specs.UserBits.{allNibbles}
 
 -- ---- one by one
 
--- A nibble is passed.
-pub nibble-turn : (gs : List ℕ) (i : ℕ) → i < length gs → getD gs i 0 ≤ 15 → allNibbles (drop i gs) ≡ allNibbles (drop (i + 1) gs)
+-- Each of some nibbles is below 16, and so is the 0 past their end.
+pub nibble-below : (gs : List ℕ) (i : ℕ) → allNibbles gs ≡ true → getD gs i 0 < 16
 unfolding allNibbles
-nibble-turn gs i h l = rw (add-one, drop-cons gs i 0 h, le-leb (getD gs i 0) 15 l)
+nibble-below [] i h = lit< tt
+nibble-below (g ∷ gs) zero h = suc-le-suc (leb-true g 15 (and-eq-true-iff (leb g 15) (allNibbles gs) .0 h .0))
+nibble-below (g ∷ gs) (suc i) h = nibble-below gs i (and-eq-true-iff (leb g 15) (allNibbles gs) .0 h .1)
 
--- A value above 0FH decides.
-pub nibble-stop : (gs : List ℕ) (i : ℕ) → i < length gs → 15 < getD gs i 0 → allNibbles (drop i gs) ≡ false
+-- Values below 16 are nibbles.
+pub all-below : (gs : List ℕ) → ((i : ℕ) → i < length gs → getD gs i 0 < 16) → allNibbles gs ≡ true
 unfolding allNibbles
-nibble-stop gs i h l = rw (drop-cons gs i 0 h, lt-leb (getD gs i 0) 15 l)
+all-below [] h = refl
+all-below (g ∷ gs) h =
+    rw (le-leb g 15 (le-of-suc-le-suc (h zero (zero-lt-suc (length gs))))) (all-below gs (λ i l. h (suc i) (suc-le-suc l)))
 
--- None are left.
-pub nibble-end : (gs : List ℕ) (i : ℕ) → length gs ≤ i → allNibbles (drop i gs) ≡ true
-unfolding allNibbles
-nibble-end gs i h = rw (drop-of-length-le gs h)
+-- One above 0FH is none.
+pub one-above : (gs : List ℕ) (i : ℕ) → 15 < getD gs i 0 → allNibbles gs ≡ false
+one-above gs i h = go (allNibbles gs) refl
+  where
+    go : (b : Bool) → allNibbles gs ≡ b → allNibbles gs ≡ false
+    go true e = absurd (omega (arith, nibble-below gs i e))
+    go false e = e
+
+-- The data bytes of groups and flags are low.
+pub data-low : (gs : List ℕ) (flags : ℕ) → allNibbles gs ≡ true → flags < 4 → allLow (gs ++ flags ∷ []) ≡ true
+data-low gs flags h f = all-low-append gs (flags ∷ []) ∙ rw (groups, all-low-cons flags [] (omega arith) all-low-none)
+  where
+    groups : allLow gs ≡ true
+    groups = all-low-of gs (λ i l. omega (arith, nibble-below gs i h))
 
 -- ---- eight of them
 

@@ -8,6 +8,7 @@ use Rattle.mtc.specs.declared.time.MtcTime.{MtcTime}
 use Rattle.mtc.specs.declared.time.TimeCodeType.the-variants.{Fps30Drop}
 use Rattle.mtc.specs.St12.{label}
 use Rattle.mtc.specs.Time.{bitsOf, addFrames}
+use Rattle.mtc.specs.UserBits.{groupBytes}
 
 -- A row: what is given, and what it should be.
 pub record Row : Type 0 where
@@ -28,8 +29,10 @@ table =
     ∷ row (numbers (addFrames (label Fps30Drop 0 9 59 29) (pos 1))) (0 ∷ 10 ∷ 0 ∷ 0 ∷ 2 ∷ [])
     -- 23:59:59;29 plus 1 is 00:00:00;00
     ∷ row (numbers (addFrames (label Fps30Drop 23 59 59 29) (pos 1))) (0 ∷ 0 ∷ 0 ∷ 0 ∷ 2 ∷ [])
+    -- user groups 1 to 8 give 87 65 43 21 H
+    ∷ row (groupBytes (1 ∷ 2 ∷ 3 ∷ 4 ∷ 5 ∷ 6 ∷ 7 ∷ 8 ∷ [])) (0x87 ∷ 0x65 ∷ 0x43 ∷ 0x21 ∷ [])
     ∷ []
 
 pub instances : map (λ (r : Row). r .given) table ≡ map (λ (r : Row). r .stated) table
-unfolding table row numbers addFrames
+unfolding table row numbers addFrames groupBytes
 instances = refl

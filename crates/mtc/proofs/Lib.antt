@@ -5,6 +5,7 @@ mod Distance
 mod Groups
 mod Instances
 pub mod Laws
+mod Messages
 mod Moving
 mod Order
 mod Rates

@@ -1,20 +1,22 @@
 -- Which messages are MIDI Time Code's of a kind, test by test, and what reading one kind answers. Assumes nothing.
-use Prim.Native.Nat.{ℕ, _≤_, _<_}
+use Prim.Native.Nat.{ℕ}
 use mathlib.Core.Path.{_≡_, refl, sym, ap, ap₂, _∙_}
-use mathlib.Core.Bool.{Bool, true, false, not}
+use mathlib.Core.Bool.{Bool, true, false, not, _&&_, false≢true, and-eq-true-iff}
 use mathlib.Core.List.{List}
 use mathlib.Core.Option.{Option, none, some}
 use lib.Dec.{eqb}
 use lib.ListN.{length}
-use borrow.Author.Tests.{eq-eqb, ne-eqb, not-true, not-false}
-use Rattle.universal.specs.Refusals.{Answer, gives, refused, refusal}
+use native.Mathlib.Omega.{arith}
+use borrow.Author.Tests.{eq-eqb, ne-eqb, eqb-true, not-true, not-false}
+use Rattle.universal.specs.Message.{header}
+use Rattle.universal.specs.Refusals.{Refusal, Answer, gives, refused, refusal}
+use Rattle.universal.specs.declared.message.MaybeSubId2.{MaybeSubId2}
 use Rattle.universal.specs.declared.message.MaybeSubId2.the-variants.{NoSubId2, SubId2}
 use Rattle.universal.specs.declared.message.Universal.{Universal}
 use Rattle.universal.specs.declared.error.SysexError.the-variants.{Length}
-use Rattle.mtc.specs.Kind.{isTimeCode, readKind}
+use Rattle.mtc.specs.Kind.{timeCode, isSubId2, isTimeCode, readKind, ReadsOnly}
 use Rattle.mtc.specs.FullMessage.{fullMessage, receivedFull, fullMessageFrom}
 use Rattle.mtc.specs.UserBits.{answerWith, readUserBitsOf, noBits, bitsIn, receivedBits, userBitsFrom}
-use Rattle.mtc.specs.Time.{rawTime}
 use Rattle.mtc.specs.declared.time.MtcTime.{MtcTime}
 use Rattle.mtc.specs.declared.user_bits.UserBits.{UserBits}
 use Rattle.mtc.specs.declared.user_bits.UserBitsAnswer.the-variants.{NotThis, Refused}
@@ -55,6 +57,66 @@ module _ {A : Type 0} (right : Bool) (n size : ℕ) (m : A) where
 
   pub read-whole : right ≡ true → n ≡ size → readKind right (eqb n size) m ≡ gives (some m)
   read-whole h l = rw (h, eq-eqb n size l)
+
+-- ---- one layout
+
+-- A message of a kind has its header.
+kind-header : (u : Universal) (n : ℕ) → isTimeCode u n ≡ true → u ≡ timeCode (u .«device_id») n
+unfolding isTimeCode
+kind-header u n h = go (u .«real_time») (u .«sub_id1») (u .«sub_id2») h
+  where
+    sub-id2 : (x : MaybeSubId2) → isSubId2 x n ≡ true → x ≡ SubId2 n
+    sub-id2 NoSubId2 e = absurd (false≢true e)
+    sub-id2 (SubId2 k) e = ap SubId2 (eqb-true k n e)
+
+    go : (r : Bool) (s : ℕ) (x : MaybeSubId2) → (r && (eqb s 1 && isSubId2 x n)) ≡ true
+        → header r (u .«device_id») s x ≡ timeCode (u .«device_id») n
+    go false s x e = absurd (false≢true e)
+    go true s x e =
+        let both = and-eq-true-iff (eqb s 1) (isSubId2 x n) .0 e in
+        ap₂ (λ (k : ℕ) (y : MaybeSubId2). header true (u .«device_id») k y) (eqb-true s 1 (both .0)) (sub-id2 x (both .1))
+
+-- A header of a kind is of that kind.
+header-kind : (device n : ℕ) → isTimeCode (timeCode device n) n ≡ true
+unfolding isTimeCode
+header-kind device n = eq-eqb n n refl
+
+other-header : (u : Universal) (n : ℕ) → (u ≡ timeCode (u .«device_id») n → ⊥) → isTimeCode u n ≡ false
+other-header u n h = go (isTimeCode u n) refl
+  where
+    go : (b : Bool) → isTimeCode u n ≡ b → isTimeCode u n ≡ false
+    go true e = absurd (h (kind-header u n e))
+    go false e = e
+
+none-given : {A : Type 0} (m : A) → gives none ≡ gives (some m) → ⊥
+none-given m e = let z : _≡_ {A = ℕ} 0 1 = cc in omega arith
+
+refused-given : {A : Type 0} (r : Refusal) (m : A) → refused r ≡ gives m → ⊥
+refused-given r m e = let z : _≡_ {A = ℕ} 0 1 = cc in omega arith
+
+module _ {A : Type 0} (subId2 size : ℕ) (made : ℕ → List ℕ → A) where
+  -- What `readKind` answers of a message and its data.
+  abbrev pub reading : Universal → List ℕ → Answer (Option A)
+  reading u bs = readKind (isTimeCode u subId2) (eqb (length bs) size) (made (u .«device_id») bs)
+
+  read-only : (u : Universal) (bs : List ℕ) (m : A) → reading u bs ≡ gives (some m)
+      → (u ≡ timeCode (u .«device_id») subId2) × (length bs ≡ size)
+  read-only u bs m = go (isTimeCode u subId2) (eqb (length bs) size) refl refl
+    where
+      go : (k w : Bool) → isTimeCode u subId2 ≡ k → eqb (length bs) size ≡ w → readKind k w (made (u .«device_id») bs) ≡ gives (some m)
+          → (u ≡ timeCode (u .«device_id») subId2) × (length bs ≡ size)
+      go true true p q e = (kind-header u subId2 p, eqb-true (length bs) size q)
+      go true false p q e = absurd (refused-given (refusal 2) (some m) e)
+      go false w p q e = absurd (none-given m e)
+
+  pub reads-only : ReadsOnly subId2 size made reading
+  reads-only =
+      record {
+        accepts = λ device bs l. read-whole _ (length bs) size _ (header-kind device subId2) l;
+        only = read-only;
+        other-kind = λ u bs h. read-other _ (length bs) size _ (other-header u subId2 h);
+        other-length = λ device bs l. read-short _ (length bs) size _ (header-kind device subId2) l;
+      }
 
 -- ---- full messages
 

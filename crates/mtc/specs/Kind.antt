@@ -1,6 +1,7 @@
 -- The kinds of MIDI Time Code messages among Universal messages, and what reading and writing one answers (document 01, "Full
 -- message and user bits" and "Turned back by the input"). Assumes nothing.
 use Prim.Native.Nat.{ℕ, _-_}
+use mathlib.Core.Path.{_≡_}
 use mathlib.Core.Bool.{Bool, true, false, cond, _&&_}
 use mathlib.Core.List.{List}
 use mathlib.Core.Option.{Option, none, some}
@@ -34,6 +35,14 @@ readKind right whole m = cond right (cond whole (gives (some m)) (refused (refus
 abbrev pub writeKind : ℕ → Bool → ℕ → List ℕ → Emission
 writeKind device inRange subId2 bs =
     check (leb device 127) 5 then check inRange 3 then message (timeCode device subId2) bs
+
+-- Reading one kind, of a sub-ID 2 and a data length, accepts that layout and no other.
+pub record ReadsOnly {A : Type 0} (subId2 size : ℕ) (made : ℕ → List ℕ → A) (read : Universal → List ℕ → Answer (Option A)) : Type 0 where
+  pub accepts : (device : ℕ) (bs : List ℕ) → length bs ≡ size → read (timeCode device subId2) bs ≡ gives (some (made device bs))
+  pub only : (u : Universal) (bs : List ℕ) (m : A) → read u bs ≡ gives (some m)
+      → (u ≡ timeCode (u .«device_id») subId2) × (length bs ≡ size)
+  pub other-kind : (u : Universal) (bs : List ℕ) → (u ≡ timeCode (u .«device_id») subId2 → ⊥) → read u bs ≡ gives none
+  pub other-length : (device : ℕ) (bs : List ℕ) → (length bs ≡ size → ⊥) → read (timeCode device subId2) bs ≡ refused (refusal 2)
 
 -- ---- the five split parts of a whole message that carries a sub-ID 2
 

@@ -20,7 +20,7 @@ abbrev pub hr : MtcTime → ℕ
 hr t = yy (t .rate) * 32 + t .hours
 
 -- F0 7F <device ID> 01 01 hr mn sc fr F7.
-abbrev pub fullMessageBytes : ℕ → MtcTime → List ℕ
+unfoldable pub fullMessageBytes : ℕ → MtcTime → List ℕ
 fullMessageBytes device t =
     0xF0 ∷ 0x7F ∷ device ∷ 0x01 ∷ 0x01 ∷ hr t ∷ t .minutes ∷ t .seconds ∷ t .frames ∷ 0xF7 ∷ []
 
@@ -40,7 +40,7 @@ pub record Groups : Type 0 where
   pub j : ℕ
 
 -- F0 7F <device ID> 01 02 u1 u2 u3 u4 u5 u6 u7 u8 u9 F7, with u1 = 0000aaaa up to u8 = 0000hhhh and u9 = 000000ji.
-abbrev pub userBitsBytes : ℕ → Groups → List ℕ
+unfoldable pub userBitsBytes : ℕ → Groups → List ℕ
 userBitsBytes device u =
     0xF0
     ∷ 0x7F
@@ -60,5 +60,5 @@ userBitsBytes device u =
     ∷ []
 
 -- The groups as four bytes: hhhhgggg ffffeeee ddddcccc bbbbaaaa.
-abbrev pub fourBytes : Groups → List ℕ
+unfoldable pub fourBytes : Groups → List ℕ
 fourBytes u = (u .h * 16 + u .g) ∷ (u .f * 16 + u .e) ∷ (u .d * 16 + u .c) ∷ (u .b * 16 + u .a) ∷ []

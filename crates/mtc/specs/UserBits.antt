@@ -1,5 +1,5 @@
 -- What 000 does with user bits, on every input: one definition for each public call of src/user_bits.rt. Assumes nothing.
-use Prim.Native.Nat.{ℕ, _+_, _*_, _%_}
+use Prim.Native.Nat.{ℕ, _+_, _*_, _/_, _%_}
 use mathlib.Core.Bool.{Bool, true, _&&_}
 use mathlib.Core.List.{List, [], _∷_, _++_}
 use mathlib.Core.Option.{Option, none, some}
@@ -8,6 +8,7 @@ use lib.ListN.{length, getD}
 use Rattle.universal.specs.Emission.{Emission}
 use Rattle.universal.specs.Refusals.{Answer, gives, refused, refusalOf}
 use Rattle.universal.specs.declared.message.Universal.{Universal}
+use Rattle.mtc.specs.Rp004Messages.{Groups}
 use Rattle.mtc.specs.Kind.{isTimeCode, readKind, writeKind}
 use Rattle.mtc.specs.declared.user_bits.UserBits.{UserBits}
 use Rattle.mtc.specs.declared.user_bits.UserBitsAnswer.{UserBitsAnswer}
@@ -74,3 +75,21 @@ twoGroups gs high low = nibbleAt gs high * 16 + nibbleAt gs low
 -- The groups as four bytes: 8 and 7, 6 and 5, 4 and 3, 2 and 1.
 unfoldable pub groupBytes : List ℕ → List ℕ
 groupBytes gs = twoGroups gs 7 6 ∷ twoGroups gs 5 4 ∷ twoGroups gs 3 2 ∷ twoGroups gs 1 0 ∷ []
+
+-- ---- as RP-004/008 names them
+
+-- Groups 1 to 8 are a to h; bit 0 of the flags is i and bit 1 is j.
+abbrev pub groupsOf : UserBits → Groups
+groupsOf u =
+    record {
+      a = getD (u .groups) 0 0;
+      b = getD (u .groups) 1 0;
+      c = getD (u .groups) 2 0;
+      d = getD (u .groups) 3 0;
+      e = getD (u .groups) 4 0;
+      f = getD (u .groups) 5 0;
+      g = getD (u .groups) 6 0;
+      h = getD (u .groups) 7 0;
+      i = u .flags % 2;
+      j = u .flags / 2;
+    }
