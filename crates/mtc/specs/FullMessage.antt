@@ -24,6 +24,7 @@ readFullMessageOf (Message m) = gives (some m)
 readFullMessageOf NotThis = gives none
 readFullMessageOf (Refused e) = refused (refusalOf e)
 
+-- A full message of a device and a label.
 abbrev pub fullMessage : ℕ → MtcTime → FullMessage
 fullMessage device t = record { «device_id» = device; time = t }
 
@@ -31,7 +32,7 @@ fullMessage device t = record { «device_id» = device; time = t }
 abbrev pub receivedFull : ℕ → List ℕ → FullMessage
 receivedFull device bs = fullMessage device (rawTime (getD bs 0 0) (getD bs 1 0) (getD bs 2 0) (getD bs 3 0))
 
--- Sub-ID 2 01H, with four data bytes.
+-- What reading a message and its data answers: a full message has sub-ID 2 01H and four data bytes.
 unfoldable pub fullMessageFrom : Universal → List ℕ → Answer (Option FullMessage)
 fullMessageFrom u bs = readKind (isTimeCode u 1) (eqb (length bs) 4) (receivedFull (u .«device_id») bs)
 
@@ -41,6 +42,6 @@ fullMessageFrom u bs = readKind (isTimeCode u 1) (eqb (length bs) 4) (receivedFu
 abbrev pub fullData : MtcTime → List ℕ
 fullData t = hoursByte t ∷ t .minutes ∷ t .seconds ∷ t .frames ∷ []
 
--- 3 for a label that is not valid.
+-- What writing a full message emits: 5 for the device, 3 for a label that is not valid, then sub-ID 2 01H and the data.
 unfoldable pub fullMessageWritten : FullMessage → Emission
 fullMessageWritten m = writeKind (m .«device_id») (isValid (m .time)) 1 (fullData (m .time))

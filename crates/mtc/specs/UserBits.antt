@@ -15,6 +15,7 @@ use Rattle.mtc.specs.declared.user_bits.UserBitsAnswer.{UserBitsAnswer}
 use Rattle.mtc.specs.declared.user_bits.UserBitsAnswer.the-variants.{Message, NotThis, Refused}
 use Rattle.mtc.specs.declared.user_bits.ReadUserBits.{ReadUserBits}
 
+-- User bits of a device, eight groups and the flags.
 abbrev pub userBits : ℕ → List ℕ → ℕ → UserBits
 userBits device gs f = record { «device_id» = device; groups = gs; flags = f }
 
@@ -26,6 +27,7 @@ answerWith Message b = gives (some b)
 answerWith NotThis b = gives none
 answerWith (Refused e) b = refused (refusalOf e)
 
+-- So of the answer as it is given.
 abbrev pub readUserBitsOf : ReadUserBits → Answer (Option UserBits)
 readUserBitsOf r = answerWith (r .answer) (r .bits)
 
@@ -50,7 +52,7 @@ receivedBits device bs =
     (nibbleAt bs 0 ∷ nibbleAt bs 1 ∷ nibbleAt bs 2 ∷ nibbleAt bs 3 ∷ nibbleAt bs 4 ∷ nibbleAt bs 5 ∷ nibbleAt bs 6 ∷ nibbleAt bs 7 ∷ [])
     (getD bs 8 0 % 4)
 
--- Sub-ID 2 02H, with nine data bytes.
+-- What reading a message and its data answers: user bits have sub-ID 2 02H and nine data bytes.
 unfoldable pub userBitsFrom : Universal → List ℕ → Answer (Option UserBits)
 userBitsFrom u bs = readKind (isTimeCode u 2) (eqb (length bs) 9) (receivedBits (u .«device_id») bs)
 
@@ -61,7 +63,8 @@ unfoldable pub allNibbles : List ℕ → Bool
 allNibbles [] = true
 allNibbles (g ∷ gs) = leb g 15 && allNibbles gs
 
--- 3 for a group above 0FH or flags above 03H.
+-- What writing user bits emits: 5 for the device, 3 for a group above 0FH or flags above 03H, then sub-ID 2 02H, the groups and
+-- the flags.
 unfoldable pub userBitsWritten : UserBits → Emission
 userBitsWritten b =
     writeKind (b .«device_id») (allNibbles (b .groups) && leb (b .flags) 3) 2 (b .groups ++ b .flags ∷ [])

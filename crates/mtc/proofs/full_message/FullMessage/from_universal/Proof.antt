@@ -1,8 +1,8 @@
 -- `mtc::full_message::FullMessage::from_universal` meets its contract: another kind, another length, or read. Assumes nothing.
 use mathlib.Core.Path.{sym, _∙_}
+use borrow.Author.Needs.{needs}
 use borrow.Author.Tests.{not-true, not-false}
 use Rattle.mtc.proofs.Reading.{full-other, full-short, full-whole}
-use borrow.Author.Needs.{needs}
 use Rattle.mtc.proofs.full_message.FullMessage.from_universal.Statement.{statement}
 use Rattle.mtc.proofs.full_message.FullMessage.from_universal.Tie as tie
 

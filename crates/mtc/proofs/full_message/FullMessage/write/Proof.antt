@@ -1,9 +1,9 @@
 -- `mtc::full_message::FullMessage::write` meets its contract: refused for the device, refused for the label, or handed to the
 -- message writer. Assumes nothing.
 use mathlib.Core.Path.{sym, _∙_}
+use borrow.Author.Needs.{needs}
 use borrow.Author.Tests.{not-true, not-false}
 use Rattle.mtc.proofs.Writing.{full-device, full-label, full-written}
-use borrow.Author.Needs.{needs}
 use Rattle.mtc.proofs.full_message.FullMessage.write.Statement.{statement}
 use Rattle.mtc.proofs.full_message.FullMessage.write.Tie as tie
 

@@ -1,8 +1,8 @@
 -- `mtc::user_bits::UserBits::from_universal` meets its contract: another kind, another length, or read. Assumes nothing.
 use mathlib.Core.Path.{sym, _∙_}
+use borrow.Author.Needs.{needs}
 use borrow.Author.Tests.{not-true, not-false}
 use Rattle.mtc.proofs.Reading.{bits-other, bits-short, bits-whole}
-use borrow.Author.Needs.{needs}
 use Rattle.mtc.proofs.user_bits.UserBits.from_universal.Statement.{statement}
 use Rattle.mtc.proofs.user_bits.UserBits.from_universal.Tie as tie
 

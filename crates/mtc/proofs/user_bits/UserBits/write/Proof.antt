@@ -1,9 +1,9 @@
 -- `mtc::user_bits::UserBits::write` meets its contract: refused for the device, refused for a group or the flags, or handed to
 -- the message writer. Assumes nothing.
 use mathlib.Core.Path.{sym, _∙_}
+use borrow.Author.Needs.{needs}
 use borrow.Author.Tests.{not-true, not-false}
 use Rattle.mtc.proofs.Writing.{bits-device, bits-groups, bits-flags, bits-written}
-use borrow.Author.Needs.{needs}
 use Rattle.mtc.proofs.user_bits.UserBits.write.Statement.{statement}
 use Rattle.mtc.proofs.user_bits.UserBits.write.Tie as tie
 
