@@ -1,22 +1,39 @@
--- The laws of labels that readers and upper crates cite: counts, labels and moves on every input, and what they mean by
--- SMPTE ST 12-1. Assumes nothing.
+-- The laws that readers and upper crates cite: counts, labels and moves on every input, and what they mean by SMPTE ST 12-1;
+-- quarter frames, the full message and user bits, and what they mean by RP-004/008; the stream law. Assumes nothing.
 use Prim.Native.Nat.{ℕ, _+_, _*_, _%_, _≤_, _<_}
 use mathlib.Core.Path.{_≡_, refl}
 use mathlib.Core.Bool.{false}
-use native.Mathlib.Omega.{arith}
+use mathlib.Core.List.{List, [], _∷_, _++_, map}
 use lib.Dec.{T}
 use lib.IntN.{ℤ, pos, _+ℤ_}
 use Rattle.mtc.specs.declared.time.MtcTime.{MtcTime}
 use Rattle.mtc.specs.declared.time.TimeCodeType.{TimeCodeType}
 use Rattle.mtc.specs.declared.time.TimeCodeType.the-variants.{Fps30Drop}
+use Rattle.mtc.specs.declared.generator.Direction.{Direction}
+use Rattle.mtc.specs.declared.generator.MtcGenerator.{MtcGenerator}
+use Rattle.mtc.specs.declared.reader.MaybeSequence.the-variants.{Sequence}
+use Rattle.mtc.specs.declared.reader.MaybeTime.the-variants.{NoTime}
+use Rattle.mtc.specs.declared.reader.MtcEvent.{MtcEvent}
+use Rattle.mtc.specs.Generator.{move}
+use Rattle.mtc.specs.QuarterFrame.{pieces}
+use Rattle.mtc.specs.Reader.{fresh, isSound, reported}
+use Rattle.mtc.specs.Rp004.{InWidths, dataBytes, MovesTo}
 use Rattle.mtc.specs.St12.{label, isSkipped, isValid, LeastAbove, countBefore, labelsOfDay, labelAfter}
 use Rattle.mtc.specs.Time.{dayOf, formula, frameCount, labelAt, addFrames, nextValid}
+use Rattle.mtc.specs.Stream.{Call, afterCalls, events, sent, runFrom, inOrder, StreamLaw, SentLaw}
 use Rattle.mtc.proofs.After
 use Rattle.mtc.proofs.Counts
 use Rattle.mtc.proofs.DayCount
 use Rattle.mtc.proofs.Moving
+-- Full messages and user bits: written bytes are RP-004/008's, a buffer that fits or is short, what is written reads back, and
+-- reading accepts the practice's layouts and no other.
+pub use Rattle.mtc.proofs.Messages.{full-message-bytes, full-message-fits, full-message-short, full-message-back, full-message-layout, full-message-reads, group-bytes, user-bits-bytes, user-bits-fits, user-bits-short, user-bits-back, user-bits-layout, user-bits-reads}
 use Rattle.mtc.proofs.Order
-use Rattle.mtc.proofs.Rates
+use Rattle.mtc.proofs.QuarterFrames
+use Rattle.mtc.proofs.QuarterFrames.{Sequences}
+use Rattle.mtc.proofs.Rounds.{silent}
+use Rattle.mtc.proofs.Sending
+use Rattle.mtc.proofs.Streams
 use Rattle.mtc.proofs.Validity
 
 -- ---- counts and labels
@@ -85,18 +102,40 @@ pub next-valid-same : (t : MtcTime) → isSkipped t ≡ false → nextValid t �
 next-valid-same = Order.next-valid-same
 
 -- A valid label's numbers fit their widths.
-pub record Widths (t : MtcTime) : Type 0 where
-  pub hours : t .hours < 32
-  pub minutes : t .minutes < 64
-  pub seconds : t .seconds < 64
-  pub frames : t .frames < 32
+pub valid-widths : (t : MtcTime) → T (isValid t) → InWidths t
+valid-widths = Validity.valid-widths
 
-pub valid-widths : (t : MtcTime) → T (isValid t) → Widths t
-valid-widths t v =
-    let k : Validity.InRange t = Validity.valid-facts t v in
-    record {
-      hours = omega (arith, k .hours);
-      minutes = omega (arith, k .minutes);
-      seconds = omega (arith, k .seconds);
-      frames = omega (arith, k .frames, Rates.fps-small (t .rate));
-    }
+-- 00:00:00:00 is a label of every rate.
+pub zero-valid : (r : TimeCodeType) → T (isValid (label r 0 0 0 0))
+zero-valid = Validity.zero-valid
+
+-- ---- quarter frames, by RP-004/008
+
+-- A label's data bytes are RP-004/008's, where its numbers fit their widths.
+pub pieces-practice : (t : MtcTime) → InWidths t → pieces t ≡ dataBytes t
+pieces-practice = QuarterFrames.pieces-practice
+
+-- A fresh reader that gets them in either order reports that label at the eighth.
+pub pieces-read : (t : MtcTime) (d : Direction) → InWidths t
+    → map (λ (e : MtcEvent). e .sequence) (events fresh (inOrder d (pieces t))) ≡ silent 7 ++ (Sequence (reported t d NoTime) ∷ [])
+pieces-read = QuarterFrames.pieces-read
+
+-- The generator's and the reader's move of two frames is RP-004/008's.
+pub moves-practice : (t : MtcTime) (d : Direction) → T (isValid t) → MovesTo d t (addFrames t (move d))
+moves-practice = QuarterFrames.moves-practice
+
+-- A generator located at a valid time and set running sends RP-004/008's sequences, whatever its record was.
+pub sends-practice : (g : MtcGenerator) (t : MtcTime) (d : Direction) → T (isValid t) → Sequences t d (sent 24 (runFrom g t d))
+sends-practice = QuarterFrames.sends-practice
+
+-- It sends exactly the pieces of T, of T plus 2 and of T plus 4 (reverse: minus 2, minus 4).
+pub sent-law : SentLaw
+sent-law = Sending.sent-law
+
+-- The answers of a reader to these twenty-four bytes, after any list of calls from fresh on.
+pub stream-law : StreamLaw
+stream-law = Streams.stream-law
+
+-- No list of calls leaves a record that is taken as fresh.
+pub calls-sound : (cs : List Call) → T (isSound (afterCalls fresh cs))
+calls-sound = Streams.calls-sound

@@ -2,14 +2,23 @@ mod After
 mod Counts
 mod DayCount
 mod Distance
+mod Generators
 mod Groups
 mod Instances
 pub mod Laws
 mod Messages
 mod Moving
+mod Nibbles
 mod Order
+mod QuarterFrames
 mod Rates
+mod Readers
 mod Reading
+mod Rounds
+mod Sending
+mod Shapes
+mod Sound
+mod Streams
 mod Sums
 mod Validity
 mod Writing

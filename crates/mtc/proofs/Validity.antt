@@ -9,7 +9,9 @@ use lib.Dec.{T, leb, ltb, eqb, le→leb, lt→ltb}
 use Rattle.mtc.specs.declared.time.MtcTime.{MtcTime}
 use Rattle.mtc.specs.declared.time.TimeCodeType.{TimeCodeType}
 use Rattle.mtc.specs.declared.time.TimeCodeType.the-variants.{Fps24, Fps25, Fps30Drop, Fps30}
+use Rattle.mtc.specs.Rp004.{InWidths}
 use Rattle.mtc.specs.St12.{label, framesPerSecond, isSkipped, isValid}
+use Rattle.mtc.proofs.Rates.{fps-small}
 
 -- ---- tests joined
 
@@ -91,3 +93,22 @@ facts-valid t k =
     (and-both (leb (t .minutes) 59) _ (le→leb _ _ (k .minutes))
     (and-both (leb (t .seconds) 59) _ (le→leb _ _ (k .seconds))
     (and-both (ltb (t .frames) (framesPerSecond (t .rate))) _ (lt→ltb _ _ (k .frames)) (no-not _ (k .kept)))))
+
+-- Its numbers fit their widths.
+pub valid-widths : (t : MtcTime) → T (isValid t) → InWidths t
+valid-widths t v =
+    let k : InRange t = valid-facts t v in
+    record {
+      frames = omega (arith, k .frames, fps-small (t .rate));
+      seconds = omega (arith, k .seconds);
+      minutes = omega (arith, k .minutes);
+      hours = omega (arith, k .hours);
+    }
+
+-- 00:00:00:00 is a label of every rate.
+pub zero-valid : (r : TimeCodeType) → T (isValid (label r 0 0 0 0))
+unfolding isValid
+zero-valid Fps24 = tt
+zero-valid Fps25 = tt
+zero-valid Fps30Drop = tt
+zero-valid Fps30 = tt

@@ -1,11 +1,28 @@
-// MIDI Time Code (RP-004/RP-008): labels, the time arithmetic of SMPTE ST 12-1, the full message and user bits.
+// MIDI Time Code (RP-004/RP-008): labels with the time arithmetic of SMPTE ST 12-1, quarter frames with their generator and
+// reader, the full message and user bits.
 mod full_message;
+mod generator;
 mod kind;
+mod quarter_frame;
+mod reader;
 mod time;
 mod user_bits;
 
 pub use full_message::FullMessage;
 pub use full_message::ReadFullMessage;
+pub use generator::Direction;
+pub use generator::MaybePiece;
+pub use generator::MtcGenerator;
+pub use generator::NextByte;
+pub use generator::Sent;
+pub use quarter_frame::QuarterFrame;
+pub use reader::MaybeDirection;
+pub use reader::MaybeSequence;
+pub use reader::MaybeTime;
+pub use reader::MtcEvent;
+pub use reader::MtcReader;
+pub use reader::MtcSequence;
+pub use reader::Stepped;
 pub use time::MtcTime;
 pub use time::NewTime;
 pub use time::TimeCodeType;

@@ -1,0 +1,66 @@
+-- `mtc::reader::MtcReader::step` meets its contract. Assumes nothing.
+use borrow.Author.Needs.{needs}
+use Rattle.mtc.proofs.Readers.{fit-set, sound-count, sound-nibbles, piece-small, value-small, passes, completes, keeps}
+use Rattle.mtc.proofs.reader.MtcReader.step.Statement.{statement}
+use Rattle.mtc.proofs.reader.MtcReader.step.Tie as tie
+
+taken-requires : tie.Need-taken-requires
+taken-requires c κs = search needs
+
+from-byte-requires : tie.Need-from-byte-requires
+from-byte-requires c κs = search needs
+
+order-requires : tie.Need-order-requires
+order-requires c κs = search needs
+
+number-requires : tie.Need-number-requires
+number-requires c κs = sound-count _ (c .before .before .taken .ensures .1)
+
+passed-requires : tie.Need-passed-requires
+passed-requires c κs = search needs
+
+event-requires : tie.Need-event-requires
+event-requires c κs = search needs
+
+returns : tie.Need-returns
+returns c =
+    passes _ _ (c .before .before .before .before .before .before .taken .ensures .0) (c .before .before .before .before .before .from-byte .ensures) (c .before .before .before .before .order .ensures) (c .before .before .before .number .ensures .0)
+    (c .before .before .if1 .taken) (c .before .passed .ensures) (c .event .ensures)
+
+stored-requires : tie.Need-stored-requires
+stored-requires c κs = piece-small _ _ (c .before .before .before .from-byte .ensures)
+
+complete-requires : tie.Need-complete-requires
+complete-requires c κs =
+    rw (c .before .stored .ensures)
+    (fit-set 8 _ _ _ (sound-nibbles _ (c .before .before .before .before .before .before .taken .ensures .1)) (value-small _ _ (c .before .before .before .before .before .from-byte .ensures)))
+
+returns-2 : tie.Need-returns-2
+returns-2 c =
+    completes _ _ (c .before .before .before .before .before .before .before .taken .ensures .0) (c .before .before .before .before .before .before .from-byte .ensures) (c .before .before .before .before .before .order .ensures) (c .before .before .before .before .number .ensures .0)
+    (c .before .if2 .taken) (c .before .before .stored .ensures) (c .complete .ensures)
+
+event-requires-2 : tie.Need-event-requires-2
+event-requires-2 c κs = search needs
+
+returns-3 : tie.Need-returns-3
+returns-3 c =
+    keeps _ _ (c .before .before .before .before .before .before .before .taken .ensures .0) (c .before .before .before .before .before .before .from-byte .ensures) (c .before .before .before .before .before .order .ensures) (c .before .before .before .before .number .ensures .0)
+    (c .before .before .before .if1 .left) (c .before .if2 .left) (c .before .before .stored .ensures) (c .event2 .ensures)
+
+pub step-spec : {M : Type 1} → statement M
+step-spec =
+    tie.close
+    (tie.spec
+    taken-requires
+    from-byte-requires
+    order-requires
+    number-requires
+    passed-requires
+    event-requires
+    returns
+    stored-requires
+    complete-requires
+    returns-2
+    event-requires-2
+    returns-3)

@@ -1,0 +1,13 @@
+-- `mtc::reader::MtcReader::time` meets its contract. Assumes nothing.
+use borrow.Author.Needs.{needs}
+use Rattle.mtc.proofs.reader.MtcReader.time.Statement.{statement}
+use Rattle.mtc.proofs.reader.MtcReader.time.Tie as tie
+
+taken-requires : tie.Need-taken-requires
+taken-requires c κs = search needs
+
+returns : tie.Need-returns
+returns c = rw (c .taken .ensures .0)
+
+pub time-spec : {M : Type 1} → statement M
+time-spec = tie.close (tie.spec taken-requires returns)

@@ -1,0 +1,36 @@
+-- What 000 does with quarter frames, on every input: one definition for each public call of src/quarter_frame.rt. Assumes
+-- nothing.
+use Prim.Native.Nat.{ℕ, _+_, _*_, _/_, _%_}
+use mathlib.Core.List.{List, [], _∷_}
+use Rattle.mtc.specs.Time.{bitsOf}
+use Rattle.mtc.specs.declared.time.MtcTime.{MtcTime}
+use Rattle.mtc.specs.declared.quarter_frame.QuarterFrame.{QuarterFrame}
+
+-- The piece in bits 4 to 6.
+abbrev pub pieceOf : ℕ → ℕ
+pieceOf byte = byte / 16 % 8
+
+-- The value in bits 0 to 3.
+abbrev pub valueOf : ℕ → ℕ
+valueOf byte = byte % 16
+
+-- Bit 7 is ignored.
+abbrev pub fromByte : ℕ → QuarterFrame
+fromByte byte = record { piece = pieceOf byte; value = valueOf byte }
+
+-- Piece and value, each masked to its bits.
+abbrev pub toByte : QuarterFrame → ℕ
+toByte q = q .piece % 8 * 16 + q .value % 16
+
+-- The eight data bytes of a label, with the counts masked to their widths.
+unfoldable pub pieces : MtcTime → List ℕ
+pieces t =
+    (t .frames % 16)
+    ∷ (0x10 + t .frames / 16 % 2)
+    ∷ (0x20 + t .seconds % 16)
+    ∷ (0x30 + t .seconds / 16 % 4)
+    ∷ (0x40 + t .minutes % 16)
+    ∷ (0x50 + t .minutes / 16 % 4)
+    ∷ (0x60 + t .hours % 16)
+    ∷ (0x70 + bitsOf (t .rate) * 2 + t .hours / 16 % 2)
+    ∷ []
