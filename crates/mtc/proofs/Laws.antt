@@ -101,6 +101,10 @@ next-valid-least = Order.next-valid-least
 pub next-valid-same : (t : MtcTime) → isSkipped t ≡ false → nextValid t ≡ t
 next-valid-same = Order.next-valid-same
 
+-- So does a valid label, which is none of the skipped.
+pub next-valid-valid : (t : MtcTime) → T (isValid t) → nextValid t ≡ t
+next-valid-valid t v = Order.next-valid-same t (Validity.valid-facts t v .kept)
+
 -- A valid label's numbers fit their widths.
 pub valid-widths : (t : MtcTime) → T (isValid t) → InWidths t
 valid-widths = Validity.valid-widths

@@ -10,6 +10,7 @@ pub use message::Opened;
 pub use message::Universal;
 pub use message::Written;
 pub use message::addressed;
+pub use message::all_low;
 pub use message::close;
 pub use message::has_sub_id2;
 pub use out::put;

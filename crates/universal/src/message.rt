@@ -93,7 +93,7 @@ fn put_start(out: &mut [u8], real_time: bool, device_id: u8)
 }
 
 // True when each byte is at most 7FH.
-fn all_low(bytes: &[u8]) -> bool
+pub fn all_low(bytes: &[u8]) -> bool
     ensures { λ r. ⌜ r ≡ allLow (now (bytes .entry)) ⌝ }
 {
     let mut i = 0;
