@@ -1,0 +1,24 @@
+mod Again
+mod Answers
+mod Backs
+mod Bits
+pub mod CodeLaws
+mod Commands
+mod Emitted
+mod Fields
+mod Forms
+mod Fronts
+mod Instances
+mod ItemPuts
+mod Names
+mod Pages
+mod Puts
+mod Ranges
+mod Reading
+mod Splits
+pub mod StringLaws
+mod Walks
+mod Writers
+mod Writing
+pub mod WritingLaws
+mod Written

@@ -1,0 +1,210 @@
+-- Lengths, names, items and strings by the pages of RP-013. Assumes nothing.
+use Prim.Native.Nat.{ℕ, zero, suc, _-_, _≤_, _<_, zero-le}
+use mathlib.Core.Path.{_≡_, refl, sym, ap, ap₂, _∙_}
+use mathlib.Core.Bool.{Bool, true, false, not, true≢false}
+use mathlib.Core.Logic.{inl, inr}
+use mathlib.Core.List.{List, [], _∷_, _++_}
+use native.Mathlib.Omega.{arith}
+use borrow.Author.Tests.{eq-eqb, ne-eqb, leb-true, leb-false, eqb-true, eqb-false, not-true}
+use lib.Dec.{leb, eqb, lit≤}
+use lib.ListN.{length}
+use Rattle.mmc.specs.declared.length.Kind.{Kind}
+use Rattle.mmc.specs.declared.length.Kind.the-variants.{Commands, Fields}
+use Rattle.mmc.specs.declared.length.Length.{Length}
+use Rattle.mmc.specs.declared.length.Length.the-variants.{Fixed, Count}
+use Rattle.mmc.specs.Length.{commandLength, fieldLength, lengthOf}
+use Rattle.mmc.specs.Named.{nameFits, lastOf}
+use Rattle.mmc.specs.Rp013.{Follows, prefixed, Name, Item, After, IsItem, Spell}
+use Rattle.mmc.specs.Strings.{ruleOf, counted, itemBytes, joined, dataFits, itemFits, allFit}
+use Rattle.universal.specs.Message.{allLow}
+use Rattle.universal.proofs.Laws.{all-low-append, all-low-byte}
+use Rattle.mmc.proofs.Answers.{and-parts}
+use Rattle.mmc.proofs.Puts.{name-length}
+use Rattle.mmc.proofs.Ranges.{in-range, below-range, above-range}
+
+-- ---- lengths by the last byte
+
+module _ (n : ℕ) where
+  pub command-below : n < 64 → lengthOf Commands n ≡ Fixed 0
+  unfolding lengthOf commandLength
+  command-below h = rw (below-range 64 120 n h)
+
+  pub command-count : 64 ≤ n → n < 120 → lengthOf Commands n ≡ Count
+  unfolding lengthOf commandLength
+  command-count l h = rw (in-range 64 120 n l h)
+
+  command-above : 120 ≤ n → lengthOf Commands n ≡ Fixed 0
+  unfolding lengthOf commandLength
+  command-above h = rw (above-range 64 120 n (omega arith) h)
+
+  field-zero : n < 1 → lengthOf Fields n ≡ Fixed 0
+  unfolding lengthOf fieldLength
+  field-zero h = rw (below-range 1 32 n h, below-range 32 64 n (omega arith), below-range 64 120 n (omega arith))
+
+  pub field-five : 1 ≤ n → n < 32 → lengthOf Fields n ≡ Fixed 5
+  unfolding lengthOf fieldLength
+  field-five l h = rw (in-range 1 32 n l h)
+
+  pub field-two : 32 ≤ n → n < 64 → lengthOf Fields n ≡ Fixed 2
+  unfolding lengthOf fieldLength
+  field-two l h = rw (above-range 1 32 n (omega arith) l, in-range 32 64 n l h)
+
+  field-count : 64 ≤ n → n < 120 → lengthOf Fields n ≡ Count
+  unfolding lengthOf fieldLength
+  field-count l h = rw (above-range 1 32 n (omega arith) (omega arith), above-range 32 64 n (omega arith) l, in-range 64 120 n l h)
+
+  field-above : 120 ≤ n → lengthOf Fields n ≡ Fixed 0
+  unfolding lengthOf fieldLength
+  field-above h =
+      rw (
+        above-range 1 32 n (omega arith) (omega arith),
+        above-range 32 64 n (omega arith) (omega arith),
+        above-range 64 120 n (omega arith) h,
+      )
+
+-- What the page says follows is what the rule says.
+pub follows-length : (kind : Kind) (n : ℕ) (rule : Length) → Follows kind n rule → lengthOf kind n ≡ rule
+follows-length Commands n rule (inl q) = command-below n (omega arith) ∙ sym (q .2)
+follows-length Commands n rule (inr (inl q)) = command-below n (omega arith) ∙ sym (q .2)
+follows-length Commands n rule (inr (inr (inl q))) = command-count n (q .0) (omega arith) ∙ sym (q .2)
+follows-length Commands n rule (inr (inr (inr (inl q)))) = command-above n (q .0) ∙ sym (q .2)
+follows-length Commands n rule (inr (inr (inr (inr q)))) = absurd q
+follows-length Fields n rule (inl q) = field-zero n (omega arith) ∙ sym (q .2)
+follows-length Fields n rule (inr (inl q)) = field-five n (q .0) (omega arith) ∙ sym (q .2)
+follows-length Fields n rule (inr (inr (inl q))) = field-two n (q .0) (omega arith) ∙ sym (q .2)
+follows-length Fields n rule (inr (inr (inr (inl q)))) = field-count n (q .0) (omega arith) ∙ sym (q .2)
+follows-length Fields n rule (inr (inr (inr (inr (inl q))))) = field-above n (q .0) ∙ sym (q .2)
+follows-length Fields n rule (inr (inr (inr (inr (inr q))))) = absurd q
+
+-- A number up to another, or above it.
+up-to : {C : Type 0} (n most : ℕ) → (n ≤ most → C) → (most < n → C) → C
+up-to {C = C} n most f g = go (leb n most) refl
+  where
+    go : (b : Bool) → leb n most ≡ b → C
+    go true e = f (leb-true n most e)
+    go false e = g (leb-false n most e)
+
+-- To 7FH the page says what the rule says.
+pub length-follows : (kind : Kind) (n : ℕ) → n ≤ 127 → Follows kind n (lengthOf kind n)
+length-follows Commands n h =
+    up-to n 0 (λ l. inl (zero-le, l, command-below n (omega arith))) λ a.
+    up-to n 63 (λ l. inr (inl (a, l, command-below n (omega arith)))) λ b.
+    up-to n 119 (λ l. inr (inr (inl (b, l, command-count n b (omega arith))))) λ c.
+    inr (inr (inr (inl (c, h, command-above n c))))
+length-follows Fields n h =
+    up-to n 0 (λ l. inl (zero-le, l, field-zero n (omega arith))) λ a.
+    up-to n 31 (λ l. inr (inl (a, l, field-five n a (omega arith)))) λ b.
+    up-to n 63 (λ l. inr (inr (inl (b, l, field-two n b (omega arith))))) λ c.
+    up-to n 119 (λ l. inr (inr (inr (inl (c, l, field-count n c (omega arith)))))) λ d.
+    inr (inr (inr (inr (inl (d, h, field-above n d)))))
+
+-- Above 7FH there are no data.
+pub length-above : (kind : Kind) (n : ℕ) → 127 < n → lengthOf kind n ≡ Fixed 0
+length-above Commands n h = command-above n (omega arith)
+length-above Fields n h = field-above n (omega arith)
+
+-- ---- names
+
+pub fits-name : (name : List ℕ) → nameFits name ≡ true → Name name (lastOf name)
+unfolding nameFits
+fits-name [] h = absurd (true≢false (sym h))
+fits-name (x ∷ []) h =
+    record {
+      prefixes = 0;
+      few = lit≤ tt;
+      zero-last = λ e. absurd (eqb-false x 0 (not-true (eqb x 0) h) e);
+      bytes = refl;
+    }
+fits-name (a ∷ x ∷ []) h =
+    let t = and-parts (eqb a 0) (not (eqb x 0)) h in
+    record {
+      prefixes = 1;
+      few = lit≤ tt;
+      zero-last = λ e. absurd (eqb-false x 0 (not-true (eqb x 0) (t .1)) e);
+      bytes = ap (λ (k : ℕ). k ∷ x ∷ []) (eqb-true a 0 (t .0));
+    }
+fits-name (a ∷ b ∷ x ∷ []) h =
+    let t = and-parts (eqb a 0) (eqb b 0) h in
+    record {
+      prefixes = 2;
+      few = lit≤ tt;
+      zero-last = λ e. refl;
+      bytes = ap₂ (λ (k m : ℕ). k ∷ m ∷ x ∷ []) (eqb-true a 0 (t .0)) (eqb-true b 0 (t .1));
+    }
+fits-name (a ∷ b ∷ x ∷ y ∷ l) h = absurd (true≢false (sym h))
+
+prefixed-fits : (k last : ℕ) → k ≤ 2 → (last ≡ 0 → k ≡ 2) → (nameFits (prefixed k last) ≡ true) × (lastOf (prefixed k last) ≡ last)
+unfolding nameFits
+prefixed-fits zero last h z =
+    let n : last ≡ 0 → ⊥ = λ e. omega (arith, z e) in (rw (ne-eqb last 0 n), refl)
+prefixed-fits (suc zero) last h z =
+    let n : last ≡ 0 → ⊥ = λ e. omega (arith, z e) in (rw (ne-eqb last 0 n), refl)
+prefixed-fits (suc (suc zero)) last h z = (refl, refl)
+prefixed-fits (suc (suc (suc k))) last h z = absurd (omega arith)
+
+pub name-fits : (name : List ℕ) (last : ℕ) → Name name last → (nameFits name ≡ true) × (lastOf name ≡ last)
+name-fits name last n = rw (n .bytes) (prefixed-fits (n .prefixes) last (n .few) (n .zero-last))
+
+-- ---- items
+
+after-fits : (rule : Length) (d rest : List ℕ) → After rule d rest → (dataFits rule d ≡ true) × (rest ≡ counted rule d)
+after-fits (Fixed n) d rest a = (eq-eqb n (length d) (sym (a .0)), a .1)
+after-fits Count d rest a = (refl, a .1)
+
+fits-after : (rule : Length) (d : List ℕ) → dataFits rule d ≡ true → allLow (counted rule d) ≡ true → After rule d (counted rule d)
+fits-after (Fixed n) d h l = (sym (eqb-true n (length d) h), refl)
+fits-after Count d h l =
+    let z : 0 < suc (length d) = omega arith in (omega (arith, all-low-byte (length d ∷ d) 0 l z), refl)
+
+-- An item of the page fits, and has its bytes.
+pub item-fits : (kind : Kind) (x : Item) (bytes : List ℕ) → IsItem kind x bytes
+    → (itemFits kind x ≡ true) × (bytes ≡ itemBytes kind x)
+unfolding itemFits itemBytes
+item-fits kind x bytes i =
+    let n = name-fits (x .name) (i .last) (i .named) in
+    let r : ruleOf kind x ≡ i .follows = ap (lengthOf kind) (n .1) ∙ follows-length kind (i .last) (i .follows) (i .ranged) in
+    let a = after-fits (i .follows) (x .«data») (i .rest) (i .after) in
+    (rw (r, n .0) (a .0), rw (r, ← (a .1)) (i .joined))
+
+-- An item that fits, with bytes to 7FH, is one of the page.
+pub fits-item : (kind : Kind) (x : Item) → itemFits kind x ≡ true → allLow (itemBytes kind x) ≡ true
+    → IsItem kind x (itemBytes kind x)
+unfolding itemFits itemBytes
+fits-item kind x h l =
+    let t = and-parts (nameFits (x .name)) (dataFits (ruleOf kind x) (x .«data»)) h in
+    let b = and-parts (allLow (x .name)) (allLow (counted (ruleOf kind x) (x .«data»)))
+    (sym (all-low-append (x .name) (counted (ruleOf kind x) (x .«data»))) ∙ l) in
+    let n : 1 ≤ length (x .name) = name-length (x .name) (t .0) .0 in
+    let i : length (x .name) - 1 < length (x .name) = omega arith in
+    record {
+      last = lastOf (x .name);
+      named = fits-name (x .name) (t .0);
+      follows = ruleOf kind x;
+      ranged = length-follows kind (lastOf (x .name)) (all-low-byte (x .name) (length (x .name) - 1) (b .0) i);
+      rest = counted (ruleOf kind x) (x .«data»);
+      after = fits-after (ruleOf kind x) (x .«data») (t .1) (b .1);
+      joined = refl;
+    }
+
+-- ---- strings
+
+-- Items of the page fit, and have the string's bytes.
+pub spell-fits : (kind : Kind) (xs : List Item) (bytes : List ℕ) → Spell kind xs bytes
+    → (allFit kind xs ≡ true) × (bytes ≡ joined kind xs)
+unfolding allFit joined
+spell-fits kind [] bytes s = (refl, s)
+spell-fits kind (x ∷ xs) bytes s =
+    let i = item-fits kind x (s .0) (s .2) in
+    let r = spell-fits kind xs (s .1) (s .3) in
+    (rw (i .0) (r .0), s .4 ∙ ap₂ (λ (l m : List ℕ). l ++ m) (i .1) (r .1))
+
+-- Items that fit, with bytes to 7FH, spell a string of the page.
+pub fits-spell : (kind : Kind) (xs : List Item) → allFit kind xs ≡ true → allLow (joined kind xs) ≡ true
+    → Spell kind xs (joined kind xs)
+unfolding allFit joined
+fits-spell kind [] h l = refl
+fits-spell kind (x ∷ xs) h l =
+    let t = and-parts (itemFits kind x) (allFit kind xs) h in
+    let b = and-parts (allLow (itemBytes kind x)) (allLow (joined kind xs))
+    (sym (all-low-append (itemBytes kind x) (joined kind xs)) ∙ l) in
+    (itemBytes kind x, joined kind xs, fits-item kind x (t .0) (b .0), fits-spell kind xs (t .1) (b .1), refl)

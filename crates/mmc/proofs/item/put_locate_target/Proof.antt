@@ -1,0 +1,53 @@
+use borrow.Author.Needs.{needs}
+use Rattle.mmc.proofs.item.put_locate_target.Statement.{statement}
+use Rattle.mmc.proofs.item.put_locate_target.Tie as tie
+use Rattle.mmc.proofs.ItemPuts.{puts-as, standard-length, target-status, target-sent}
+use Rattle.mmc.proofs.Puts.{puts-none, puts-after}
+use mathlib.Core.Path.{refl, ap}
+use native.Mathlib.Omega.{arith}
+use Rattle.mmc.specs.Named.{Outcome}
+
+enum-told : tie.Need-enum-told
+enum-told c = search needs
+
+enum-told-2 : tie.Need-enum-told-2
+enum-told-2 c = search needs
+
+slice-aggregate-put-part : tie.Need-slice-aggregate-put-part
+slice-aggregate-put-part c = search needs
+
+put-part-requires : tie.Need-put-part-requires
+put-part-requires c κs = search needs
+
+add-put-standard : tie.Need-add-put-standard
+add-put-standard c = search needs
+
+put-standard-requires : tie.Need-put-standard-requires
+put-standard-requires c κs = search needs
+
+add-t18 : tie.Need-add-t18
+add-t18 c = omega (arith, ap (λ (o : Outcome). o .len) (c .before .before .before .put-standard .ensures .0), standard-length (c .before .before .before .before .before .before .before .before .before .before .before .before .before .args .target))
+
+returns : tie.Need-returns
+returns c = puts-none _ 3 _ _ (target-status _ _ (c .enum-told .given .1) refl)
+
+same-length : tie.Need-same-length
+same-length c = search needs
+
+returns-2 : tie.Need-returns-2
+returns-2 c = puts-as _ _ _ _ _ _ (target-sent _ _ (c .before .before .before .before .before .before .before .before .before .before .enum-told2 .given .1) refl) (puts-after _ _ _ _ _ _ 3 _ refl (c .before .before .before .before .before .before .before .put-part .ensures) (c .before .before .before .put-standard .ensures))
+
+pub put-locate-target-spec : {M : Type 1} → statement M
+put-locate-target-spec =
+    tie.close
+    (tie.spec
+    enum-told
+    enum-told-2
+    slice-aggregate-put-part
+    put-part-requires
+    add-put-standard
+    put-standard-requires
+    add-t18
+    returns
+    same-length
+    returns-2)

@@ -1,0 +1,29 @@
+use borrow.Author.Needs.{needs}
+use Rattle.mmc.proofs.item.put_standard.Statement.{statement}
+use Rattle.mmc.proofs.item.put_standard.Tie as tie
+use Rattle.mmc.proofs.ItemPuts.{puts-as, standard-checked}
+
+to-bytes-requires : tie.Need-to-bytes-requires
+to-bytes-requires c κs = search needs
+
+slice-aggregate-put-checked : tie.Need-slice-aggregate-put-checked
+slice-aggregate-put-checked c = search needs
+
+put-checked-requires : tie.Need-put-checked-requires
+put-checked-requires c κs = search needs
+
+same-length : tie.Need-same-length
+same-length c = search needs
+
+returns : tie.Need-returns
+returns c = puts-as _ _ _ _ _ _ (standard-checked _ (c .before .before .before .before .before .before .to-bytes .result .checked) (c .before .before .before .before .before .before .to-bytes .result .bytes) (c .before .before .before .before .before .before .to-bytes .ensures .0)) (c .before .before .put-checked .ensures)
+
+pub put-standard-spec : {M : Type 1} → statement M
+put-standard-spec =
+    tie.close
+    (tie.spec
+    to-bytes-requires
+    slice-aggregate-put-checked
+    put-checked-requires
+    same-length
+    returns)

@@ -1,0 +1,50 @@
+use borrow.Author.Needs.{needs}
+use Rattle.mmc.proofs.write.Writer.put_field.Statement.{statement}
+use Rattle.mmc.proofs.write.Writer.put_field.Tie as tie
+use Rattle.mmc.proofs.Writers.{goes-on, ready-told, repeats, takes, fails, put-gives}
+use mathlib.Core.Path.{_∙_, sym, ap, refl}
+use native.Mathlib.Omega.{arith}
+use Rattle.mmc.specs.Named.{Outcome, stopOf}
+use Rattle.mmc.specs.Write.{writingOf}
+use Rattle.mmc.proofs.ItemPuts.{field-small}
+
+ready-requires : tie.Need-ready-requires
+ready-requires c κs = search needs
+
+enum-known-ready : tie.Need-enum-known-ready
+enum-known-ready c = search needs
+
+failed-requires : tie.Need-failed-requires
+failed-requires c κs = search needs
+
+returns : tie.Need-returns
+returns c = fails _ _ _ _ _ _ _ (repeats _ _ _ (sym (c .before .before .before .before .ready .ensures) ∙ ap stopOf (c .before .before .ready2 .given .1))) refl (c .failed .ensures)
+
+enum-told : tie.Need-enum-told
+enum-told c = search needs
+
+put-field-requires : tie.Need-put-field-requires
+put-field-requires c κs = goes-on (writingOf (c .before .before .before .before .before .before .args .self)) (ready-told (writingOf (c .before .before .before .before .before .before .args .self)) (sym (c .before .before .before .ready .ensures) ∙ ap stopOf (c .before .enum-told .given .1)) .0) .1
+
+after-requires : tie.Need-after-requires
+after-requires c κs = omega (arith, goes-on (writingOf (c .before .before .before .before .before .before .before .before .before .args .self)) (ready-told (writingOf (c .before .before .before .before .before .before .before .before .before .args .self)) (sym (c .before .before .before .before .before .before .ready .ensures) ∙ ap stopOf (c .before .before .before .before .enum-told .given .1)) .0), ready-told (writingOf (c .before .before .before .before .before .before .before .before .before .args .self)) (sym (c .before .before .before .before .before .before .ready .ensures) ∙ ap stopOf (c .before .before .before .before .enum-told .given .1)) .1, ap (λ (o : Outcome). o .len) (c .before .before .put-field .ensures .0), field-small (c .before .before .before .before .before .before .before .before .before .args .source .now) (c .before .before .before .before .before .before .before .before .before .args .field))
+
+same-length : tie.Need-same-length
+same-length c = search needs
+
+returns-2 : tie.Need-returns-2
+returns-2 c = put-gives _ _ _ _ _ _ _ (takes _ _ (sym (c .before .before .before .before .before .before .before .ready .ensures) ∙ ap stopOf (c .before .before .before .before .before .enum-told .given .1))) (c .before .before .before .put-field .ensures) (c .after .ensures)
+
+pub put-field-spec : {M : Type 1} → statement M
+put-field-spec =
+    tie.close
+    (tie.spec
+    ready-requires
+    enum-known-ready
+    failed-requires
+    returns
+    enum-told
+    put-field-requires
+    after-requires
+    same-length
+    returns-2)

@@ -1,0 +1,87 @@
+-- Commands with their names and data as bytes, and how 001 reads them. Assumes nothing.
+use Prim.Native.Nat.{ℕ}
+use mathlib.Core.Bool.{Bool, cond}
+use mathlib.Core.List.{List}
+use lib.Dec.{ltb, eqb}
+use lib.ListN.{length, getD}
+use Rattle.mmc.specs.declared.command.MmcCommand.{MmcCommand}
+use Rattle.mmc.specs.declared.command.MmcCommand.the-variants.{Stop, Play, DeferredPlay, FastForward, Rewind, RecordStrobe, RecordExit, Pause, Reset, Write, LocateField, LocateTarget, Move, Other}
+use Rattle.mmc.specs.declared.command.CommandAnswer.{CommandAnswer}
+use Rattle.mmc.specs.declared.command.CommandAnswer.the-variants as A
+use Rattle.mmc.specs.declared.command.NextCommand.{NextCommand}
+use Rattle.mmc.specs.declared.length.Kind.the-variants.{Commands}
+use Rattle.mmc.specs.declared.part.Part.{Part}
+use Rattle.mmc.specs.declared.time_code.StandardTimeCode.{StandardTimeCode}
+use Rattle.mmc.specs.Split.{Next, next, nextAs, partsAs}
+use Rattle.mmc.specs.TimeCode.{readStandard}
+use Rattle.universal.specs.Refusals.{Answer, gives, refused, refusalOf}
+
+-- The case of a command, without the bytes of its own that a Write or another command has.
+pub data CommandCase : Type 0 where
+  stop play deferredPlay fastForward rewind recordStrobe recordExit pause reset write other : CommandCase
+  locateField : ℕ → CommandCase
+  locateTarget : StandardTimeCode → CommandCase
+  move : ℕ → ℕ → CommandCase
+
+-- Locate (44H): sub-command 00H with a register that is not 0, 01H with five bytes of time code; data past these is passed over.
+unfoldable pub readLocate : List ℕ → CommandCase
+readLocate d =
+    cond (ltb (length d) 2) other
+    (cond (eqb (getD d 0 0) 0) (cond (eqb (getD d 1 0) 0) other (locateField (getD d 1 0)))
+    (cond (eqb (getD d 0 0) 1)
+    (cond (ltb (length d) 6) other
+    (locateTarget (readStandard (getD d 1 0) (getD d 2 0) (getD d 3 0) (getD d 4 0) (getD d 5 0)))) other))
+
+-- Move (4CH): two names that are not 0.
+unfoldable pub readMove : List ℕ → CommandCase
+readMove d =
+    cond (ltb (length d) 2) other
+    (cond (eqb (getD d 0 0) 0) other (cond (eqb (getD d 1 0) 0) other (move (getD d 0 0) (getD d 1 0))))
+
+-- A name of one byte, with its data.
+unfoldable pub readByte : ℕ → List ℕ → CommandCase
+readByte n d =
+    cond (eqb n 1) stop
+    (cond (eqb n 2) play
+    (cond (eqb n 3) deferredPlay
+    (cond (eqb n 4) fastForward
+    (cond (eqb n 5) rewind
+    (cond (eqb n 6) recordStrobe
+    (cond (eqb n 7) recordExit
+    (cond (eqb n 9) pause
+    (cond (eqb n 13) reset
+    (cond (eqb n 64) write (cond (eqb n 68) (readLocate d) (cond (eqb n 76) (readMove d) other)))))))))))
+
+-- What a name and data are read as: a name with prefixes is no known command.
+unfoldable pub readCommand : List ℕ → List ℕ → CommandCase
+readCommand name d = cond (eqb (length name) 1) (readByte (getD name 0 0) d) other
+
+-- The case with the parts that its name and data are.
+abbrev pub located : CommandCase → Part → Part → MmcCommand
+located stop n d = Stop
+located play n d = Play
+located deferredPlay n d = DeferredPlay
+located fastForward n d = FastForward
+located rewind n d = Rewind
+located recordStrobe n d = RecordStrobe
+located recordExit n d = RecordExit
+located pause n d = Pause
+located reset n d = Reset
+located write n d = Write d
+located (locateField r) n d = LocateField r
+located (locateTarget c) n d = LocateTarget c
+located (move a b) n d = Move a b
+located other n d = Other n d
+
+-- ---- the next command of a string
+
+unfoldable pub nextCommand : List ℕ → ℕ → Next MmcCommand
+nextCommand body place = nextAs (partsAs (λ (x y : List ℕ). located (readCommand x y)) body) (next Commands body place)
+
+-- The answer, in the paper's numbers.
+abbrev pub commandAnswerOf : CommandAnswer → Answer MmcCommand
+commandAnswerOf (A.Command c) = gives c
+commandAnswerOf (A.Refused e) = refused (refusalOf e)
+
+abbrev pub nextCommandOf : NextCommand → Next MmcCommand
+nextCommandOf r = record { answer = commandAnswerOf (r .answer); place = r .place }

@@ -1,0 +1,55 @@
+-- Information fields, and how 001 reads them. Assumes nothing.
+use Prim.Native.Nat.{ℕ, _-_}
+use mathlib.Core.Bool.{Bool, cond}
+use mathlib.Core.List.{List}
+use lib.Dec.{eqb}
+use lib.ListN.{length, getD}
+use Rattle.mmc.specs.declared.field.InfoField.{InfoField}
+use Rattle.mmc.specs.declared.field.InfoField.the-variants.{TimeCode, Short, Other}
+use Rattle.mmc.specs.declared.field.FieldAnswer.{FieldAnswer}
+use Rattle.mmc.specs.declared.field.FieldAnswer.the-variants as A
+use Rattle.mmc.specs.declared.field.NextField.{NextField}
+use Rattle.mmc.specs.declared.length.Kind.the-variants.{Fields}
+use Rattle.mmc.specs.declared.part.Part.{Part}
+use Rattle.mmc.specs.declared.time_code.StandardTimeCode.{StandardTimeCode}
+use Rattle.mmc.specs.declared.time_code.ShortTimeCode.{ShortTimeCode}
+use Rattle.mmc.specs.Length.{within}
+use Rattle.mmc.specs.Split.{Next, next, nextAs, partsAs}
+use Rattle.mmc.specs.TimeCode.{readStandard, readShort}
+use Rattle.universal.specs.Refusals.{Answer, gives, refused, refusalOf}
+
+-- The case of a field, without the bytes of its own that another field has.
+pub data FieldCase : Type 0 where
+  timeCode : ℕ → StandardTimeCode → FieldCase
+  short : ℕ → ShortTimeCode → FieldCase
+  other : FieldCase
+
+-- A name of one byte, with its data: 01H to 1FH with five bytes, 21H to 3FH with two.
+unfoldable pub readByte : ℕ → List ℕ → FieldCase
+readByte n d =
+    cond (within 1 32 n)
+    (cond (eqb (length d) 5) (timeCode n (readStandard (getD d 0 0) (getD d 1 0) (getD d 2 0) (getD d 3 0) (getD d 4 0))) other)
+    (cond (within 33 64 n) (cond (eqb (length d) 2) (short (n - 32) (readShort (getD d 0 0) (getD d 1 0))) other) other)
+
+-- What a name and data are read as: a name with prefixes is no time code.
+unfoldable pub readField : List ℕ → List ℕ → FieldCase
+readField name d = cond (eqb (length name) 1) (readByte (getD name 0 0) d) other
+
+-- The case with the parts that its name and data are.
+abbrev pub placed : FieldCase → Part → Part → InfoField
+placed (timeCode f c) n d = TimeCode f c
+placed (short f c) n d = Short f c
+placed other n d = Other n d
+
+-- ---- the next field of a string
+
+unfoldable pub nextField : List ℕ → ℕ → Next InfoField
+nextField body place = nextAs (partsAs (λ (x y : List ℕ). placed (readField x y)) body) (next Fields body place)
+
+-- The answer, in the paper's numbers.
+abbrev pub fieldAnswerOf : FieldAnswer → Answer InfoField
+fieldAnswerOf (A.Field f) = gives f
+fieldAnswerOf (A.Refused e) = refused (refusalOf e)
+
+abbrev pub nextFieldOf : NextField → Next InfoField
+nextFieldOf r = record { answer = fieldAnswerOf (r .answer); place = r .place }

@@ -1,0 +1,14 @@
+pub mod Command
+pub mod Field
+pub mod Item
+pub mod Length
+pub mod Message
+pub mod Named
+pub mod Part
+pub mod Rp013
+pub mod Rp013Code
+pub mod Split
+pub mod Strings
+pub mod TimeCode
+pub mod Write
+pub mod Writings
