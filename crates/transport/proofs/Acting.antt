@@ -1,0 +1,87 @@
+-- What a target resolves to and what a command does, by cases, for the calls' proofs. Assumes nothing.
+use Prim.Native.Nat.{ℕ, _≤_, _<_}
+use mathlib.Core.Path.{_≡_, refl, sym, ap, _∙_}
+use mathlib.Core.Bool.{Bool, true, false}
+use mathlib.Core.Option.{Option, none, some}
+use lib.Dec.{T}
+use borrow.Author.Tests.{le-leb, lt-leb}
+use Rattle.mmc.specs.declared.command.MmcCommand.{MmcCommand}
+use Rattle.mmc.specs.declared.command.MmcCommand.the-variants.{LocateTarget}
+use Rattle.mmc.specs.declared.time_code.StandardTimeCode.{StandardTimeCode}
+use Rattle.mtc.specs.St12.{isSkipped, isValid, LeastAbove}
+use Rattle.mtc.specs.Time.{nextValid}
+use Rattle.mtc.specs.declared.generator.MtcGenerator.{MtcGenerator}
+use Rattle.mtc.specs.declared.time.MtcTime.{MtcTime}
+use Rattle.mtc.proofs.Laws.{next-valid-valid, next-valid-least}
+use Rattle.universal.specs.Message.{isAddressed}
+use Rattle.universal.specs.Refusals.{gives}
+use Rattle.transport.specs.Transport.{resolved, Outcome, notMine, unchanged, locatedAt, acted, applied}
+
+pub is-true : (b : Bool) → T b → b ≡ true
+is-true true h = refl
+is-true false h = absurd h
+
+-- ---- a target
+
+-- A blank target is none.
+pub blank-none : (c : StandardTimeCode) → c .blank ≡ true → resolved c ≡ none
+unfolding resolved
+blank-none c b = rw b
+
+-- One still invalid is none.
+pub invalid-none : (c : StandardTimeCode) (t : MtcTime) → c .blank ≡ false → t ≡ nextValid (c .time) → isValid t ≡ false
+    → resolved c ≡ none
+unfolding resolved
+invalid-none c t b e v = rw (b, ← e, v)
+
+-- Any other is its label, past the skipped ones.
+pub valid-some : (c : StandardTimeCode) (t : MtcTime) → c .blank ≡ false → t ≡ nextValid (c .time) → isValid t ≡ true
+    → resolved c ≡ some t
+unfolding resolved
+valid-some c t b e v = rw (b, ← e, v)
+
+-- A valid label that is not blank is itself.
+pub valid-same : (c : StandardTimeCode) → c .blank ≡ false → T (isValid (c .time)) → resolved c ≡ some (c .time)
+valid-same c b v = valid-some c (c .time) b (sym (next-valid-valid (c .time) v)) (is-true (isValid (c .time)) v)
+
+-- A skipped label that is not blank, with hours and minutes in range, is the least valid label above it.
+pub skipped-moved : (c : StandardTimeCode) → c .blank ≡ false → T (isSkipped (c .time)) → c .time .hours ≤ 23 → c .time .minutes ≤ 59
+    → (resolved c ≡ some (nextValid (c .time))) × LeastAbove (c .time) (nextValid (c .time))
+skipped-moved c b k h m =
+    let l : LeastAbove (c .time) (nextValid (c .time)) = next-valid-least (c .time) k h m in
+    (valid-some c (nextValid (c .time)) b refl (is-true (isValid (nextValid (c .time))) (l .valid)), l)
+
+-- ---- a command
+
+-- A command that is known as another.
+pub told : (g : MtcGenerator) (c d : MmcCommand) (o : Outcome) → c ≡ d → o ≡ acted g d → o ≡ acted g c
+told g c d o e h = h ∙ ap (acted g) (sym e)
+
+-- Locate to a target that is known to resolve so.
+pub located-so : (g : MtcGenerator) (c : StandardTimeCode) (t : Option MtcTime) (o : Outcome) → resolved c ≡ t → o ≡ locatedAt g t
+    → o ≡ acted g (LocateTarget c)
+unfolding acted
+located-so g c t o e h = h ∙ ap (locatedAt g) (sym e)
+
+-- ---- a call
+
+-- A device above 127, as the message's or as its own.
+pub device-above : (g : MtcGenerator) (device own : ℕ) (c : MmcCommand) → 127 < device → unchanged g 5 ≡ applied g device own c
+unfolding applied
+device-above g device own c h = rw (lt-leb device 127 h)
+
+pub own-above : (g : MtcGenerator) (device own : ℕ) (c : MmcCommand) → device ≤ 127 → 127 < own → unchanged g 5 ≡ applied g device own c
+unfolding applied
+own-above g device own c h k = rw (le-leb device 127 h, lt-leb own 127 k)
+
+-- A message for another device.
+pub not-mine : (g : MtcGenerator) (device own : ℕ) (c : MmcCommand) → device ≤ 127 → own ≤ 127 → isAddressed device own ≡ false
+    → record { generator = g; answer = gives notMine } ≡ applied g device own c
+unfolding applied
+not-mine g device own c h k a = rw (le-leb device 127 h, le-leb own 127 k, a)
+
+-- A message that addresses it.
+pub mine : (g : MtcGenerator) (device own : ℕ) (c : MmcCommand) → device ≤ 127 → own ≤ 127 → isAddressed device own ≡ true
+    → applied g device own c ≡ acted g c
+unfolding applied
+mine g device own c h k a = rw (le-leb device 127 h, le-leb own 127 k, a)

@@ -1,0 +1,4 @@
+mod Acting
+mod Demand3
+pub mod Laws
+mod Obeying
