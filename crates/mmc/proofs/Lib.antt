@@ -8,7 +8,6 @@ mod Emitted
 mod Fields
 mod Forms
 mod Fronts
-mod Instances
 mod ItemPuts
 mod Names
 mod Pages

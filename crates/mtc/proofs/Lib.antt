@@ -4,7 +4,6 @@ mod DayCount
 mod Distance
 mod Generators
 mod Groups
-mod Instances
 pub mod Laws
 mod Messages
 mod Moving

@@ -1,4 +1,5 @@
 mod Acting
 mod Demand3
+pub mod Instances
 pub mod Laws
 mod Obeying

@@ -1,0 +1,132 @@
+// Quarter frames, full messages and user bits: document 01's instances and the source's published examples.
+use crate::labels::label;
+use crate::labels::same;
+use crate::stream::fresh;
+use crate::stream::hears;
+use crate::tally::Tally;
+use crate::tally::case;
+use crate::tally::none;
+use mtc::Direction;
+use mtc::FullMessage;
+use mtc::MaybeSequence;
+use mtc::MaybeTime;
+use mtc::MtcGenerator;
+use mtc::MtcReader;
+use mtc::QuarterFrame;
+use mtc::UserBits;
+use universal::Written;
+
+// The eight data bytes of 01:37:52:16 at rate 3.
+const PIECES: [u8; 8] = [0x00, 0x11, 0x24, 0x33, 0x45, 0x52, 0x61, 0x76];
+
+fn pieces_are() -> bool {
+    let pieces = QuarterFrame::pieces(label(1, 37, 52, 16, 3));
+    let bytes = PIECES;
+    check::same(&pieces, &bytes)
+}
+
+// A reader that got the eight pieces forward.
+fn forward() -> MtcReader {
+    let bytes = PIECES;
+    let mut reader = MtcReader::new();
+    let mut i: usize = 0;
+    while i < 8 {
+        let stepped = reader.step(bytes[i]);
+        reader = stepped.reader;
+        i = i + 1;
+    }
+    reader
+}
+
+// A reader that got the pieces from 7 down to one.
+fn reverse(last: usize) -> MtcReader {
+    let bytes = PIECES;
+    let mut reader = MtcReader::new();
+    let mut left: usize = 8;
+    while left > last {
+        left = left - 1;
+        let stepped = reader.step(bytes[left]);
+        reader = stepped.reader;
+    }
+    reader
+}
+
+// The current time of a reader is 01:37:52 and these frames.
+fn current_is(reader: MtcReader, frames: u8) -> bool {
+    match reader.time() {
+        MaybeTime::NoTime => false,
+        MaybeTime::Time(time) => same(time, label(1, 37, 52, frames, 3)),
+    }
+}
+
+// After 76 61 H a forward stream first reports at its sixteenth byte.
+fn late() -> bool {
+    let mut reader = hears(hears(fresh(), 0x76), 0x61).reader;
+    let mut generator = MtcGenerator::new(label(1, 37, 52, 16, 3), Direction::Forward);
+    let mut number: u8 = 1;
+    while number < 16 {
+        let sent = generator.next_byte();
+        generator = sent.generator;
+        let byte = sent.byte;
+        let x = match byte {
+            mtc::NextByte::Byte(x) => x,
+            mtc::NextByte::Refused(_) => return false,
+        };
+        let stepped = reader.step(x);
+        reader = stepped.reader;
+        let event = stepped.event;
+        let sequence = event.sequence;
+        match sequence {
+            MaybeSequence::NoSequence => {}
+            MaybeSequence::Sequence(_) => return false,
+        }
+        number = number + 1;
+    }
+    true
+}
+
+// After pieces 7 down to 1 the first byte of a forward stream ends a sequence.
+fn first_reports() -> bool {
+    let reader = reverse(1);
+    let stepped = reader.step(0x00);
+    let event = stepped.event;
+    let sequence = event.sequence;
+    match sequence {
+        MaybeSequence::NoSequence => false,
+        MaybeSequence::Sequence(_) => true,
+    }
+}
+
+fn full_message() -> bool {
+    let mut out = [0u8; 10];
+    let message = FullMessage {
+        device_id: 0x7F,
+        time: label(1, 37, 52, 16, 3),
+    };
+    match message.write(&mut out) {
+        Written::Length(length) => {
+            length == 10 && check::same(&out, b"\xF0\x7F\x7F\x01\x01\x61\x25\x34\x10\xF7")
+        }
+        Written::Refused(_) => false,
+    }
+}
+
+fn user_bits() -> bool {
+    let bits = UserBits {
+        device_id: 0,
+        groups: [1, 2, 3, 4, 5, 6, 7, 8],
+        flags: 0,
+    };
+    let bytes = bits.to_bytes();
+    check::same(&bytes, b"\x87\x65\x43\x21")
+}
+
+pub(crate) fn quarter_frames() -> Tally {
+    let t = case(none(), pieces_are());
+    let t = case(t, current_is(forward(), 18));
+    let t = case(t, current_is(reverse(0), 15));
+    let t = case(t, late());
+    let t = case(t, first_reports());
+    let t = case(t, full_message());
+    case(t, user_bits())
+}
