@@ -1,4 +1,4 @@
-// Quarter frames, full messages and user bits: document 01's instances and the source's published examples.
+// Quarter frames, full messages and user bits: document 01's instances and RP-004/008's published examples.
 use crate::labels::label;
 use crate::labels::same;
 use crate::stream::fresh;

@@ -9,6 +9,7 @@ mod Fields
 mod Forms
 mod Fronts
 mod ItemPuts
+mod Moves
 mod Names
 mod Pages
 mod Puts

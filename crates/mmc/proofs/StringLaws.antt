@@ -20,8 +20,8 @@ use Rattle.mmc.specs.declared.length.Kind.the-variants.{Commands, Fields
 use Rattle.mmc.specs.declared.length.Length.{Length}
 use Rattle.mmc.specs.declared.length.Length.the-variants.{Fixed}
 use Rattle.mmc.specs.declared.part.Part.{Part}
-use Rattle.mmc.specs.Command.{CommandCase, readByte, readCommand, located}
-use Rattle.mmc.specs.Field.{FieldCase, readField, placed}
+use Rattle.mmc.specs.Command.{CommandCase, readByte, readCommand, located, nextCommand}
+use Rattle.mmc.specs.Field.{FieldCase, readField, placed, nextField}
 use Rattle.mmc.specs.Item.{commandItem, fieldItem}
 use Rattle.mmc.specs.Length.{lengthOf}
 use Rattle.mmc.specs.declared.message.MmcMessage.the-variants as M
@@ -30,7 +30,7 @@ use Rattle.mmc.specs.Named.{nameFits, lastOf}
 use Rattle.mmc.specs.Part.{partOf}
 use Rattle.mmc.specs.Rp013.{Follows, Name, Item, IsItem, Spell, WellFormed, subId1, lastDevice, envelope, Message}
 use Rattle.mmc.specs.Strings.{before, walkFrom, readsOf, nextOf, item, itemAt, places, given, back, itemBytes, joined, itemFits, allFit, locatedAt, readAs, Found, Walk, walk, walkMeans, onTo, Meaning, meaning, meanings, readFrom, commandsRead, commandPair, fieldPair, Sound, Given, pairOf, emission, emissions, pairsOf, SoundList, commandBack, fieldBack}
-use Rattle.mmc.specs.Split.{Located, Next}
+use Rattle.mmc.specs.Split.{Located, Next, partsAs}
 use Rattle.mmc.specs.TimeCode.{zeroed}
 use Rattle.mmc.specs.declared.time_code.StandardTimeCode.{StandardTimeCode}
 use Rattle.universal.specs.Emission.{Emission, sent, _then_}
@@ -41,6 +41,7 @@ use Rattle.universal.proofs.Laws.{all-low-byte, then-sent, then-accepted, openi
 use Rattle.mmc.proofs.Backs
 use Rattle.mmc.proofs.Emitted
 use Rattle.mmc.proofs.Fronts
+use Rattle.mmc.proofs.Moves
 use Rattle.mmc.proofs.Pages
 use Rattle.mmc.proofs.Walks
 use Rattle.mmc.proofs.Walks.{Taken, taken}
@@ -374,6 +375,15 @@ pub read-from : (kind : Kind) (body : List ℕ) (place : ℕ)
     → readFrom kind body place ≡ walkFrom (nextOf kind body) (readsOf body) place
 unfolding readFrom
 read-from kind body place = refl
+
+-- A read that gives an item goes on past its place, and inside the string.
+pub read-goes-on : (kind : Kind) (body : List ℕ) (place : ℕ) (x : Meaning kind) → nextOf kind body place .answer ≡ gives x
+    → (place < nextOf kind body place .place) × (nextOf kind body place .place ≤ length body)
+unfolding nextCommand nextField
+read-goes-on Commands body place x h =
+    Moves.read-moves (partsAs (λ (n d : List ℕ). located (readCommand n d)) body) x Commands body place h
+read-goes-on Fields body place x h =
+    Moves.read-moves (partsAs (λ (n d : List ℕ). placed (readField n d)) body) x Fields body place h
 
 -- No items mean nothing.
 pub meanings-none : (kind : Kind) (place : ℕ) → meanings kind place [] ≡ []

@@ -14,13 +14,14 @@ use Rattle.mtc.specs.declared.generator.MtcGenerator.{MtcGenerator}
 use Rattle.mtc.specs.declared.reader.MaybeSequence.the-variants.{Sequence}
 use Rattle.mtc.specs.declared.reader.MaybeTime.the-variants.{NoTime}
 use Rattle.mtc.specs.declared.reader.MtcEvent.{MtcEvent}
+use Rattle.mtc.specs.declared.reader.MtcReader.{MtcReader}
 use Rattle.mtc.specs.Generator.{move}
 use Rattle.mtc.specs.QuarterFrame.{pieces}
-use Rattle.mtc.specs.Reader.{fresh, isSound, reported}
+use Rattle.mtc.specs.Reader.{fresh, isSound, reported, afterByte, eventOf}
 use Rattle.mtc.specs.Rp004.{InWidths, dataBytes, MovesTo}
 use Rattle.mtc.specs.St12.{label, isSkipped, isValid, LeastAbove, countBefore, labelsOfDay, labelAfter}
 use Rattle.mtc.specs.Time.{dayOf, formula, frameCount, labelAt, addFrames, nextValid}
-use Rattle.mtc.specs.Stream.{Call, afterCalls, events, sent, runFrom, inOrder, StreamLaw, SentLaw}
+use Rattle.mtc.specs.Stream.{Call, afterCall, afterCalls, events, sent, runFrom, inOrder, StreamLaw, SentLaw}
 use Rattle.mtc.proofs.After
 use Rattle.mtc.proofs.Counts
 use Rattle.mtc.proofs.DayCount
@@ -143,3 +144,20 @@ stream-law = Streams.stream-law
 -- No list of calls leaves a record that is taken as fresh.
 pub calls-sound : (cs : List Call) → T (isSound (afterCalls fresh cs))
 calls-sound = Streams.calls-sound
+
+-- ---- the definitions' equations, for crates above
+
+-- The reader that one more call leaves.
+pub calls-more : (r : MtcReader) (c : Call) (cs : List Call) → afterCalls r (c ∷ cs) ≡ afterCalls (afterCall r c) cs
+unfolding afterCalls
+calls-more r c cs = refl
+
+-- No call leaves the reader as it was, and no byte gives an event.
+pub calls-none : (r : MtcReader) → (afterCalls r [] ≡ r) × (events r [] ≡ [])
+unfolding afterCalls events
+calls-none r = (refl, refl)
+
+-- The event of one more byte stands before those of the bytes after it.
+pub events-more : (r : MtcReader) (b : ℕ) (bs : List ℕ) → events r (b ∷ bs) ≡ eventOf r b ∷ events (afterByte r b) bs
+unfolding events
+events-more r b bs = refl

@@ -5,7 +5,7 @@
 pub use Rattle.transport.proofs.Demand3.{demand3, demand3-reverse, demand3-written}
 -- In any data the commands read have acted, those before a cut too; a refused command leaves the generator and holds up none; Locate
 -- and then Play leave it located and running forward.
-pub use Rattle.transport.proofs.Obeying.{read-acts, cut-acts, refused-unchanged, refused-passes, applied-append, answers-each, locate-play}
+pub use Rattle.transport.proofs.Obeying.{obey-more, read-acts, cut-acts, refused-unchanged, refused-passes, applied-append, answers-each, locate-play}
 -- One call: 5, "not mine", or what the command does.
 pub use Rattle.transport.proofs.Acting.{device-above, own-above, not-mine, mine}
 -- A target: none where blank or still invalid; a valid label itself, a skipped one the least valid above it; always valid.

@@ -48,6 +48,16 @@ obey-walk (suc most) body device own place g =
     (obey-walk most body device own (nextCommand body place .place))
     ∙ ap (appliedWalk device own g) (sym (walk-more (nextOf Commands body) most place))
 
+-- A run that may read once more.
+pub obey-more : (most : ℕ) (body : List ℕ) (device own place : ℕ) (g : MtcGenerator)
+    → obeyFrom (suc most) body device own place g
+    ≡ onRead (nextCommand body place .answer)
+    (λ c.
+    answered (applied g device own c)
+    (obeyFrom most body device own (nextCommand body place .place) (applied g device own c .generator))) g
+unfolding obeyFrom
+obey-more most body device own place g = refl
+
 -- Any data: the commands read have acted.
 pub read-acts : ReadActs
 read-acts body device own g =
