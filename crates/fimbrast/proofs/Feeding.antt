@@ -1,0 +1,120 @@
+-- A list of quarter frames, byte by byte, and what its counts mean. Assumes nothing.
+use Prim.Native.Nat.{ℕ, suc, _+_, _≤_, _<_}
+use mathlib.Core.Path.{_≡_, refl, sym, ap, _∙_}
+use mathlib.Core.Bool.{Bool, true, false, cond}
+use mathlib.Core.List.{List, [], _∷_, map}
+use native.Mathlib.Nat.{add-assoc}
+use native.Mathlib.Numerals.{add-one}
+use native.Mathlib.Omega.{arith}
+use lib.Dec.{lit≤}
+use lib.ListN.{length, drop, getD, drop-of-length-le}
+use lib.Seq.{drop-cons}
+use Rattle.fimbrast.specs.Feed.{unfed, counted, fedBy, fedAll, fed, one, jump, later, total, lastOf, Feeds}
+use Rattle.fimbrast.specs.declared.feed.Fed.{Fed}
+use Rattle.mtc.proofs.Laws.{calls-none, calls-more, events-more}
+use Rattle.mtc.specs.Reader.{afterByte, eventOf}
+use Rattle.mtc.specs.Stream.{byte, afterCalls, events}
+use Rattle.mtc.specs.declared.reader.MaybeSequence.{MaybeSequence}
+use Rattle.mtc.specs.declared.reader.MaybeSequence.the-variants.{NoSequence, Sequence}
+use Rattle.mtc.specs.declared.reader.MtcEvent.{MtcEvent}
+use Rattle.mtc.specs.declared.reader.MtcReader.{MtcReader}
+
+-- ---- the loop
+
+pub fed-turn : (f : Fed) (bs : List ℕ) (i : ℕ) → i < length bs → fedAll f (drop i bs) ≡ fedAll (fedBy f (getD bs i 0)) (drop (i + 1) bs)
+unfolding fedAll
+fed-turn f bs i h = rw (add-one, drop-cons bs i 0)
+
+pub fed-end : (f : Fed) (bs : List ℕ) (i : ℕ) → length bs ≤ i → fedAll f (drop i bs) ≡ f
+unfolding fedAll
+fed-end f bs i h = rw (drop-of-length-le bs h)
+
+-- A byte adds at most one to each count.
+at-most-one : (b : Bool) → cond b 1 0 ≤ 1
+at-most-one true = lit≤ tt
+at-most-one false = lit≤ tt
+
+counted-reports : (f : Fed) (r : MtcReader) (s : MaybeSequence) → counted f r s .reports ≤ f .reports + 1
+unfolding counted
+counted-reports f r NoSequence = omega arith
+counted-reports f r (Sequence s) = omega arith
+
+counted-jumps : (f : Fed) (r : MtcReader) (s : MaybeSequence) → counted f r s .discontinuities ≤ f .discontinuities + 1
+unfolding counted
+counted-jumps f r NoSequence = omega arith
+counted-jumps f r (Sequence s) = let h : cond (s .discontinuity) 1 0 ≤ 1 = at-most-one (s .discontinuity) in omega arith
+
+pub fed-reports : (f : Fed) (b : ℕ) → fedBy f b .reports ≤ f .reports + 1
+unfolding fedBy
+fed-reports f b = counted-reports f (afterByte (f .reader) b) (eventOf (f .reader) b .sequence)
+
+pub fed-jumps : (f : Fed) (b : ℕ) → fedBy f b .discontinuities ≤ f .discontinuities + 1
+unfolding fedBy
+fed-jumps f b = counted-jumps f (afterByte (f .reader) b) (eventOf (f .reader) b .sequence)
+
+-- ---- what it means
+
+module _ (f : Fed) (r : MtcReader) where
+  counted-reader : (s : MaybeSequence) → counted f r s .reader ≡ r
+  unfolding counted
+  counted-reader NoSequence = refl
+  counted-reader (Sequence s) = refl
+
+  counted-one : (s : MaybeSequence) → counted f r s .reports ≡ f .reports + one s
+  unfolding counted
+  counted-one NoSequence = omega arith
+  counted-one (Sequence s) = refl
+
+  counted-jump : (s : MaybeSequence) → counted f r s .discontinuities ≡ f .discontinuities + jump s
+  unfolding counted
+  counted-jump NoSequence = omega arith
+  counted-jump (Sequence s) = refl
+
+  counted-last : (s : MaybeSequence) → counted f r s .last ≡ later (f .last) s
+  unfolding counted
+  counted-last NoSequence = refl
+  counted-last (Sequence s) = refl
+
+-- What a list leaves, from a state on.
+record From (f : Fed) (bs : List ℕ) : Type 0 where
+  reader : fedAll f bs .reader ≡ afterCalls (f .reader) (map byte bs)
+  reports : fedAll f bs .reports ≡ f .reports + total one (events (f .reader) bs)
+  discontinuities : fedAll f bs .discontinuities ≡ f .discontinuities + total jump (events (f .reader) bs)
+  last : fedAll f bs .last ≡ lastOf (f .last) (events (f .reader) bs)
+
+from : (f : Fed) (bs : List ℕ) → From f bs
+unfolding fedAll fedBy total lastOf
+from f [] =
+    let n = calls-none (f .reader) in
+    record {
+      reader = sym (n .0);
+      reports = rw (n .1) (omega arith);
+      discontinuities = rw (n .1) (omega arith);
+      last = rw (n .1);
+    }
+from f (b ∷ bs) =
+    let i = from (fedBy f b) bs in
+    let q : fedBy f b .reader ≡ afterByte (f .reader) b = counted-reader f (afterByte (f .reader) b) (eventOf (f .reader) b .sequence) in
+    let n : fedBy f b .reports ≡ f .reports + one (eventOf (f .reader) b .sequence) =
+    counted-one f (afterByte (f .reader) b) (eventOf (f .reader) b .sequence) in
+    let d : fedBy f b .discontinuities ≡ f .discontinuities + jump (eventOf (f .reader) b .sequence) =
+    counted-jump f (afterByte (f .reader) b) (eventOf (f .reader) b .sequence) in
+    let l : fedBy f b .last ≡ later (f .last) (eventOf (f .reader) b .sequence) =
+    counted-last f (afterByte (f .reader) b) (eventOf (f .reader) b .sequence) in
+    record {
+      reader = i .reader ∙ rw (q, calls-more);
+      reports = i .reports ∙ rw (q, n, events-more) (omega arith);
+      discontinuities = i .discontinuities ∙ rw (q, d, events-more) (omega arith);
+      last = i .last ∙ rw (q, l, events-more);
+    }
+
+pub feeds : (r : MtcReader) (bs : List ℕ) → Feeds r bs
+unfolding fed
+feeds r bs =
+    let i = from (unfed r) bs in
+    record {
+      reader = i .reader;
+      reports = i .reports ∙ omega arith;
+      discontinuities = i .discontinuities ∙ omega arith;
+      last = i .last;
+    }

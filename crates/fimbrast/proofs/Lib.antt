@@ -1,0 +1,3 @@
+mod Feeding
+pub mod Laws
+mod Obeying

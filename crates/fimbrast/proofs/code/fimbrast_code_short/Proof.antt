@@ -1,0 +1,20 @@
+-- `fimbrast::code::fimbrast_code_short` meets its contract. Assumes nothing.
+use borrow.Author.Needs.{needs}
+use Rattle.fimbrast.proofs.code.fimbrast_code_short.Statement.{statement}
+use Rattle.fimbrast.proofs.code.fimbrast_code_short.Tie as tie
+
+code-of-requires : tie.Need-code-of-requires
+code-of-requires c κs = search needs
+
+short-requires : tie.Need-short-requires
+short-requires c κs = search needs
+
+flat-short-requires : tie.Need-flat-short-requires
+flat-short-requires c κs = search needs
+
+returns : tie.Need-returns
+returns c = cc
+
+pub fimbrast-code-short-spec : {M : Type 1} → statement M
+fimbrast-code-short-spec =
+    tie.close (tie.spec code-of-requires short-requires flat-short-requires returns)

@@ -1,0 +1,16 @@
+-- `fimbrast::code::fimbrast_short_name` meets its contract. Assumes nothing.
+use borrow.Author.Needs.{needs}
+use Rattle.fimbrast.proofs.code.fimbrast_short_name.Statement.{statement}
+use Rattle.fimbrast.proofs.code.fimbrast_short_name.Tie as tie
+
+short-name-requires : tie.Need-short-name-requires
+short-name-requires c κs = search needs
+
+flat-name-requires : tie.Need-flat-name-requires
+flat-name-requires c κs = search needs
+
+returns : tie.Need-returns
+returns c = cc
+
+pub fimbrast-short-name-spec : {M : Type 1} → statement M
+fimbrast-short-name-spec = tie.close (tie.spec short-name-requires flat-name-requires returns)

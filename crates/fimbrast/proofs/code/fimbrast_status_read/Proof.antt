@@ -1,0 +1,16 @@
+-- `fimbrast::code::fimbrast_status_read` meets its contract. Assumes nothing.
+use borrow.Author.Needs.{needs}
+use Rattle.fimbrast.proofs.code.fimbrast_status_read.Statement.{statement}
+use Rattle.fimbrast.proofs.code.fimbrast_status_read.Tie as tie
+
+from-byte-requires : tie.Need-from-byte-requires
+from-byte-requires c κs = search needs
+
+flat-status-requires : tie.Need-flat-status-requires
+flat-status-requires c κs = search needs
+
+returns : tie.Need-returns
+returns c = cc
+
+pub fimbrast-status-read-spec : {M : Type 1} → statement M
+fimbrast-status-read-spec = tie.close (tie.spec from-byte-requires flat-status-requires returns)

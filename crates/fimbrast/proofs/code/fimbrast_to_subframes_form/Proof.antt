@@ -1,0 +1,20 @@
+-- `fimbrast::code::fimbrast_to_subframes_form` meets its contract. Assumes nothing.
+use borrow.Author.Needs.{needs}
+use Rattle.fimbrast.proofs.code.fimbrast_to_subframes_form.Statement.{statement}
+use Rattle.fimbrast.proofs.code.fimbrast_to_subframes_form.Tie as tie
+
+code-of-requires : tie.Need-code-of-requires
+code-of-requires c κs = search needs
+
+to-subframes-form-requires : tie.Need-to-subframes-form-requires
+to-subframes-form-requires c κs = search needs
+
+flat-code-requires : tie.Need-flat-code-requires
+flat-code-requires c κs = search needs
+
+returns : tie.Need-returns
+returns c = cc
+
+pub fimbrast-to-subframes-form-spec : {M : Type 1} → statement M
+fimbrast-to-subframes-form-spec =
+    tie.close (tie.spec code-of-requires to-subframes-form-requires flat-code-requires returns)

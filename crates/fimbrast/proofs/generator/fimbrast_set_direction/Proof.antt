@@ -1,0 +1,29 @@
+-- `fimbrast::generator::fimbrast_set_direction` meets its contract. Assumes nothing.
+use borrow.Author.Needs.{needs}
+use Rattle.fimbrast.proofs.generator.fimbrast_set_direction.Statement.{statement}
+use Rattle.fimbrast.proofs.generator.fimbrast_set_direction.Tie as tie
+
+generator-of-requires : tie.Need-generator-of-requires
+generator-of-requires c κs = search needs
+
+direction-at-requires : tie.Need-direction-at-requires
+direction-at-requires c κs = search needs
+
+set-direction-requires : tie.Need-set-direction-requires
+set-direction-requires c κs = search needs
+
+flat-generator-requires : tie.Need-flat-generator-requires
+flat-generator-requires c κs = search needs
+
+returns : tie.Need-returns
+returns c = cc
+
+pub fimbrast-set-direction-spec : {M : Type 1} → statement M
+fimbrast-set-direction-spec =
+    tie.close
+    (tie.spec
+    generator-of-requires
+    direction-at-requires
+    set-direction-requires
+    flat-generator-requires
+    returns)

@@ -1,0 +1,20 @@
+-- `fimbrast::generator::fimbrast_set_running` meets its contract. Assumes nothing.
+use borrow.Author.Needs.{needs}
+use Rattle.fimbrast.proofs.generator.fimbrast_set_running.Statement.{statement}
+use Rattle.fimbrast.proofs.generator.fimbrast_set_running.Tie as tie
+
+generator-of-requires : tie.Need-generator-of-requires
+generator-of-requires c κs = search needs
+
+set-running-requires : tie.Need-set-running-requires
+set-running-requires c κs = search needs
+
+flat-generator-requires : tie.Need-flat-generator-requires
+flat-generator-requires c κs = search needs
+
+returns : tie.Need-returns
+returns c = cc
+
+pub fimbrast-set-running-spec : {M : Type 1} → statement M
+fimbrast-set-running-spec =
+    tie.close (tie.spec generator-of-requires set-running-requires flat-generator-requires returns)

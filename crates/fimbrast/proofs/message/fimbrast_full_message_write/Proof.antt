@@ -1,0 +1,23 @@
+-- `fimbrast::message::fimbrast_full_message_write` meets its contract. Assumes nothing.
+use borrow.Author.Needs.{needs}
+use Rattle.fimbrast.proofs.message.fimbrast_full_message_write.Statement.{statement}
+use Rattle.fimbrast.proofs.message.fimbrast_full_message_write.Tie as tie
+
+time-of-requires : tie.Need-time-of-requires
+time-of-requires c κs = search needs
+
+write-requires : tie.Need-write-requires
+write-requires c κs = search needs
+
+flat-written-requires : tie.Need-flat-written-requires
+flat-written-requires c κs = search needs
+
+same-length : tie.Need-same-length
+same-length c = search needs
+
+returns : tie.Need-returns
+returns c = (cc, cc)
+
+pub fimbrast-full-message-write-spec : {M : Type 1} → statement M
+fimbrast-full-message-write-spec =
+    tie.close (tie.spec time-of-requires write-requires flat-written-requires same-length returns)

@@ -1,0 +1,24 @@
+-- `fimbrast::message::fimbrast_universal_write` meets its contract. Assumes nothing.
+use borrow.Author.Needs.{needs}
+use Rattle.fimbrast.proofs.message.fimbrast_universal_write.Statement.{statement}
+use Rattle.fimbrast.proofs.message.fimbrast_universal_write.Tie as tie
+
+universal-of-requires : tie.Need-universal-of-requires
+universal-of-requires c κs = search needs
+
+write-requires : tie.Need-write-requires
+write-requires c κs = search needs
+
+flat-written-requires : tie.Need-flat-written-requires
+flat-written-requires c κs = search needs
+
+same-length : tie.Need-same-length
+same-length c = search needs
+
+returns : tie.Need-returns
+returns c = (cc, cc)
+
+pub fimbrast-universal-write-spec : {M : Type 1} → statement M
+fimbrast-universal-write-spec =
+    tie.close
+    (tie.spec universal-of-requires write-requires flat-written-requires same-length returns)

@@ -1,0 +1,16 @@
+-- `fimbrast::message::fimbrast_user_bits_bytes` meets its contract. Assumes nothing.
+use borrow.Author.Needs.{needs}
+use Rattle.fimbrast.proofs.message.fimbrast_user_bits_bytes.Statement.{statement}
+use Rattle.fimbrast.proofs.message.fimbrast_user_bits_bytes.Tie as tie
+
+bits-of-requires : tie.Need-bits-of-requires
+bits-of-requires c κs = search needs
+
+to-bytes-requires : tie.Need-to-bytes-requires
+to-bytes-requires c κs = search needs
+
+returns : tie.Need-returns
+returns c = cc
+
+pub fimbrast-user-bits-bytes-spec : {M : Type 1} → statement M
+fimbrast-user-bits-bytes-spec = tie.close (tie.spec bits-of-requires to-bytes-requires returns)

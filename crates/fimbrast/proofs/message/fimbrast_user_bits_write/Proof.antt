@@ -1,0 +1,23 @@
+-- `fimbrast::message::fimbrast_user_bits_write` meets its contract. Assumes nothing.
+use borrow.Author.Needs.{needs}
+use Rattle.fimbrast.proofs.message.fimbrast_user_bits_write.Statement.{statement}
+use Rattle.fimbrast.proofs.message.fimbrast_user_bits_write.Tie as tie
+
+bits-of-requires : tie.Need-bits-of-requires
+bits-of-requires c κs = search needs
+
+write-requires : tie.Need-write-requires
+write-requires c κs = search needs
+
+flat-written-requires : tie.Need-flat-written-requires
+flat-written-requires c κs = search needs
+
+same-length : tie.Need-same-length
+same-length c = search needs
+
+returns : tie.Need-returns
+returns c = (cc, cc)
+
+pub fimbrast-user-bits-write-spec : {M : Type 1} → statement M
+fimbrast-user-bits-write-spec =
+    tie.close (tie.spec bits-of-requires write-requires flat-written-requires same-length returns)

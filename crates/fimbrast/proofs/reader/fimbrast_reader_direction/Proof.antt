@@ -1,0 +1,20 @@
+-- `fimbrast::reader::fimbrast_reader_direction` meets its contract. Assumes nothing.
+use borrow.Author.Needs.{needs}
+use Rattle.fimbrast.proofs.reader.fimbrast_reader_direction.Statement.{statement}
+use Rattle.fimbrast.proofs.reader.fimbrast_reader_direction.Tie as tie
+
+reader-of-requires : tie.Need-reader-of-requires
+reader-of-requires c κs = search needs
+
+direction-requires : tie.Need-direction-requires
+direction-requires c κs = search needs
+
+flat-way-requires : tie.Need-flat-way-requires
+flat-way-requires c κs = search needs
+
+returns : tie.Need-returns
+returns c = cc
+
+pub fimbrast-reader-direction-spec : {M : Type 1} → statement M
+fimbrast-reader-direction-spec =
+    tie.close (tie.spec reader-of-requires direction-requires flat-way-requires returns)

@@ -1,0 +1,20 @@
+-- `fimbrast::write::fimbrast_close_fields` meets its contract. Assumes nothing.
+use borrow.Author.Needs.{needs}
+use Rattle.fimbrast.proofs.write.fimbrast_close_fields.Statement.{statement}
+use Rattle.fimbrast.proofs.write.fimbrast_close_fields.Tie as tie
+
+writer-of-requires : tie.Need-writer-of-requires
+writer-of-requires c κs = search needs
+
+close-fields-requires : tie.Need-close-fields-requires
+close-fields-requires c κs = search needs
+
+flat-written-requires : tie.Need-flat-written-requires
+flat-written-requires c κs = search needs
+
+returns : tie.Need-returns
+returns c = cc
+
+pub fimbrast-close-fields-spec : {M : Type 1} → statement M
+fimbrast-close-fields-spec =
+    tie.close (tie.spec writer-of-requires close-fields-requires flat-written-requires returns)

@@ -1,0 +1,24 @@
+-- `fimbrast::write::fimbrast_close_message` meets its contract. Assumes nothing.
+use borrow.Author.Needs.{needs}
+use Rattle.fimbrast.proofs.write.fimbrast_close_message.Statement.{statement}
+use Rattle.fimbrast.proofs.write.fimbrast_close_message.Tie as tie
+
+writer-of-requires : tie.Need-writer-of-requires
+writer-of-requires c κs = search needs
+
+close-message-requires : tie.Need-close-message-requires
+close-message-requires c κs = search needs
+
+flat-written-requires : tie.Need-flat-written-requires
+flat-written-requires c κs = search needs
+
+same-length : tie.Need-same-length
+same-length c = search needs
+
+returns : tie.Need-returns
+returns c = (cc, cc)
+
+pub fimbrast-close-message-spec : {M : Type 1} → statement M
+fimbrast-close-message-spec =
+    tie.close
+    (tie.spec writer-of-requires close-message-requires flat-written-requires same-length returns)

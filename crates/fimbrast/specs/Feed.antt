@@ -1,0 +1,85 @@
+-- What a list of quarter frames leaves in a reader, and what it reports: as the code counts it, and what the counts mean. Assumes
+-- nothing.
+use Prim.Native.Nat.{ℕ, _+_}
+use mathlib.Core.Bool.{Bool, cond}
+use mathlib.Core.List.{List, [], _∷_, map}
+use mathlib.Core.Path.{_≡_}
+use Rattle.flat.specs.Reader.{flatReader, flatMaybeSequence}
+use Rattle.fimbrast.specs.declared.feed.Fed.{Fed}
+use Rattle.fimbrast.specs.declared.feed.FlatFed.{FlatFed}
+use Rattle.mtc.specs.Reader.{afterByte, eventOf}
+use Rattle.mtc.specs.Stream.{byte, afterCalls, events}
+use Rattle.mtc.specs.declared.reader.MaybeSequence.{MaybeSequence}
+use Rattle.mtc.specs.declared.reader.MaybeSequence.the-variants.{NoSequence, Sequence}
+use Rattle.mtc.specs.declared.reader.MtcEvent.{MtcEvent}
+use Rattle.mtc.specs.declared.reader.MtcReader.{MtcReader}
+
+-- ---- as it is counted
+
+-- A reader that got nothing yet.
+abbrev pub unfed : MtcReader → Fed
+unfed r = record { reader = r; reports = 0; discontinuities = 0; last = NoSequence }
+
+-- A byte left this reader, and reported this.
+unfoldable pub counted : Fed → MtcReader → MaybeSequence → Fed
+counted f r NoSequence = record { reader = r; reports = f .reports; discontinuities = f .discontinuities; last = f .last }
+counted f r (Sequence s) =
+    record {
+      reader = r;
+      reports = f .reports + 1;
+      discontinuities = f .discontinuities + cond (s .discontinuity) 1 0;
+      last = Sequence s;
+    }
+
+unfoldable pub fedBy : Fed → ℕ → Fed
+fedBy f b = counted f (afterByte (f .reader) b) (eventOf (f .reader) b .sequence)
+
+unfoldable pub fedAll : Fed → List ℕ → Fed
+fedAll f [] = f
+fedAll f (b ∷ bs) = fedAll (fedBy f b) bs
+
+unfoldable pub fed : MtcReader → List ℕ → Fed
+fed r bs = fedAll (unfed r) bs
+
+unfoldable pub flatFed : Fed → FlatFed
+flatFed f =
+    record {
+      reader = flatReader (f .reader);
+      reports = f .reports;
+      discontinuities = f .discontinuities;
+      last = flatMaybeSequence (f .last);
+    }
+
+-- ---- what it means
+
+-- 1 for a report.
+abbrev pub one : MaybeSequence → ℕ
+one NoSequence = 0
+one (Sequence s) = 1
+
+-- 1 for a report with a discontinuity.
+abbrev pub jump : MaybeSequence → ℕ
+jump NoSequence = 0
+jump (Sequence s) = cond (s .discontinuity) 1 0
+
+-- The later of two reports, where it is one.
+abbrev pub later : MaybeSequence → MaybeSequence → MaybeSequence
+later l NoSequence = l
+later l (Sequence s) = Sequence s
+
+-- A number for each event, summed.
+unfoldable pub total : (MaybeSequence → ℕ) → List MtcEvent → ℕ
+total n [] = 0
+total n (e ∷ es) = n (e .sequence) + total n es
+
+-- The last report among events, or the one before them.
+unfoldable pub lastOf : MaybeSequence → List MtcEvent → MaybeSequence
+lastOf l [] = l
+lastOf l (e ∷ es) = lastOf (later l (e .sequence)) es
+
+-- The reader is the one that the calls leave, and the counts and the last report are those of the events that they give.
+pub record Feeds (r : MtcReader) (bs : List ℕ) : Type 0 where
+  pub reader : fed r bs .reader ≡ afterCalls r (map byte bs)
+  pub reports : fed r bs .reports ≡ total one (events r bs)
+  pub discontinuities : fed r bs .discontinuities ≡ total jump (events r bs)
+  pub last : fed r bs .last ≡ lastOf NoSequence (events r bs)

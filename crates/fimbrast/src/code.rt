@@ -1,0 +1,123 @@
+// Time code fields of machine control.
+use flat::code::FiveBytes;
+use flat::code::FlatCode;
+use flat::code::FlatCodeBytes;
+use flat::code::FlatShort;
+use flat::code::FlatShortBytes;
+use flat::code::FlatStatus;
+use flat::code::TwoBytes;
+use flat::code::code_of;
+use flat::code::flat_code;
+use flat::code::flat_code_bytes;
+use flat::code::flat_name;
+use flat::code::flat_short;
+use flat::code::flat_short_bytes;
+use flat::code::flat_status;
+use flat::code::short_of;
+use flat::code::status_of;
+use mmc::ShortTimeCode;
+use mmc::StandardTimeCode;
+use mmc::TimeCodeStatus;
+ghost use mathlib.Core.Path.{_≡_};
+ghost use lib.ListN.{getD};
+ghost use Rattle.mmc.specs.TimeCode.{readStatus, statusByte, readStandard, readShort, standardBytes, shortBytes, standardLeft, shortLeft, shortForm, withShort, subframesForm, statusForm, shortName, fullName};
+ghost use Rattle.flat.specs.Refusal.{refusalIn};
+ghost use Rattle.flat.specs.Code.{statusOf, flatStatus, codeOf, flatCode, shortOf, flatShort, flatName};
+
+// `short_name`, or 0.
+#[no_mangle]
+pub extern "C" fn fimbrast_short_name(field: u8) -> u8
+    ensures { λ r. ⌜ r ≡ flatName (shortName field) ⌝ }
+{
+    flat_name(mmc::short_name(field))
+}
+
+// `full_name`, or 0.
+#[no_mangle]
+pub extern "C" fn fimbrast_full_name(short_name: u8) -> u8
+    ensures { λ r. ⌜ r ≡ flatName (fullName «short_name») ⌝ }
+{
+    flat_name(mmc::full_name(short_name))
+}
+
+// `TimeCodeStatus::from_byte`.
+#[no_mangle]
+pub extern "C" fn fimbrast_status_read(byte: u8) -> FlatStatus
+    ensures { λ r. ⌜ r ≡ flatStatus (readStatus byte) ⌝ }
+{
+    flat_status(TimeCodeStatus::from_byte(byte))
+}
+
+// `TimeCodeStatus::to_byte`.
+#[no_mangle]
+pub extern "C" fn fimbrast_status_byte(status: FlatStatus) -> u8
+    ensures { λ r. ⌜ r ≡ statusByte (statusOf status) ⌝ }
+{
+    status_of(status).to_byte()
+}
+
+// `StandardTimeCode::from_bytes`.
+#[no_mangle]
+pub extern "C" fn fimbrast_code_read(bytes: FiveBytes) -> FlatCode
+    ensures { λ r. ⌜ r ≡ flatCode (readStandard (getD (bytes .bytes) 0 0) (getD (bytes .bytes) 1 0) (getD (bytes .bytes) 2 0) (getD (bytes .bytes) 3 0) (getD (bytes .bytes) 4 0)) ⌝ }
+{
+    let five = bytes.bytes;
+    flat_code(StandardTimeCode::from_bytes(five))
+}
+
+// `StandardTimeCode::to_bytes`.
+#[no_mangle]
+pub extern "C" fn fimbrast_code_write(code: FlatCode) -> FlatCodeBytes
+    ensures { λ r. ⌜ (r .refusal ≡ refusalIn (standardBytes (codeOf code))) × (r .code .bytes ≡ standardLeft (codeOf code)) ⌝ }
+{
+    flat_code_bytes(code_of(code).to_bytes())
+}
+
+// `ShortTimeCode::from_bytes`.
+#[no_mangle]
+pub extern "C" fn fimbrast_short_code_read(bytes: TwoBytes) -> FlatShort
+    ensures { λ r. ⌜ r ≡ flatShort (readShort (getD (bytes .bytes) 0 0) (getD (bytes .bytes) 1 0)) ⌝ }
+{
+    let two = bytes.bytes;
+    flat_short(ShortTimeCode::from_bytes(two))
+}
+
+// `ShortTimeCode::to_bytes`.
+#[no_mangle]
+pub extern "C" fn fimbrast_short_code_write(code: FlatShort) -> FlatShortBytes
+    ensures { λ r. ⌜ (r .refusal ≡ refusalIn (shortBytes (shortOf code))) × (r .code .bytes ≡ shortLeft (shortOf code)) ⌝ }
+{
+    flat_short_bytes(short_of(code).to_bytes())
+}
+
+// `StandardTimeCode::short`.
+#[no_mangle]
+pub extern "C" fn fimbrast_code_short(code: FlatCode) -> FlatShort
+    ensures { λ r. ⌜ r ≡ flatShort (shortForm (codeOf code)) ⌝ }
+{
+    flat_short(code_of(code).short())
+}
+
+// `StandardTimeCode::with_short`.
+#[no_mangle]
+pub extern "C" fn fimbrast_code_with_short(code: FlatCode, short_code: FlatShort) -> FlatCode
+    ensures { λ r. ⌜ r ≡ flatCode (withShort (codeOf code) (shortOf «short_code»)) ⌝ }
+{
+    flat_code(code_of(code).with_short(short_of(short_code)))
+}
+
+// `StandardTimeCode::to_subframes_form`.
+#[no_mangle]
+pub extern "C" fn fimbrast_to_subframes_form(code: FlatCode) -> FlatCode
+    ensures { λ r. ⌜ r ≡ flatCode (subframesForm (codeOf code)) ⌝ }
+{
+    flat_code(code_of(code).to_subframes_form())
+}
+
+// `StandardTimeCode::to_status_form`.
+#[no_mangle]
+pub extern "C" fn fimbrast_to_status_form(code: FlatCode, video_field1: bool) -> FlatCode
+    ensures { λ r. ⌜ r ≡ flatCode (statusForm (codeOf code) «video_field1») ⌝ }
+{
+    flat_code(code_of(code).to_status_form(video_field1))
+}

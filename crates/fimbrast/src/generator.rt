@@ -1,0 +1,66 @@
+// The quarter frame generator.
+use flat::generator::FlatGenerator;
+use flat::generator::FlatSent;
+use flat::generator::direction_at;
+use flat::generator::flat_generator;
+use flat::generator::flat_sent;
+use flat::generator::generator_of;
+use flat::time::FlatTime;
+use flat::time::flat_time;
+use flat::time::time_of;
+use mtc::MtcGenerator;
+ghost use mathlib.Core.Path.{_≡_};
+ghost use Rattle.mtc.specs.Generator.{nextByte, afterNextByte, started, withRunning, withDirection, located};
+ghost use Rattle.flat.specs.Time.{timeOf, flatTime};
+ghost use Rattle.flat.specs.Generator.{directionAt, generatorOf, flatGenerator, flatSent};
+
+// `MtcGenerator::new`.
+#[no_mangle]
+pub extern "C" fn fimbrast_generator_new(time: FlatTime, direction: u8) -> FlatGenerator
+    ensures { λ r. ⌜ r ≡ flatGenerator (started (timeOf time) (directionAt direction)) ⌝ }
+{
+    flat_generator(MtcGenerator::new(time_of(time), direction_at(direction)))
+}
+
+// `MtcGenerator::next_byte`.
+#[no_mangle]
+pub extern "C" fn fimbrast_next_byte(generator: FlatGenerator) -> FlatSent
+    ensures { λ r. ⌜ r ≡ flatSent (flatGenerator (afterNextByte (generatorOf generator))) (nextByte (generatorOf generator)) ⌝ }
+{
+    let sent = generator_of(generator).next_byte();
+    let back = sent.generator;
+    let byte = sent.byte;
+    flat_sent(flat_generator(back), byte)
+}
+
+// `MtcGenerator::set_running`.
+#[no_mangle]
+pub extern "C" fn fimbrast_set_running(generator: FlatGenerator, running: bool) -> FlatGenerator
+    ensures { λ r. ⌜ r ≡ flatGenerator (withRunning (generatorOf generator) running) ⌝ }
+{
+    flat_generator(generator_of(generator).set_running(running))
+}
+
+// `MtcGenerator::set_direction`.
+#[no_mangle]
+pub extern "C" fn fimbrast_set_direction(generator: FlatGenerator, direction: u8) -> FlatGenerator
+    ensures { λ r. ⌜ r ≡ flatGenerator (withDirection (generatorOf generator) (directionAt direction)) ⌝ }
+{
+    flat_generator(generator_of(generator).set_direction(direction_at(direction)))
+}
+
+// `MtcGenerator::locate`.
+#[no_mangle]
+pub extern "C" fn fimbrast_locate(generator: FlatGenerator, time: FlatTime) -> FlatGenerator
+    ensures { λ r. ⌜ r ≡ flatGenerator (located (generatorOf generator) (timeOf time)) ⌝ }
+{
+    flat_generator(generator_of(generator).locate(time_of(time)))
+}
+
+// `MtcGenerator::time`.
+#[no_mangle]
+pub extern "C" fn fimbrast_generator_time(generator: FlatGenerator) -> FlatTime
+    ensures { λ r. ⌜ r ≡ flatTime (generatorOf generator .time) ⌝ }
+{
+    flat_time(generator_of(generator).time())
+}

@@ -1,0 +1,119 @@
+// Universal messages, full messages, user bits, and machine control messages, by their split parts.
+use flat::message::FlatFullMessage;
+use flat::message::FlatMmcMessage;
+use flat::message::FlatReadUserBits;
+use flat::message::FlatUniversal;
+use flat::message::FlatUserBits;
+use flat::message::FourBytes;
+use flat::message::bits_of;
+use flat::message::flat_full_message;
+use flat::message::flat_mmc_message;
+use flat::message::flat_user_bits;
+use flat::message::universal_of;
+use flat::refusal::FlatWritten;
+use flat::refusal::flat_written;
+use flat::time::FlatTime;
+use flat::time::time_of;
+use mmc::MmcMessage;
+use mtc::FullMessage;
+use mtc::UserBits;
+use universal::Universal;
+ghost use mathlib.Core.Path.{_≡_};
+ghost use lib.ListN.{length};
+ghost use Rattle.universal.specs.Emission.{answer};
+ghost use Rattle.universal.specs.Message.{isAddressed, hasSubId2, message};
+ghost use Rattle.universal.specs.Overlay.{overlay};
+ghost use Rattle.mtc.specs.FullMessage.{fullMessage, fullMessageFrom, fullMessageWritten};
+ghost use Rattle.mtc.specs.UserBits.{userBitsFrom, userBitsWritten, groupBytes};
+ghost use Rattle.mmc.specs.Message.{messageFrom};
+ghost use Rattle.flat.specs.Refusal.{flatWritten};
+ghost use Rattle.flat.specs.Time.{timeOf};
+ghost use Rattle.flat.specs.Message.{universalOf, bitsOf, flatFullMessage, flatUserBits, flatMmcMessage};
+
+// `addressed`.
+#[no_mangle]
+pub extern "C" fn fimbrast_addressed(device_id: u8, own: u8) -> bool
+    ensures { λ r. ⌜ r ≡ isAddressed «device_id» own ⌝ }
+{
+    universal::addressed(device_id, own)
+}
+
+// `has_sub_id2`.
+#[no_mangle]
+pub extern "C" fn fimbrast_has_sub_id2(real_time: bool, sub_id1: u8) -> bool
+    ensures { λ r. ⌜ r ≡ hasSubId2 «real_time» «sub_id1» ⌝ }
+{
+    universal::has_sub_id2(real_time, sub_id1)
+}
+
+// `Universal::write`.
+#[no_mangle]
+pub extern "C" fn fimbrast_universal_write(
+    header: FlatUniversal,
+    data: &[u8],
+    out: &mut [u8],
+) -> FlatWritten
+    ensures { λ r. ⌜ r ≡ flatWritten (answer (message (universalOf header) (now («data» .entry))) (length (now (out .entry)))) ⌝ }
+    ensures { λ _. ⌜ now (out .exit) ≡ overlay (now (out .entry)) 0 (message (universalOf header) (now («data» .entry)) .bytes) ⌝ }
+{
+    flat_written(universal_of(header).write(data, out))
+}
+
+// `FullMessage::from_universal`.
+#[no_mangle]
+pub extern "C" fn fimbrast_full_message_read(header: FlatUniversal, data: &[u8]) -> FlatFullMessage
+    ensures { λ r. ⌜ r ≡ flatFullMessage (fullMessageFrom (universalOf header) (now («data» .entry))) ⌝ }
+{
+    flat_full_message(FullMessage::from_universal(universal_of(header), data))
+}
+
+// `FullMessage::write`.
+#[no_mangle]
+pub extern "C" fn fimbrast_full_message_write(
+    device_id: u8,
+    time: FlatTime,
+    out: &mut [u8],
+) -> FlatWritten
+    ensures { λ r. ⌜ r ≡ flatWritten (answer (fullMessageWritten (fullMessage «device_id» (timeOf time))) (length (now (out .entry)))) ⌝ }
+    ensures { λ _. ⌜ now (out .exit) ≡ overlay (now (out .entry)) 0 (fullMessageWritten (fullMessage «device_id» (timeOf time)) .bytes) ⌝ }
+{
+    let message = FullMessage {
+        device_id,
+        time: time_of(time),
+    };
+    flat_written(message.write(out))
+}
+
+// `UserBits::from_universal`.
+#[no_mangle]
+pub extern "C" fn fimbrast_user_bits_read(header: FlatUniversal, data: &[u8]) -> FlatReadUserBits
+    ensures { λ r. ⌜ r ≡ flatUserBits (userBitsFrom (universalOf header) (now («data» .entry))) ⌝ }
+{
+    flat_user_bits(UserBits::from_universal(universal_of(header), data))
+}
+
+// `UserBits::write`.
+#[no_mangle]
+pub extern "C" fn fimbrast_user_bits_write(bits: FlatUserBits, out: &mut [u8]) -> FlatWritten
+    ensures { λ r. ⌜ r ≡ flatWritten (answer (userBitsWritten (bitsOf bits)) (length (now (out .entry)))) ⌝ }
+    ensures { λ _. ⌜ now (out .exit) ≡ overlay (now (out .entry)) 0 (userBitsWritten (bitsOf bits) .bytes) ⌝ }
+{
+    flat_written(bits_of(bits).write(out))
+}
+
+// `UserBits::to_bytes`.
+#[no_mangle]
+pub extern "C" fn fimbrast_user_bits_bytes(bits: FlatUserBits) -> FourBytes
+    ensures { λ r. ⌜ r .bytes ≡ groupBytes (bitsOf bits .groups) ⌝ }
+{
+    let bytes = bits_of(bits).to_bytes();
+    FourBytes { bytes }
+}
+
+// `MmcMessage::from_universal`.
+#[no_mangle]
+pub extern "C" fn fimbrast_mmc_message_read(header: FlatUniversal, data: &[u8]) -> FlatMmcMessage
+    ensures { λ r. ⌜ r ≡ flatMmcMessage (messageFrom (universalOf header) (now («data» .entry))) ⌝ }
+{
+    flat_mmc_message(MmcMessage::from_universal(universal_of(header), data))
+}

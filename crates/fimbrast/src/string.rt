@@ -1,0 +1,25 @@
+// Command and field strings: one item after another.
+use flat::string::FlatNextCommand;
+use flat::string::FlatNextField;
+use flat::string::flat_next_command;
+use flat::string::flat_next_field;
+ghost use mathlib.Core.Path.{_≡_};
+ghost use Rattle.mmc.specs.Command.{nextCommand};
+ghost use Rattle.mmc.specs.Field.{nextField};
+ghost use Rattle.flat.specs.String.{flatNextCommand, flatNextField};
+
+// The next of `Commands`: the command at a place of the string.
+#[no_mangle]
+pub extern "C" fn fimbrast_next_command(body: &[u8], place: usize) -> FlatNextCommand
+    ensures { λ r. ⌜ r ≡ flatNextCommand (nextCommand (now (body .entry)) place) ⌝ }
+{
+    flat_next_command(mmc::next_command(body, place))
+}
+
+// The next of `InfoFields`: the field at a place of the string.
+#[no_mangle]
+pub extern "C" fn fimbrast_next_field(body: &[u8], place: usize) -> FlatNextField
+    ensures { λ r. ⌜ r ≡ flatNextField (nextField (now (body .entry)) place) ⌝ }
+{
+    flat_next_field(mmc::next_field(body, place))
+}

@@ -1,0 +1,101 @@
+// Labels, and the quarter frames of a label.
+use flat::time::EightBytes;
+use flat::time::FlatFrame;
+use flat::time::FlatTime;
+use flat::time::flat_frame;
+use flat::time::flat_new;
+use flat::time::flat_time;
+use flat::time::frame_of;
+use flat::time::time_of;
+use mtc::MtcTime;
+use mtc::QuarterFrame;
+use mtc::TimeCodeType;
+ghost use mathlib.Core.Path.{_≡_};
+ghost use Rattle.mtc.specs.QuarterFrame.{fromByte, toByte, pieces};
+ghost use Rattle.mtc.specs.St12.{framesPerSecond, isValid};
+ghost use Rattle.mtc.specs.Time.{newTime, nextValid, frameCount, labelAt, addFrames, typeOf};
+ghost use Rattle.flat.specs.Refusal.{refusalIn};
+ghost use Rattle.flat.specs.Time.{timeOf, flatTime, frameOf, flatFrame};
+
+// The frames of a counting second.
+#[no_mangle]
+pub extern "C" fn fimbrast_frames_per_second(rate: u8) -> u8
+    ensures { λ r. ⌜ r ≡ framesPerSecond (typeOf rate) ⌝ }
+{
+    TimeCodeType::from_bits(rate).frames_per_second()
+}
+
+// `MtcTime::new`: 0, or 3 for a label that is not valid.
+#[no_mangle]
+pub extern "C" fn fimbrast_time_new(time: FlatTime) -> u8
+    ensures { λ r. ⌜ r ≡ refusalIn (newTime (timeOf time)) ⌝ }
+{
+    let t = time_of(time);
+    let rate = t.rate;
+    flat_new(MtcTime::new(t.hours, t.minutes, t.seconds, t.frames, rate))
+}
+
+// `MtcTime::is_valid`.
+#[no_mangle]
+pub extern "C" fn fimbrast_is_valid(time: FlatTime) -> bool
+    ensures { λ r. ⌜ r ≡ isValid (timeOf time) ⌝ }
+{
+    time_of(time).is_valid()
+}
+
+// `MtcTime::next_valid`.
+#[no_mangle]
+pub extern "C" fn fimbrast_next_valid(time: FlatTime) -> FlatTime
+    ensures { λ r. ⌜ r ≡ flatTime (nextValid (timeOf time)) ⌝ }
+{
+    flat_time(time_of(time).next_valid())
+}
+
+// `MtcTime::to_frame_count`.
+#[no_mangle]
+pub extern "C" fn fimbrast_to_frame_count(time: FlatTime) -> u32
+    ensures { λ r. ⌜ r ≡ frameCount (timeOf time) ⌝ }
+{
+    time_of(time).to_frame_count()
+}
+
+// `MtcTime::from_frame_count`.
+#[no_mangle]
+pub extern "C" fn fimbrast_from_frame_count(count: u32, rate: u8) -> FlatTime
+    ensures { λ r. ⌜ r ≡ flatTime (labelAt count (typeOf rate)) ⌝ }
+{
+    flat_time(MtcTime::from_frame_count(count, TimeCodeType::from_bits(rate)))
+}
+
+// `MtcTime::add_frames`.
+#[no_mangle]
+pub extern "C" fn fimbrast_add_frames(time: FlatTime, delta: i32) -> FlatTime
+    ensures { λ r. ⌜ r ≡ flatTime (addFrames (timeOf time) delta) ⌝ }
+{
+    flat_time(time_of(time).add_frames(delta))
+}
+
+// `QuarterFrame::from_byte`.
+#[no_mangle]
+pub extern "C" fn fimbrast_quarter_frame_read(byte: u8) -> FlatFrame
+    ensures { λ r. ⌜ r ≡ flatFrame (fromByte byte) ⌝ }
+{
+    flat_frame(QuarterFrame::from_byte(byte))
+}
+
+// `QuarterFrame::to_byte`.
+#[no_mangle]
+pub extern "C" fn fimbrast_quarter_frame_byte(frame: FlatFrame) -> u8
+    ensures { λ r. ⌜ r ≡ toByte (frameOf frame) ⌝ }
+{
+    frame_of(frame).to_byte()
+}
+
+// `QuarterFrame::pieces`.
+#[no_mangle]
+pub extern "C" fn fimbrast_pieces(time: FlatTime) -> EightBytes
+    ensures { λ r. ⌜ r .bytes ≡ pieces (timeOf time) ⌝ }
+{
+    let bytes = QuarterFrame::pieces(time_of(time));
+    EightBytes { bytes }
+}

@@ -1,0 +1,93 @@
+// Writing a string: opened, given its items one at a time, and closed.
+use flat::refusal::FlatWritten;
+use flat::refusal::flat_written;
+use flat::string::FlatCommand;
+use flat::string::FlatField;
+use flat::string::command_of;
+use flat::string::field_of;
+use flat::write::FlatWriter;
+use flat::write::flat_writer;
+use flat::write::writer_of;
+ghost use mathlib.Core.Path.{_≡_};
+ghost use lib.ListN.{length};
+ghost use Rattle.universal.specs.Overlay.{overlay};
+ghost use Rattle.mmc.specs.Item.{commandItem, fieldItem};
+ghost use Rattle.mmc.specs.Write.{openedCommands, openedResponses, openedFields, begun, admitted, given, closedMessage, wholeMessage, wholeFields};
+ghost use Rattle.flat.specs.Refusal.{flatWritten};
+ghost use Rattle.flat.specs.String.{commandOf, fieldOf};
+ghost use Rattle.flat.specs.Write.{writingAt, flatWriter};
+
+// `write_commands` opens: F0H, 7FH, the device, 06H.
+#[no_mangle]
+pub extern "C" fn fimbrast_open_commands(out: &mut [u8], device_id: u8) -> FlatWriter
+    ensures { λ r. ⌜ r ≡ flatWriter (begun (openedCommands «device_id»)) ⌝ }
+    ensures { λ _. ⌜ now (out .exit) ≡ overlay (now (out .entry)) 0 (openedCommands «device_id» .bytes) ⌝ }
+{
+    flat_writer(mmc::open_commands(out, device_id))
+}
+
+// `write_responses` opens: F0H, 7FH, the device, 07H.
+#[no_mangle]
+pub extern "C" fn fimbrast_open_responses(out: &mut [u8], device_id: u8) -> FlatWriter
+    ensures { λ r. ⌜ r ≡ flatWriter (begun (openedResponses «device_id»)) ⌝ }
+    ensures { λ _. ⌜ now (out .exit) ≡ overlay (now (out .entry)) 0 (openedResponses «device_id» .bytes) ⌝ }
+{
+    flat_writer(mmc::open_responses(out, device_id))
+}
+
+// `write_info_fields` opens.
+#[no_mangle]
+pub extern "C" fn fimbrast_open_fields() -> FlatWriter
+    ensures { λ r. ⌜ r ≡ flatWriter openedFields ⌝ }
+{
+    flat_writer(mmc::open_fields())
+}
+
+// One command; its parts lie in the lent source.
+#[no_mangle]
+pub extern "C" fn fimbrast_put_command(
+    writer: FlatWriter,
+    out: &mut [u8],
+    source: &[u8],
+    command: FlatCommand,
+) -> FlatWriter
+    ensures { λ r. ⌜ r ≡ flatWriter (given (writingAt writer) (commandItem (now (source .entry)) (commandOf command))) ⌝ }
+    ensures { λ _. ⌜ now (out .exit) ≡ overlay (now (out .entry)) (writingAt writer .at) (admitted (writingAt writer) (commandItem (now (source .entry)) (commandOf command)) .bytes) ⌝ }
+{
+    let wrote = writer_of(writer).put_command(out, source, command_of(command));
+    let back = wrote.writer;
+    flat_writer(back)
+}
+
+// One field, likewise.
+#[no_mangle]
+pub extern "C" fn fimbrast_put_field(
+    writer: FlatWriter,
+    out: &mut [u8],
+    source: &[u8],
+    field: FlatField,
+) -> FlatWriter
+    ensures { λ r. ⌜ r ≡ flatWriter (given (writingAt writer) (fieldItem (now (source .entry)) (fieldOf field))) ⌝ }
+    ensures { λ _. ⌜ now (out .exit) ≡ overlay (now (out .entry)) (writingAt writer .at) (admitted (writingAt writer) (fieldItem (now (source .entry)) (fieldOf field)) .bytes) ⌝ }
+{
+    let wrote = writer_of(writer).put_field(out, source, field_of(field));
+    let back = wrote.writer;
+    flat_writer(back)
+}
+
+// `write_commands` and `write_responses` close.
+#[no_mangle]
+pub extern "C" fn fimbrast_close_message(writer: FlatWriter, out: &mut [u8]) -> FlatWritten
+    ensures { λ r. ⌜ r ≡ flatWritten (wholeMessage (writingAt writer) (length (now (out .entry)))) ⌝ }
+    ensures { λ _. ⌜ now (out .exit) ≡ overlay (now (out .entry)) (writingAt writer .at) (closedMessage (writingAt writer) .bytes) ⌝ }
+{
+    flat_written(writer_of(writer).close_message(out))
+}
+
+// `write_info_fields` closes.
+#[no_mangle]
+pub extern "C" fn fimbrast_close_fields(writer: FlatWriter, out: &[u8]) -> FlatWritten
+    ensures { λ r. ⌜ r ≡ flatWritten (wholeFields (writingAt writer) (length (now (out .entry)))) ⌝ }
+{
+    flat_written(writer_of(writer).close_fields(out))
+}

@@ -1,0 +1,9 @@
+pub mod Apply
+pub mod Code
+pub mod Generator
+pub mod Message
+pub mod Reader
+pub mod Refusal
+pub mod String
+pub mod Time
+pub mod Write

@@ -1,0 +1,26 @@
+-- Labels and quarter frames as flat records, and back. Assumes nothing.
+use Prim.Native.Nat.{ℕ}
+use Rattle.flat.specs.declared.time.FlatFrame.{FlatFrame}
+use Rattle.flat.specs.declared.time.FlatTime.{FlatTime}
+use Rattle.mtc.specs.Time.{bitsOf, typeOf}
+use Rattle.mtc.specs.declared.quarter_frame.QuarterFrame.{QuarterFrame}
+use Rattle.mtc.specs.declared.time.MtcTime.{MtcTime}
+
+-- The label: of the rate only the two low bits are read.
+unfoldable pub timeOf : FlatTime → MtcTime
+timeOf t =
+    record { hours = t .hours; minutes = t .minutes; seconds = t .seconds; frames = t .frames; rate = typeOf (t .rate) }
+
+unfoldable pub flatTime : MtcTime → FlatTime
+flatTime t =
+    record { hours = t .hours; minutes = t .minutes; seconds = t .seconds; frames = t .frames; rate = bitsOf (t .rate) }
+
+unfoldable pub frameOf : FlatFrame → QuarterFrame
+frameOf q = record { piece = q .piece; value = q .value }
+
+unfoldable pub flatFrame : QuarterFrame → FlatFrame
+flatFrame q = record { piece = q .piece; value = q .value }
+
+-- All zeros, where there is no label.
+abbrev pub noTime : FlatTime
+noTime = record { hours = 0; minutes = 0; seconds = 0; frames = 0; rate = 0 }
