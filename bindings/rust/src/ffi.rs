@@ -1,0 +1,331 @@
+//! The library's records and calls, as `fimbrast.h` declares them. The rest of the crate has no unsafe code.
+//!
+//! A call on values alone is declared safe: it is total, keeps nothing, and any record may be given to it. A `bool` that comes
+//! back is 0 or 1. A call on lent bytes has a wrapper here that takes a slice.
+
+/// An answer that is no refusal: another kind of message, or a message for another device.
+pub(crate) const NOT_THIS: u8 = 255;
+pub(crate) const FORWARD: u8 = 0;
+pub(crate) const REVERSE: u8 = 1;
+
+pub(crate) const STOP: u8 = 0;
+pub(crate) const PLAY: u8 = 1;
+pub(crate) const DEFERRED_PLAY: u8 = 2;
+pub(crate) const FAST_FORWARD: u8 = 3;
+pub(crate) const REWIND: u8 = 4;
+pub(crate) const RECORD_STROBE: u8 = 5;
+pub(crate) const RECORD_EXIT: u8 = 6;
+pub(crate) const PAUSE: u8 = 7;
+pub(crate) const RESET: u8 = 8;
+pub(crate) const WRITE: u8 = 9;
+pub(crate) const LOCATE_FIELD: u8 = 10;
+pub(crate) const LOCATE_TARGET: u8 = 11;
+pub(crate) const MOVE: u8 = 12;
+pub(crate) const OTHER_COMMAND: u8 = 13;
+
+pub(crate) const TIME_CODE: u8 = 0;
+pub(crate) const SHORT: u8 = 1;
+pub(crate) const OTHER_FIELD: u8 = 2;
+
+/// Declares records with the layout of C.
+macro_rules! records {
+    ($($(#[$note:meta])* $name:ident { $($field:ident: $type:ty),* $(,)? })*) => {
+        $(
+            $(#[$note])*
+            #[derive(Debug, Clone, Copy, PartialEq, Eq)]
+            #[repr(C)]
+            pub(crate) struct $name {
+                $(pub(crate) $field: $type,)*
+            }
+        )*
+    };
+}
+
+records! {
+    #[derive(Default)]
+    Time { hours: u8, minutes: u8, seconds: u8, frames: u8, rate: u8 }
+    #[derive(Default)]
+    MaybeTime { present: bool, time: Time }
+    QuarterFrame { piece: u8, value: u8 }
+    EightBytes { bytes: [u8; 8] }
+    Generator { time: Time, direction: u8, last: u8, running: bool }
+    Sent { generator: Generator, refusal: u8, byte: u8 }
+    Reader {
+        nibbles: [u8; 8],
+        count: u8,
+        first: u8,
+        last: u8,
+        direction: u8,
+        locked: bool,
+        running: bool,
+        previous: MaybeTime,
+        time: MaybeTime,
+    }
+    Sequence { raw: Time, current: Time, direction: u8, discontinuity: bool }
+    MaybeSequence { present: bool, sequence: Sequence }
+    Event { piece: u8, boundary: bool, report: MaybeSequence }
+    Received { reader: Reader, event: Event }
+    Fed { reader: Reader, reports: usize, discontinuities: usize, last: MaybeSequence }
+    Universal { real_time: bool, device_id: u8, sub_id1: u8, has_sub_id2: bool, sub_id2: u8 }
+    Written { refusal: u8, length: usize }
+    FullMessage { answer: u8, device_id: u8, time: Time }
+    UserBits { device_id: u8, groups: [u8; 8], flags: u8 }
+    ReadUserBits { answer: u8, bits: UserBits }
+    FourBytes { bytes: [u8; 4] }
+    MmcMessage { answer: u8, responses: bool, device_id: u8 }
+    Status { estimated: bool, invalid: bool, video_field1: bool, no_time_code: bool }
+    #[derive(Default)]
+    Code { time: Time, color_frame: bool, blank: bool, negative: bool, status: bool, last: u8 }
+    #[derive(Default)]
+    ShortCode { frames: u8, negative: bool, status: bool, last: u8 }
+    FiveBytes { bytes: [u8; 5] }
+    TwoBytes { bytes: [u8; 2] }
+    CodeBytes { refusal: u8, code: FiveBytes }
+    ShortCodeBytes { refusal: u8, code: TwoBytes }
+    #[derive(Default)]
+    Part { start: usize, length: usize }
+    #[derive(Default)]
+    Command { kind: u8, first: u8, second: u8, code: Code, name: Part, data: Part }
+    NextCommand { refusal: u8, command: Command, place: usize }
+    #[derive(Default)]
+    Field { kind: u8, field: u8, code: Code, short_code: ShortCode, name: Part, data: Part }
+    NextField { refusal: u8, field: Field, place: usize }
+    Writer { at: usize, items: usize, refusal: u8, needed: usize }
+    Applied { generator: Generator, answer: u8 }
+    Run { generator: Generator, commands: usize, refused: usize, stop: u8 }
+}
+
+impl Part {
+    /// The first `length` bytes of a source.
+    pub(crate) const fn whole(length: usize) -> Self {
+        Self { start: 0, length }
+    }
+
+    /// The bytes of the part, which are none where it does not lie inside.
+    pub(crate) fn of(self, bytes: &[u8]) -> &[u8] {
+        bytes
+            .get(self.start..)
+            .and_then(|rest| rest.get(..self.length))
+            .unwrap_or(&[])
+    }
+}
+
+unsafe extern "C" {
+    pub(crate) safe fn fimbrast_frames_per_second(rate: u8) -> u8;
+    pub(crate) safe fn fimbrast_time_new(time: Time) -> u8;
+    pub(crate) safe fn fimbrast_is_valid(time: Time) -> bool;
+    pub(crate) safe fn fimbrast_next_valid(time: Time) -> Time;
+    pub(crate) safe fn fimbrast_to_frame_count(time: Time) -> u32;
+    pub(crate) safe fn fimbrast_from_frame_count(count: u32, rate: u8) -> Time;
+    pub(crate) safe fn fimbrast_add_frames(time: Time, delta: i32) -> Time;
+
+    pub(crate) safe fn fimbrast_quarter_frame_read(byte: u8) -> QuarterFrame;
+    pub(crate) safe fn fimbrast_quarter_frame_byte(frame: QuarterFrame) -> u8;
+    pub(crate) safe fn fimbrast_pieces(time: Time) -> EightBytes;
+
+    pub(crate) safe fn fimbrast_generator_new(time: Time, direction: u8) -> Generator;
+    pub(crate) safe fn fimbrast_next_byte(generator: Generator) -> Sent;
+    pub(crate) safe fn fimbrast_set_running(generator: Generator, running: bool) -> Generator;
+    pub(crate) safe fn fimbrast_set_direction(generator: Generator, direction: u8) -> Generator;
+    pub(crate) safe fn fimbrast_locate(generator: Generator, time: Time) -> Generator;
+    pub(crate) safe fn fimbrast_generator_time(generator: Generator) -> Time;
+
+    pub(crate) safe fn fimbrast_reader_new() -> Reader;
+    pub(crate) safe fn fimbrast_receive(reader: Reader, byte: u8) -> Received;
+    fn fimbrast_feed(reader: Reader, bytes: *const u8, length: usize) -> Fed;
+    pub(crate) safe fn fimbrast_reader_full_message(reader: Reader, time: Time) -> Reader;
+    pub(crate) safe fn fimbrast_is_locked(reader: Reader) -> bool;
+    pub(crate) safe fn fimbrast_is_running(reader: Reader) -> bool;
+    pub(crate) safe fn fimbrast_reader_direction(reader: Reader) -> u8;
+    pub(crate) safe fn fimbrast_reader_time(reader: Reader) -> MaybeTime;
+
+    pub(crate) safe fn fimbrast_addressed(device_id: u8, own: u8) -> bool;
+    pub(crate) safe fn fimbrast_has_sub_id2(real_time: bool, sub_id1: u8) -> bool;
+    fn fimbrast_universal_write(
+        header: Universal,
+        data: *const u8,
+        data_length: usize,
+        out: *mut u8,
+        out_length: usize,
+    ) -> Written;
+    fn fimbrast_full_message_read(header: Universal, data: *const u8, length: usize)
+        -> FullMessage;
+    fn fimbrast_full_message_write(
+        device_id: u8,
+        time: Time,
+        out: *mut u8,
+        out_length: usize,
+    ) -> Written;
+    fn fimbrast_user_bits_read(header: Universal, data: *const u8, length: usize) -> ReadUserBits;
+    fn fimbrast_user_bits_write(bits: UserBits, out: *mut u8, out_length: usize) -> Written;
+    pub(crate) safe fn fimbrast_user_bits_bytes(bits: UserBits) -> FourBytes;
+    fn fimbrast_mmc_message_read(header: Universal, data: *const u8, length: usize) -> MmcMessage;
+
+    pub(crate) safe fn fimbrast_short_name(field: u8) -> u8;
+    pub(crate) safe fn fimbrast_full_name(short_name: u8) -> u8;
+    pub(crate) safe fn fimbrast_status_read(byte: u8) -> Status;
+    pub(crate) safe fn fimbrast_status_byte(status: Status) -> u8;
+    pub(crate) safe fn fimbrast_code_read(bytes: FiveBytes) -> Code;
+    pub(crate) safe fn fimbrast_code_write(code: Code) -> CodeBytes;
+    pub(crate) safe fn fimbrast_short_code_read(bytes: TwoBytes) -> ShortCode;
+    pub(crate) safe fn fimbrast_short_code_write(code: ShortCode) -> ShortCodeBytes;
+    pub(crate) safe fn fimbrast_code_short(code: Code) -> ShortCode;
+    pub(crate) safe fn fimbrast_code_with_short(code: Code, short_code: ShortCode) -> Code;
+    pub(crate) safe fn fimbrast_to_subframes_form(code: Code) -> Code;
+    pub(crate) safe fn fimbrast_to_status_form(code: Code, video_field1: bool) -> Code;
+
+    fn fimbrast_next_command(body: *const u8, length: usize, place: usize) -> NextCommand;
+    fn fimbrast_next_field(body: *const u8, length: usize, place: usize) -> NextField;
+
+    fn fimbrast_open_commands(out: *mut u8, out_length: usize, device_id: u8) -> Writer;
+    fn fimbrast_open_responses(out: *mut u8, out_length: usize, device_id: u8) -> Writer;
+    pub(crate) safe fn fimbrast_open_fields() -> Writer;
+    fn fimbrast_put_command(
+        writer: Writer,
+        out: *mut u8,
+        out_length: usize,
+        source: *const u8,
+        source_length: usize,
+        command: Command,
+    ) -> Writer;
+    fn fimbrast_put_field(
+        writer: Writer,
+        out: *mut u8,
+        out_length: usize,
+        source: *const u8,
+        source_length: usize,
+        field: Field,
+    ) -> Writer;
+    fn fimbrast_close_message(writer: Writer, out: *mut u8, out_length: usize) -> Written;
+    fn fimbrast_close_fields(writer: Writer, out: *const u8, out_length: usize) -> Written;
+
+    pub(crate) safe fn fimbrast_apply(
+        generator: Generator,
+        device_id: u8,
+        own: u8,
+        command: Command,
+    ) -> Applied;
+    fn fimbrast_obey(
+        generator: Generator,
+        device_id: u8,
+        own: u8,
+        body: *const u8,
+        length: usize,
+    ) -> Run;
+}
+
+// In each call below the pointers and lengths are those of live slices, the one that is written is borrowed alone, and the
+// library stays inside them and keeps none.
+
+pub(crate) fn feed(reader: Reader, bytes: &[u8]) -> Fed {
+    // SAFETY: `bytes` is a live slice.
+    unsafe { fimbrast_feed(reader, bytes.as_ptr(), bytes.len()) }
+}
+
+pub(crate) fn universal_write(header: Universal, data: &[u8], out: &mut [u8]) -> Written {
+    // SAFETY: `data` and `out` are live slices, and `out` is borrowed alone.
+    unsafe {
+        fimbrast_universal_write(
+            header,
+            data.as_ptr(),
+            data.len(),
+            out.as_mut_ptr(),
+            out.len(),
+        )
+    }
+}
+
+pub(crate) fn full_message_read(header: Universal, data: &[u8]) -> FullMessage {
+    // SAFETY: `data` is a live slice.
+    unsafe { fimbrast_full_message_read(header, data.as_ptr(), data.len()) }
+}
+
+pub(crate) fn full_message_write(device_id: u8, time: Time, out: &mut [u8]) -> Written {
+    // SAFETY: `out` is a live slice, borrowed alone.
+    unsafe { fimbrast_full_message_write(device_id, time, out.as_mut_ptr(), out.len()) }
+}
+
+pub(crate) fn user_bits_read(header: Universal, data: &[u8]) -> ReadUserBits {
+    // SAFETY: `data` is a live slice.
+    unsafe { fimbrast_user_bits_read(header, data.as_ptr(), data.len()) }
+}
+
+pub(crate) fn user_bits_write(bits: UserBits, out: &mut [u8]) -> Written {
+    // SAFETY: `out` is a live slice, borrowed alone.
+    unsafe { fimbrast_user_bits_write(bits, out.as_mut_ptr(), out.len()) }
+}
+
+pub(crate) fn mmc_message_read(header: Universal, data: &[u8]) -> MmcMessage {
+    // SAFETY: `data` is a live slice.
+    unsafe { fimbrast_mmc_message_read(header, data.as_ptr(), data.len()) }
+}
+
+/// The command at the front of `body`.
+pub(crate) fn next_command(body: &[u8]) -> NextCommand {
+    // SAFETY: `body` is a live slice.
+    unsafe { fimbrast_next_command(body.as_ptr(), body.len(), 0) }
+}
+
+/// The information field at the front of `body`.
+pub(crate) fn next_field(body: &[u8]) -> NextField {
+    // SAFETY: `body` is a live slice.
+    unsafe { fimbrast_next_field(body.as_ptr(), body.len(), 0) }
+}
+
+pub(crate) fn open_commands(out: &mut [u8], device_id: u8) -> Writer {
+    // SAFETY: `out` is a live slice, borrowed alone.
+    unsafe { fimbrast_open_commands(out.as_mut_ptr(), out.len(), device_id) }
+}
+
+pub(crate) fn open_responses(out: &mut [u8], device_id: u8) -> Writer {
+    // SAFETY: `out` is a live slice, borrowed alone.
+    unsafe { fimbrast_open_responses(out.as_mut_ptr(), out.len(), device_id) }
+}
+
+pub(crate) fn put_command(
+    writer: Writer,
+    out: &mut [u8],
+    source: &[u8],
+    command: Command,
+) -> Writer {
+    // SAFETY: `out` and `source` are live slices, and `out` is borrowed alone.
+    unsafe {
+        fimbrast_put_command(
+            writer,
+            out.as_mut_ptr(),
+            out.len(),
+            source.as_ptr(),
+            source.len(),
+            command,
+        )
+    }
+}
+
+pub(crate) fn put_field(writer: Writer, out: &mut [u8], source: &[u8], field: Field) -> Writer {
+    // SAFETY: `out` and `source` are live slices, and `out` is borrowed alone.
+    unsafe {
+        fimbrast_put_field(
+            writer,
+            out.as_mut_ptr(),
+            out.len(),
+            source.as_ptr(),
+            source.len(),
+            field,
+        )
+    }
+}
+
+pub(crate) fn close_message(writer: Writer, out: &mut [u8]) -> Written {
+    // SAFETY: `out` is a live slice, borrowed alone.
+    unsafe { fimbrast_close_message(writer, out.as_mut_ptr(), out.len()) }
+}
+
+pub(crate) fn close_fields(writer: Writer, out: &[u8]) -> Written {
+    // SAFETY: `out` is a live slice.
+    unsafe { fimbrast_close_fields(writer, out.as_ptr(), out.len()) }
+}
+
+pub(crate) fn obey(generator: Generator, device_id: u8, own: u8, body: &[u8]) -> Run {
+    // SAFETY: `body` is a live slice.
+    unsafe { fimbrast_obey(generator, device_id, own, body.as_ptr(), body.len()) }
+}

@@ -1,0 +1,709 @@
+//! MIDI Machine Control, the transport tier (RP-013 v1.0).
+//!
+//! - A command message is `F0 7F <device ID> 06 <commands> F7`, a response `F0 7F <device ID> 07 <responses> F7` (p. 1).
+//!   [`MmcMessage`] reads both from their split parts, [`Commands`] and [`InfoFields`] read the strings item by item, and
+//!   [`write_commands`], [`write_responses`] and [`write_info_fields`] write them.
+//! - The byte after at most two 00H prefixes gives an item's length (p. 5), known or not. What is not known here, or has data
+//!   that does not fit, is `Other`.
+//! - [`StandardTimeCode`] and [`ShortTimeCode`] are the five and two bytes of a time code (pp. 8, 9). A reader keeps the raw
+//!   counts and ignores the reserved bits; a writer refuses a value out of range.
+//!
+//! A response from 7FH is read as it came, and is not valid. No call allocates or panics.
+
+use crate::ffi;
+use crate::mtc::MtcTime;
+use crate::universal::{written, SysexError, Universal};
+
+/// The largest command or response string of one message, in bytes (p. 1).
+pub const MAX_STRING: usize = 48;
+
+/// The command names of the transport tier (p. 14).
+pub mod command {
+    /// 01H STOP.
+    pub const STOP: u8 = 0x01;
+    /// 02H PLAY.
+    pub const PLAY: u8 = 0x02;
+    /// 03H DEFERRED PLAY.
+    pub const DEFERRED_PLAY: u8 = 0x03;
+    /// 04H FAST FORWARD.
+    pub const FAST_FORWARD: u8 = 0x04;
+    /// 05H REWIND.
+    pub const REWIND: u8 = 0x05;
+    /// 06H RECORD STROBE.
+    pub const RECORD_STROBE: u8 = 0x06;
+    /// 07H RECORD EXIT.
+    pub const RECORD_EXIT: u8 = 0x07;
+    /// 09H PAUSE.
+    pub const PAUSE: u8 = 0x09;
+    /// 0DH MMC RESET.
+    pub const MMC_RESET: u8 = 0x0D;
+    /// 40H WRITE.
+    pub const WRITE: u8 = 0x40;
+    /// 44H LOCATE.
+    pub const LOCATE: u8 = 0x44;
+    /// 4CH MOVE.
+    pub const MOVE: u8 = 0x4C;
+}
+
+/// The information field names of the transport tier (pp. 44, 47).
+pub mod field {
+    /// 01H SELECTED TIME CODE: time code with status, not negative.
+    pub const SELECTED_TIME_CODE: u8 = 0x01;
+    /// 08H GP0 / LOCATE POINT: time code with subframes, signed.
+    pub const GP0: u8 = 0x08;
+}
+
+/// A name, where it is not 0.
+const fn named(name: u8) -> Option<u8> {
+    match name {
+        0 => None,
+        n => Some(n),
+    }
+}
+
+/// The short name of a time code field: 01H to 1FH have one (p. 9).
+///
+/// ```
+/// use fimbrast::mmc::{full_name, short_name};
+///
+/// assert_eq!(short_name(0x08), Some(0x28));
+/// assert_eq!(full_name(0x28), Some(0x08));
+/// assert_eq!(short_name(0x20), None);
+/// ```
+pub fn short_name(field: u8) -> Option<u8> {
+    named(ffi::fimbrast_short_name(field))
+}
+
+/// The time code field of a short name, 21H to 3FH (p. 9).
+pub fn full_name(short: u8) -> Option<u8> {
+    named(ffi::fimbrast_full_name(short))
+}
+
+/// The status byte `0evdnxxx` of a time code (p. 9).
+#[derive(Debug, Clone, Copy, PartialEq, Eq, Hash, Default)]
+pub struct TimeCodeStatus {
+    /// e: the code is estimated.
+    pub estimated: bool,
+    /// v: the code is invalid (to be ignored when e is 1).
+    pub invalid: bool,
+    /// d: video field 1.
+    pub video_field1: bool,
+    /// n: no time code came to the reader's input since power up or an MMC RESET.
+    pub no_time_code: bool,
+}
+
+impl TimeCodeStatus {
+    /// The flags of a status byte; the reserved bits are ignored.
+    pub fn from_byte(byte: u8) -> Self {
+        let s = ffi::fimbrast_status_read(byte);
+        Self {
+            estimated: s.estimated,
+            invalid: s.invalid,
+            video_field1: s.video_field1,
+            no_time_code: s.no_time_code,
+        }
+    }
+
+    /// The status byte, with the reserved bits as 000 (p. 9).
+    pub fn to_byte(self) -> u8 {
+        ffi::fimbrast_status_byte(ffi::Status {
+            estimated: self.estimated,
+            invalid: self.invalid,
+            video_field1: self.video_field1,
+            no_time_code: self.no_time_code,
+        })
+    }
+}
+
+/// The final byte of a time code: bit i of the frames byte tells the form (p. 8).
+#[derive(Debug, Clone, Copy, PartialEq, Eq, Hash)]
+pub enum FinalByte {
+    /// i = 0, {ff}: fractional frames, 0 to 99 (7 bits).
+    Subframes(u8),
+    /// i = 1, {st}: the code status.
+    Status(TimeCodeStatus),
+}
+
+impl FinalByte {
+    /// The mark of the status form, and the byte.
+    fn flat(self) -> (bool, u8) {
+        match self {
+            Self::Subframes(subframes) => (false, subframes),
+            Self::Status(status) => (true, status.to_byte()),
+        }
+    }
+
+    fn of(status: bool, last: u8) -> Self {
+        if status {
+            Self::Status(TimeCodeStatus::from_byte(last))
+        } else {
+            Self::Subframes(last)
+        }
+    }
+}
+
+/// The Standard Time Code `hr mn sc fr {ff|st}` (pp. 8, 9).
+#[derive(Debug, Clone, Copy, PartialEq, Eq, Hash)]
+pub struct StandardTimeCode {
+    /// The time with the type of the hours byte; a reader gives the raw counts.
+    pub time: MtcTime,
+    /// c: the color frame flag of the minutes byte.
+    pub color_frame: bool,
+    /// k: the blank flag of the seconds byte: the field has had no time code since power up or an MMC RESET.
+    pub blank: bool,
+    /// g: the sign of the frames byte, where signed time code is permitted.
+    pub negative: bool,
+    /// The final byte.
+    pub final_byte: FinalByte,
+}
+
+impl StandardTimeCode {
+    /// Reads the 5 bytes; each count is masked to its width.
+    pub fn from_bytes(bytes: [u8; 5]) -> Self {
+        Self::of(ffi::fimbrast_code_read(ffi::FiveBytes { bytes }))
+    }
+
+    /// The 5 bytes. Refuses subframes above 99 and a time that is not valid. A blank code writes its time as zeros (p. 8).
+    pub fn to_bytes(&self) -> Result<[u8; 5], SysexError> {
+        let answer = ffi::fimbrast_code_write(self.flat());
+        SysexError::check(answer.refusal).map(|()| answer.code.bytes)
+    }
+
+    /// The short form: the frames, the sign and the final byte (p. 9).
+    pub fn short(&self) -> ShortTimeCode {
+        ShortTimeCode::of(ffi::fimbrast_code_short(self.flat()))
+    }
+
+    /// This full value with the frames, sign and final byte of a short form (p. 9).
+    pub fn with_short(self, short: ShortTimeCode) -> Self {
+        Self::of(ffi::fimbrast_code_with_short(self.flat(), short.flat()))
+    }
+
+    /// The MOVE rule from {st} to {ff}: subframes 00; an {ff} value stays as it is (p. 32).
+    pub fn to_subframes_form(self) -> Self {
+        Self::of(ffi::fimbrast_to_subframes_form(self.flat()))
+    }
+
+    /// The MOVE rule from {ff} to {st}: e 0, v 0, d as given and n 1; an {st} value stays as it is (p. 32).
+    pub fn to_status_form(self, video_field1: bool) -> Self {
+        Self::of(ffi::fimbrast_to_status_form(self.flat(), video_field1))
+    }
+
+    fn flat(self) -> ffi::Code {
+        let (status, last) = self.final_byte.flat();
+        ffi::Code {
+            time: self.time.flat(),
+            color_frame: self.color_frame,
+            blank: self.blank,
+            negative: self.negative,
+            status,
+            last,
+        }
+    }
+
+    fn of(code: ffi::Code) -> Self {
+        Self {
+            time: MtcTime::of(code.time),
+            color_frame: code.color_frame,
+            blank: code.blank,
+            negative: code.negative,
+            final_byte: FinalByte::of(code.status, code.last),
+        }
+    }
+}
+
+/// The Standard Short Time Code `fr {ff|st}` (p. 9).
+#[derive(Debug, Clone, Copy, PartialEq, Eq, Hash)]
+pub struct ShortTimeCode {
+    /// The frames (5 bits).
+    pub frames: u8,
+    /// g: the sign.
+    pub negative: bool,
+    /// The final byte.
+    pub final_byte: FinalByte,
+}
+
+impl ShortTimeCode {
+    /// Reads the 2 bytes; the frames are masked to 5 bits.
+    pub fn from_bytes(bytes: [u8; 2]) -> Self {
+        Self::of(ffi::fimbrast_short_code_read(ffi::TwoBytes { bytes }))
+    }
+
+    /// The 2 bytes. Refuses frames above 29 and subframes above 99.
+    pub fn to_bytes(&self) -> Result<[u8; 2], SysexError> {
+        let answer = ffi::fimbrast_short_code_write(self.flat());
+        SysexError::check(answer.refusal).map(|()| answer.code.bytes)
+    }
+
+    fn flat(self) -> ffi::ShortCode {
+        let (status, last) = self.final_byte.flat();
+        ffi::ShortCode {
+            frames: self.frames,
+            negative: self.negative,
+            status,
+            last,
+        }
+    }
+
+    fn of(code: ffi::ShortCode) -> Self {
+        Self {
+            frames: code.frames,
+            negative: code.negative,
+            final_byte: FinalByte::of(code.status, code.last),
+        }
+    }
+}
+
+/// One command (pp. 20 to 32).
+#[derive(Debug, Clone, PartialEq, Eq)]
+pub enum MmcCommand<'a> {
+    /// 01H STOP.
+    Stop,
+    /// 02H PLAY.
+    Play,
+    /// 03H DEFERRED PLAY.
+    DeferredPlay,
+    /// 04H FAST FORWARD.
+    FastForward,
+    /// 05H REWIND.
+    Rewind,
+    /// 06H RECORD STROBE.
+    RecordStrobe,
+    /// 07H RECORD EXIT.
+    RecordExit,
+    /// 09H PAUSE.
+    Pause,
+    /// 0DH MMC RESET.
+    Reset,
+    /// 40H WRITE: the name and data pairs of the information fields.
+    Write(InfoFields<'a>),
+    /// 44H LOCATE \[I/F\]: sub-command 00H and a register name, 08H (GP0) to 0FH (GP7).
+    LocateField {
+        /// The register name.
+        register: u8,
+    },
+    /// 44H LOCATE \[TARGET\]: sub-command 01H and a time with subframes ({ff}).
+    LocateTarget(StandardTimeCode),
+    /// 4CH MOVE: the destination and source field names, 01H to 1FH.
+    Move {
+        /// The destination field.
+        destination: u8,
+        /// The source field.
+        source: u8,
+    },
+    /// Any other command, or a known one with data that does not fit it: the name with its 00H prefixes, and the data after
+    /// the count byte.
+    Other {
+        /// The name bytes.
+        name: &'a [u8],
+        /// The data bytes.
+        data: &'a [u8],
+    },
+}
+
+impl<'a> MmcCommand<'a> {
+    /// The command without the bytes of `Other`. The data of `Write` is the whole of its source.
+    pub(crate) fn flat(&self) -> ffi::Command {
+        let of = |kind| ffi::Command {
+            kind,
+            ..ffi::Command::default()
+        };
+        match *self {
+            Self::Stop => of(ffi::STOP),
+            Self::Play => of(ffi::PLAY),
+            Self::DeferredPlay => of(ffi::DEFERRED_PLAY),
+            Self::FastForward => of(ffi::FAST_FORWARD),
+            Self::Rewind => of(ffi::REWIND),
+            Self::RecordStrobe => of(ffi::RECORD_STROBE),
+            Self::RecordExit => of(ffi::RECORD_EXIT),
+            Self::Pause => of(ffi::PAUSE),
+            Self::Reset => of(ffi::RESET),
+            Self::Write(ref fields) => ffi::Command {
+                data: ffi::Part::whole(fields.bytes.len()),
+                ..of(ffi::WRITE)
+            },
+            Self::LocateField { register } => ffi::Command {
+                first: register,
+                ..of(ffi::LOCATE_FIELD)
+            },
+            Self::LocateTarget(target) => ffi::Command {
+                code: target.flat(),
+                ..of(ffi::LOCATE_TARGET)
+            },
+            Self::Move {
+                destination,
+                source,
+            } => ffi::Command {
+                first: destination,
+                second: source,
+                ..of(ffi::MOVE)
+            },
+            Self::Other { .. } => of(ffi::OTHER_COMMAND),
+        }
+    }
+
+    /// The command that was read from the front of `body`.
+    fn of(command: ffi::Command, body: &'a [u8]) -> Self {
+        match command.kind {
+            ffi::STOP => Self::Stop,
+            ffi::PLAY => Self::Play,
+            ffi::DEFERRED_PLAY => Self::DeferredPlay,
+            ffi::FAST_FORWARD => Self::FastForward,
+            ffi::REWIND => Self::Rewind,
+            ffi::RECORD_STROBE => Self::RecordStrobe,
+            ffi::RECORD_EXIT => Self::RecordExit,
+            ffi::PAUSE => Self::Pause,
+            ffi::RESET => Self::Reset,
+            ffi::WRITE => Self::Write(InfoFields::new(command.data.of(body))),
+            ffi::LOCATE_FIELD => Self::LocateField {
+                register: command.first,
+            },
+            ffi::LOCATE_TARGET => Self::LocateTarget(StandardTimeCode::of(command.code)),
+            ffi::MOVE => Self::Move {
+                destination: command.first,
+                source: command.second,
+            },
+            _ => Self::Other {
+                name: command.name.of(body),
+                data: command.data.of(body),
+            },
+        }
+    }
+
+    fn put(&self, writer: ffi::Writer, out: &mut [u8]) -> ffi::Writer {
+        let flat = self.flat();
+        match self {
+            Self::Write(fields) => ffi::put_command(writer, out, fields.bytes, flat),
+            Self::Other { name, data } => {
+                let joined = Joined::new(name, data);
+                let command = ffi::Command {
+                    name: joined.name,
+                    data: joined.data,
+                    ..flat
+                };
+                ffi::put_command(writer, out, &joined.bytes, command)
+            }
+            _ => ffi::put_command(writer, out, &[], flat),
+        }
+    }
+}
+
+/// One information field (pp. 8, 9, 44, 47).
+#[derive(Debug, Clone, Copy, PartialEq, Eq)]
+pub enum InfoField<'a> {
+    /// A time code field, 01H to 1FH, with 5 data bytes. SELECTED TIME CODE (01H) is {st} and not negative; GP0 (08H) is {ff}
+    /// and signed.
+    TimeCode {
+        /// The field name.
+        field: u8,
+        /// The time code.
+        code: StandardTimeCode,
+    },
+    /// The short form of a time code field: the name 21H to 3FH, with 2 data bytes.
+    Short {
+        /// The field name of the full form, 01H to 1FH.
+        field: u8,
+        /// The short time code.
+        code: ShortTimeCode,
+    },
+    /// Any other field: the name with its 00H prefixes, and its data.
+    Other {
+        /// The name bytes.
+        name: &'a [u8],
+        /// The data bytes, after the count byte when the name has one.
+        data: &'a [u8],
+    },
+}
+
+impl<'a> InfoField<'a> {
+    /// The field that was read from the front of `body`.
+    fn of(field: ffi::Field, body: &'a [u8]) -> Self {
+        match field.kind {
+            ffi::TIME_CODE => Self::TimeCode {
+                field: field.field,
+                code: StandardTimeCode::of(field.code),
+            },
+            ffi::SHORT => Self::Short {
+                field: field.field,
+                code: ShortTimeCode::of(field.short_code),
+            },
+            _ => Self::Other {
+                name: field.name.of(body),
+                data: field.data.of(body),
+            },
+        }
+    }
+
+    fn put(&self, writer: ffi::Writer, out: &mut [u8]) -> ffi::Writer {
+        let none = ffi::Field::default();
+        match *self {
+            Self::TimeCode { field, code } => {
+                let item = ffi::Field {
+                    kind: ffi::TIME_CODE,
+                    field,
+                    code: code.flat(),
+                    ..none
+                };
+                ffi::put_field(writer, out, &[], item)
+            }
+            Self::Short { field, code } => {
+                let item = ffi::Field {
+                    kind: ffi::SHORT,
+                    field,
+                    short_code: code.flat(),
+                    ..none
+                };
+                ffi::put_field(writer, out, &[], item)
+            }
+            Self::Other { name, data } => {
+                let joined = Joined::new(name, data);
+                let item = ffi::Field {
+                    kind: ffi::OTHER_FIELD,
+                    name: joined.name,
+                    data: joined.data,
+                    ..none
+                };
+                ffi::put_field(writer, out, &joined.bytes, item)
+            }
+        }
+    }
+}
+
+/// The bytes of a name that are handed on.
+const NAME: usize = 4;
+/// The bytes of data that are handed on.
+const DATA: usize = 128;
+
+/// A name and data that lie apart, brought into one source. A name of 4 or more bytes is refused whatever they are, and so is
+/// data of 128 or more: bytes past these decide nothing and are left behind.
+struct Joined {
+    bytes: [u8; NAME + DATA],
+    name: ffi::Part,
+    data: ffi::Part,
+}
+
+impl Joined {
+    fn new(name: &[u8], data: &[u8]) -> Self {
+        let mut bytes = [0; NAME + DATA];
+        let (name_room, data_room) = bytes.split_at_mut(NAME);
+        let name = ffi::Part {
+            start: 0,
+            length: fill(name_room, name),
+        };
+        let data = ffi::Part {
+            start: NAME,
+            length: fill(data_room, data),
+        };
+        Self { bytes, name, data }
+    }
+}
+
+/// Copies what fits, and gives its length.
+fn fill(room: &mut [u8], bytes: &[u8]) -> usize {
+    for (to, byte) in room.iter_mut().zip(bytes) {
+        *to = *byte;
+    }
+    bytes.len().min(room.len())
+}
+
+/// The reader of a command string. A string cut short gives [`SysexError::Length`] once, then the end.
+///
+/// ```
+/// use fimbrast::mmc::{MmcCommand, MmcMessage};
+/// use fimbrast::universal::Universal;
+///
+/// let parts = Universal {
+///     real_time: true,
+///     device_id: 0x7F,
+///     sub_id1: 0x06,
+///     sub_id2: None,
+///     data: &[0x44, 0x06, 0x01, 0x21, 0x00, 0x00, 0x00, 0x00, 0x02],
+/// };
+/// let Some(MmcMessage::Commands { mut commands, .. }) = MmcMessage::from_universal(&parts)? else {
+///     panic!("not a command message");
+/// };
+/// let Some(Ok(MmcCommand::LocateTarget(target))) = commands.next() else {
+///     panic!("not a Locate target");
+/// };
+/// assert_eq!((target.time.hours, target.time.rate.into_bits()), (1, 1));
+/// assert_eq!(commands.as_bytes(), [0x02]);
+/// assert_eq!(commands.next(), Some(Ok(MmcCommand::Play)));
+/// assert_eq!(commands.next(), None);
+/// # Ok::<(), fimbrast::universal::SysexError>(())
+/// ```
+#[derive(Debug, Clone, PartialEq, Eq)]
+pub struct Commands<'a> {
+    bytes: &'a [u8],
+}
+
+impl<'a> Commands<'a> {
+    /// The bytes not read yet.
+    pub const fn as_bytes(&self) -> &'a [u8] {
+        self.bytes
+    }
+}
+
+impl<'a> Iterator for Commands<'a> {
+    type Item = Result<MmcCommand<'a>, SysexError>;
+
+    fn next(&mut self) -> Option<Self::Item> {
+        let body = self.bytes;
+        let answer = ffi::next_command(body);
+        self.bytes = body.get(answer.place..).unwrap_or(&[]);
+        match SysexError::check(answer.refusal) {
+            Ok(()) => Some(Ok(MmcCommand::of(answer.command, body))),
+            Err(SysexError::End) => None,
+            Err(refusal) => Some(Err(refusal)),
+        }
+    }
+}
+
+/// The reader of an information field string: a response, or the data of WRITE. A string cut short gives
+/// [`SysexError::Length`] once, then the end.
+#[derive(Debug, Clone, PartialEq, Eq)]
+pub struct InfoFields<'a> {
+    bytes: &'a [u8],
+}
+
+impl<'a> InfoFields<'a> {
+    /// A reader over the name and data pairs, for example the data of a WRITE command.
+    ///
+    /// ```
+    /// use fimbrast::mmc::{field, InfoField, InfoFields};
+    ///
+    /// let mut fields = InfoFields::new(&[0x08, 0x21, 0x00, 0x00, 0x00, 0x00]);
+    /// let Some(Ok(InfoField::TimeCode { field, code })) = fields.next() else {
+    ///     panic!("not a time code");
+    /// };
+    /// assert_eq!((field, code.time.hours), (field::GP0, 1));
+    /// assert_eq!(fields.next(), None);
+    /// ```
+    pub const fn new(bytes: &'a [u8]) -> Self {
+        Self { bytes }
+    }
+
+    /// The bytes not read yet.
+    pub const fn as_bytes(&self) -> &'a [u8] {
+        self.bytes
+    }
+}
+
+impl<'a> Iterator for InfoFields<'a> {
+    type Item = Result<InfoField<'a>, SysexError>;
+
+    fn next(&mut self) -> Option<Self::Item> {
+        let body = self.bytes;
+        let answer = ffi::next_field(body);
+        self.bytes = body.get(answer.place..).unwrap_or(&[]);
+        match SysexError::check(answer.refusal) {
+            Ok(()) => Some(Ok(InfoField::of(answer.field, body))),
+            Err(SysexError::End) => None,
+            Err(refusal) => Some(Err(refusal)),
+        }
+    }
+}
+
+/// A machine control message (p. 1).
+#[derive(Debug, Clone, PartialEq, Eq)]
+pub enum MmcMessage<'a> {
+    /// Sub-ID#1 06H: commands to a device, a group or all devices.
+    Commands {
+        /// The destination device ID.
+        device_id: u8,
+        /// The command string.
+        commands: Commands<'a>,
+    },
+    /// Sub-ID#1 07H: responses from a device.
+    Responses {
+        /// The source device ID; 7FH is not valid.
+        device_id: u8,
+        /// The response string.
+        fields: InfoFields<'a>,
+    },
+}
+
+impl<'a> MmcMessage<'a> {
+    /// Reads the message from its split parts (Real Time, Sub-ID#1 06H or 07H): `None` for another message,
+    /// [`SysexError::Length`] for an empty string.
+    pub fn from_universal(u: &Universal<'a>) -> Result<Option<Self>, SysexError> {
+        let read = ffi::mmc_message_read(u.flat(), u.data);
+        if read.answer == ffi::NOT_THIS {
+            return Ok(None);
+        }
+        SysexError::check(read.answer)?;
+        let device_id = read.device_id;
+        Ok(Some(if read.responses {
+            Self::Responses {
+                device_id,
+                fields: InfoFields { bytes: u.data },
+            }
+        } else {
+            Self::Commands {
+                device_id,
+                commands: Commands { bytes: u.data },
+            }
+        }))
+    }
+}
+
+/// Writes the whole command message `F0 7F <device ID> 06 <commands> F7` into `out` and gives the length.
+///
+/// ```
+/// use fimbrast::mmc::{write_commands, FinalByte, MmcCommand, StandardTimeCode};
+/// use fimbrast::mtc::{MtcTime, TimeCodeType};
+/// use fimbrast::universal::{SysexError, ALL_DEVICES};
+///
+/// let target = StandardTimeCode {
+///     time: MtcTime::new(1, 0, 0, 0, TimeCodeType::Fps25)?,
+///     color_frame: false,
+///     blank: false,
+///     negative: false,
+///     final_byte: FinalByte::Subframes(0),
+/// };
+/// let commands = [MmcCommand::LocateTarget(target), MmcCommand::Play];
+/// let mut out = [0; 14];
+/// assert_eq!(write_commands(&mut out, ALL_DEVICES, &commands), Ok(14));
+/// assert_eq!(
+///     out,
+///     [0xF0, 0x7F, 0x7F, 0x06, 0x44, 0x06, 0x01, 0x21, 0x00, 0x00, 0x00, 0x00, 0x02, 0xF7]
+/// );
+/// assert_eq!(
+///     write_commands(&mut out[..13], ALL_DEVICES, &commands),
+///     Err(SysexError::BufferTooSmall { needed: 14 })
+/// );
+/// # Ok::<(), SysexError>(())
+/// ```
+pub fn write_commands(
+    out: &mut [u8],
+    device_id: u8,
+    commands: &[MmcCommand<'_>],
+) -> Result<usize, SysexError> {
+    let mut writer = ffi::open_commands(out, device_id);
+    for command in commands {
+        writer = command.put(writer, out);
+    }
+    written(ffi::close_message(writer, out))
+}
+
+/// Writes the whole response message `F0 7F <device ID> 07 <responses> F7` into `out` and gives the length. The source device
+/// is 00H to 7EH.
+pub fn write_responses(
+    out: &mut [u8],
+    device_id: u8,
+    fields: &[InfoField<'_>],
+) -> Result<usize, SysexError> {
+    let mut writer = ffi::open_responses(out, device_id);
+    for field in fields {
+        writer = field.put(writer, out);
+    }
+    written(ffi::close_message(writer, out))
+}
+
+/// Writes the name and data pairs of `fields` into `out`, for the data of a WRITE command, and gives the length.
+pub fn write_info_fields(out: &mut [u8], fields: &[InfoField<'_>]) -> Result<usize, SysexError> {
+    let mut writer = ffi::fimbrast_open_fields();
+    for field in fields {
+        writer = field.put(writer, out);
+    }
+    written(ffi::close_fields(writer, out))
+}
