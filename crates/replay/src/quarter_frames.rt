@@ -1,0 +1,192 @@
+// Quarter frames, the generator and the reader.
+use crate::case::WRONG;
+use crate::case::byte_at;
+use crate::case::byte_is;
+use crate::case::eight_at;
+use crate::case::flag_at;
+use crate::case::same_at;
+use crate::case::time_at;
+use crate::case::time_is;
+use crate::case::two_are;
+use fimbrast::generator::fimbrast_generator_new;
+use fimbrast::generator::fimbrast_generator_time;
+use fimbrast::generator::fimbrast_locate;
+use fimbrast::generator::fimbrast_next_byte;
+use fimbrast::generator::fimbrast_set_direction;
+use fimbrast::generator::fimbrast_set_running;
+use fimbrast::reader::fimbrast_is_locked;
+use fimbrast::reader::fimbrast_is_running;
+use fimbrast::reader::fimbrast_reader_direction;
+use fimbrast::reader::fimbrast_reader_full_message;
+use fimbrast::reader::fimbrast_reader_new;
+use fimbrast::reader::fimbrast_reader_time;
+use fimbrast::reader::fimbrast_receive;
+use fimbrast::time::fimbrast_pieces;
+use fimbrast::time::fimbrast_quarter_frame_byte;
+use fimbrast::time::fimbrast_quarter_frame_read;
+use flat::generator::FlatGenerator;
+use flat::reader::FlatEvent;
+use flat::reader::FlatMaybeTime;
+use flat::reader::FlatReader;
+use flat::time::FlatFrame;
+ghost use Prim.Native.Nat.{_<_};
+
+fn read_frame(byte: u8, answer: &[u8]) -> usize {
+    let frame = fimbrast_quarter_frame_read(byte);
+    two_are(frame.piece, frame.value, answer, 0)
+}
+
+fn pieces(input: &[u8], answer: &[u8]) -> usize {
+    let eight = fimbrast_pieces(time_at(input, 0));
+    let bytes = eight.bytes;
+    same_at(&bytes, answer, 0)
+}
+
+pub(crate) fn piece(call: u8, input: &[u8], answer: &[u8]) -> usize {
+    let first = byte_at(input, 0);
+    let frame = FlatFrame {
+        piece: first,
+        value: byte_at(input, 1),
+    };
+    match call {
+        0x10 => read_frame(first, answer),
+        0x11 => byte_is(fimbrast_quarter_frame_byte(frame), answer, 0),
+        0x12 => pieces(input, answer),
+        _ => WRONG,
+    }
+}
+
+fn generator_at(input: &[u8]) -> FlatGenerator {
+    FlatGenerator {
+        time: time_at(input, 0),
+        direction: byte_at(input, 5),
+        last: byte_at(input, 6),
+        running: flag_at(input, 7),
+    }
+}
+
+fn generator_is(generator: FlatGenerator, answer: &[u8]) -> usize {
+    let time = generator.time;
+    let bytes = [
+        time.hours,
+        time.minutes,
+        time.seconds,
+        time.frames,
+        time.rate,
+        generator.direction,
+        generator.last,
+        generator.running as u8,
+    ];
+    same_at(&bytes, answer, 0)
+}
+
+fn next_byte(generator: FlatGenerator, answer: &[u8]) -> usize {
+    let sent = fimbrast_next_byte(generator);
+    let back = sent.generator;
+    two_are(sent.refusal, sent.byte, answer, generator_is(back, answer))
+}
+
+pub(crate) fn generated(call: u8, input: &[u8], answer: &[u8]) -> usize {
+    let generator = generator_at(input);
+    match call {
+        0x20 => {
+            generator_is(
+                fimbrast_generator_new(time_at(input, 0), byte_at(input, 5)),
+                answer,
+            )
+        }
+        0x21 => next_byte(generator, answer),
+        0x22 => generator_is(fimbrast_set_running(generator, flag_at(input, 8)), answer),
+        0x23 => generator_is(fimbrast_set_direction(generator, byte_at(input, 8)), answer),
+        0x24 => generator_is(fimbrast_locate(generator, time_at(input, 8)), answer),
+        0x25 => time_is(fimbrast_generator_time(generator), answer, 0),
+        _ => WRONG,
+    }
+}
+
+fn maybe_time_at(input: &[u8], at: usize) -> FlatMaybeTime
+    requires { ⌜ at < 65535 ⌝ }
+{
+    FlatMaybeTime {
+        present: flag_at(input, at),
+        time: time_at(input, at + 1),
+    }
+}
+
+fn reader_at(input: &[u8]) -> FlatReader {
+    let nibbles = eight_at(input, 0);
+    FlatReader {
+        nibbles,
+        count: byte_at(input, 8),
+        first: byte_at(input, 9),
+        last: byte_at(input, 10),
+        direction: byte_at(input, 11),
+        locked: flag_at(input, 12),
+        running: flag_at(input, 13),
+        previous: maybe_time_at(input, 14),
+        time: maybe_time_at(input, 20),
+    }
+}
+
+fn maybe_time_is(maybe: FlatMaybeTime, answer: &[u8], at: usize) -> usize {
+    let time = maybe.time;
+    time_is(time, answer, byte_is(maybe.present as u8, answer, at))
+}
+
+fn reader_is(reader: FlatReader, answer: &[u8]) -> usize {
+    let nibbles = reader.nibbles;
+    let previous = reader.previous;
+    let time = reader.time;
+    let bytes = [
+        reader.count,
+        reader.first,
+        reader.last,
+        reader.direction,
+        reader.locked as u8,
+        reader.running as u8,
+    ];
+    let at = same_at(&nibbles, answer, 0);
+    let at = same_at(&bytes, answer, at);
+    let at = maybe_time_is(previous, answer, at);
+    maybe_time_is(time, answer, at)
+}
+
+fn event_is(event: FlatEvent, answer: &[u8], from: usize) -> usize {
+    let report = event.report;
+    let sequence = report.sequence;
+    let raw = sequence.raw;
+    let current = sequence.current;
+    let at = two_are(event.piece, event.boundary as u8, answer, from);
+    let at = byte_is(report.present as u8, answer, at);
+    let at = time_is(raw, answer, at);
+    let at = time_is(current, answer, at);
+    two_are(sequence.direction, sequence.discontinuity as u8, answer, at)
+}
+
+fn receive(input: &[u8], answer: &[u8]) -> usize {
+    let received = fimbrast_receive(reader_at(input), byte_at(input, 26));
+    let reader = received.reader;
+    let event = received.event;
+    event_is(event, answer, reader_is(reader, answer))
+}
+
+fn state(reader: FlatReader, answer: &[u8]) -> usize {
+    let locked = fimbrast_is_locked(reader);
+    let running = fimbrast_is_running(reader);
+    let at = two_are(locked as u8, running as u8, answer, 0);
+    let at = byte_is(fimbrast_reader_direction(reader), answer, at);
+    maybe_time_is(fimbrast_reader_time(reader), answer, at)
+}
+
+pub(crate) fn heard(call: u8, input: &[u8], answer: &[u8]) -> usize {
+    match call {
+        0x30 => reader_is(fimbrast_reader_new(), answer),
+        0x31 => receive(input, answer),
+        0x32 => reader_is(
+            fimbrast_reader_full_message(reader_at(input), time_at(input, 26)),
+            answer,
+        ),
+        0x33 => state(reader_at(input), answer),
+        _ => WRONG,
+    }
+}
