@@ -1,8 +1,60 @@
 # The jobs of this repository. `make test` is the gate: what it prints last decides.
-.PHONY: test
 
-test:
+# The published Rust, for the comparison; a relative path counts from here.
+OLD ?= ../shared/docs/src/crates/zmidi-sysex/src
+export OLD
+
+CARGO = cargo
+COMPARE = compare/target/release/compare
+C_FLAGS = -std=c11 -Wall -Wextra -Wpedantic -Werror -O2
+ARCHIVE = target/staticlib/libfimbrast.a
+
+.PHONY: test prove library bindings c-example compare compare-long after-proof
+
+test: prove after-proof
+	@tail -n 1 target/gate.log
+
+# Proves every crate from nothing, runs the programs, tries the edits that must be refused.
+prove:
 	@for d in crates/*/; do n=$$(basename "$$d"); \
 	  grep -Eq "^[[:space:]]*$$n[[:space:]]*:" crates.txt || { echo "crates/$$n is not in crates.txt"; exit 1; }; done
 	@rt fmt --check
-	@rt ci
+	@log=$$(mktemp) && { rt ci 2>&1 | tee "$$log"; } && mkdir -p target && mv "$$log" target/gate.log
+	@tail -n 1 target/gate.log | grep -Eq '^[0-9]+ passed, 0 failed$$'
+
+# The library for C and Rust, and what it answers there; where cargo or the published Rust is missing, a line says what was left out.
+after-proof:
+	@$(MAKE) --no-print-directory library c-example
+	@if command -v $(CARGO) >/dev/null; then $(MAKE) --no-print-directory bindings; \
+	  else echo "bindings/rust was not tested and old was not compared with new: there is no cargo here"; fi
+	@if ! command -v $(CARGO) >/dev/null; then :; \
+	  elif [ -f "$(OLD)/mtc.rs" ]; then $(MAKE) --no-print-directory compare; \
+	  else echo "old was not compared with new: no mtc.rs in $(OLD); give its folder with OLD=.."; fi
+
+# target/staticlib/libfimbrast.a, for C and Rust to link.
+library:
+	@rt staticlib fimbrast | tail -n 1
+
+# The example and the header's layout, compiled without a warning, print what they should.
+c-example:
+	@mkdir -p target/c
+	@for p in example layout; do \
+	  $(CC) $(C_FLAGS) bindings/c/$$p.c -Ibindings/c $(ARCHIVE) -o target/c/$$p && \
+	  target/c/$$p | diff - bindings/c/$$p.out || exit 1; done; echo "bindings/c: example and layout as expected"
+
+# The tests of the Rust crate over the library.
+bindings:
+	@cd bindings/rust && $(CARGO) test --offline --quiet
+
+# Old against new, each group once.
+compare: $(ARCHIVE)
+	@$(CARGO) build --release --offline --quiet --manifest-path compare/Cargo.toml
+	@$(COMPARE)
+
+# The same with new seeds for an hour.
+compare-long: $(ARCHIVE)
+	@$(CARGO) build --release --offline --quiet --manifest-path compare/Cargo.toml
+	@$(COMPARE) --long 60
+
+$(ARCHIVE):
+	@$(MAKE) --no-print-directory library
