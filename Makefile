@@ -9,7 +9,7 @@ COMPARE = compare/target/release/compare
 C_FLAGS = -std=c11 -Wall -Wextra -Wpedantic -Werror -O2
 ARCHIVE = target/staticlib/libfimbrast.a
 
-.PHONY: test prove library bindings c-example compare compare-long after-proof
+.PHONY: test prove library bindings c-example compare compare-long bench after-proof
 
 test: prove after-proof
 	@tail -n 1 target/gate.log
@@ -55,6 +55,10 @@ compare: $(ARCHIVE)
 compare-long: $(ARCHIVE)
 	@$(CARGO) build --release --offline --quiet --manifest-path compare/Cargo.toml
 	@$(COMPARE) --long 60
+
+# Old against new by time and by instructions; docs/BENCHMARKS.md says what the tables mean.
+bench: $(ARCHIVE)
+	@bench/run
 
 $(ARCHIVE):
 	@$(MAKE) --no-print-directory library

@@ -1,0 +1,132 @@
+//! The loops round the calls. This file, too, is built once over each crate.
+
+use std::hint::black_box;
+
+use super::boundary;
+use super::lib::mmc::{FinalByte, MmcCommand, StandardTimeCode};
+use super::lib::mtc::{Direction, MtcGenerator, MtcReader, MtcTime, TimeCodeType};
+use super::lib::universal::Universal;
+use crate::case::Case;
+use crate::inputs::{self, BODIES, BODY, LOCATE_PLAY, ROOM, ROUND};
+
+/// Every case, in the order of the tables.
+pub fn all() -> Vec<Case> {
+    vec![
+        receive(),
+        next_byte(),
+        to_frame_count(),
+        from_frame_count(),
+        add_frames(),
+        write(),
+        read_back(),
+        read_stops(),
+        read_random(),
+    ]
+}
+
+/// The message of commands with this data, for all devices.
+pub const fn commands(data: &[u8]) -> Universal<'_> {
+    Universal {
+        real_time: true,
+        device_id: 0x7F,
+        sub_id1: 0x06,
+        sub_id2: None,
+        data,
+    }
+}
+
+fn drop_frame([hours, minutes, seconds, frames]: [u8; 4]) -> MtcTime {
+    MtcTime {
+        hours,
+        minutes,
+        seconds,
+        frames,
+        rate: TimeCodeType::Fps30Drop,
+    }
+}
+
+/// A number that tells a label.
+fn number(time: MtcTime) -> u64 {
+    u64::from(time.frames) + u64::from(time.seconds) * 32 + u64::from(time.hours) * 4096
+}
+
+fn receive() -> Case {
+    let bytes: Box<[u8; ROUND]> = inputs::stream(ROUND).try_into().expect("a whole round");
+    let mut reader = MtcReader::new();
+    Case::new("receive", move |turn| {
+        let byte = black_box(bytes[turn % ROUND]);
+        let event = black_box(boundary::receive(black_box(&mut reader), byte));
+        u64::from(event.piece) + event.sequence.map_or(0, |s| number(s.current))
+    })
+}
+
+fn next_byte() -> Case {
+    let mut generator = MtcGenerator::new(drop_frame([0, 59, 30, 0]), Direction::Forward);
+    Case::new("next_byte", move |_| {
+        let byte = black_box(boundary::next_byte(black_box(&mut generator)));
+        byte.map_or(1000, u64::from)
+    })
+}
+
+fn to_frame_count() -> Case {
+    let labels = Box::new(inputs::labels().map(drop_frame));
+    Case::new("to_frame_count", move |turn| {
+        let time = black_box(&labels[turn % ROUND]);
+        u64::from(black_box(boundary::to_frame_count(time)))
+    })
+}
+
+fn from_frame_count() -> Case {
+    let counts = inputs::counts();
+    Case::new("from_frame_count", move |turn| {
+        let count = black_box(counts[turn % ROUND]);
+        let rate = black_box(TimeCodeType::Fps30Drop);
+        number(black_box(boundary::from_frame_count(count, rate)))
+    })
+}
+
+fn add_frames() -> Case {
+    let labels = Box::new(inputs::labels().map(drop_frame));
+    let deltas = inputs::deltas();
+    Case::new("add_frames", move |turn| {
+        let time = black_box(labels[turn % ROUND]);
+        let delta = black_box(deltas[turn % ROUND]);
+        number(black_box(boundary::add_frames(time, delta)))
+    })
+}
+
+fn write() -> Case {
+    let target = StandardTimeCode {
+        time: drop_frame([1, 37, 52, 16]),
+        color_frame: false,
+        blank: false,
+        negative: false,
+        final_byte: FinalByte::Subframes(0),
+    };
+    let list = [MmcCommand::LocateTarget(target), MmcCommand::Play];
+    let mut out = [0; ROOM];
+    Case::new("write", move |_| {
+        let room = black_box(&mut out);
+        let length = black_box(boundary::write(room, black_box(0x7F), black_box(&list)));
+        length.map_or(1000, |n| n as u64) + u64::from(out[8])
+    })
+}
+
+/// A message's data read item by item.
+fn read(data: &[u8]) -> u64 {
+    let message = commands(data);
+    black_box(boundary::read(black_box(&message))) as u64
+}
+
+fn read_back() -> Case {
+    Case::new("read_back", |_| read(&LOCATE_PLAY))
+}
+
+fn read_stops() -> Case {
+    Case::new("read_stops", |_| read(&[0x01; BODY]))
+}
+
+fn read_random() -> Case {
+    let bodies = inputs::random_bodies();
+    Case::new("read_random", move |turn| read(&bodies[turn % BODIES]))
+}

@@ -1,0 +1,72 @@
+//! The inputs, which are the same for every side and every run.
+
+use old::mtc::{Direction, MtcGenerator, MtcTime, TimeCodeType};
+
+/// How many different inputs a case goes round.
+pub const ROUND: usize = 8192;
+/// How many different random bodies.
+pub const BODIES: usize = 64;
+/// The length of the body of Stops and of the random ones.
+pub const BODY: usize = 48;
+/// Locate to 01:37:52:16 at 30 drop-frame, then Play, as a message's data.
+pub const LOCATE_PLAY: [u8; 9] = [0x44, 0x06, 0x01, 0x41, 37, 52, 16, 0x00, 0x02];
+/// Room for a whole message.
+pub const ROOM: usize = 64;
+
+/// The frames of a day at 30 drop-frame.
+const DAY: u64 = 2_589_408;
+
+/// Pseudo-random numbers from a fixed seed (splitmix64).
+struct Rng(u64);
+
+impl Rng {
+    fn below(&mut self, n: u64) -> u64 {
+        self.0 = self.0.wrapping_add(0x9E37_79B9_7F4A_7C15);
+        let z = (self.0 ^ (self.0 >> 30)).wrapping_mul(0xBF58_476D_1CE4_E5B9);
+        let z = (z ^ (z >> 27)).wrapping_mul(0x94D0_49BB_1331_11EB);
+        ((z ^ (z >> 31)) >> 32) * n >> 32
+    }
+}
+
+/// The data bytes of a running generator at 30 drop-frame, from 00:59:30:00.
+pub fn stream(length: usize) -> Vec<u8> {
+    let start = MtcTime {
+        hours: 0,
+        minutes: 59,
+        seconds: 30,
+        frames: 0,
+        rate: TimeCodeType::Fps30Drop,
+    };
+    let mut generator = MtcGenerator::new(start, Direction::Forward);
+    (0..length).filter_map(|_| generator.next_byte()).collect()
+}
+
+/// Counts of the whole day at 30 drop-frame.
+pub fn counts() -> Box<[u32; ROUND]> {
+    let mut rng = Rng(1);
+    Box::new(std::array::from_fn(|_| rng.below(DAY) as u32))
+}
+
+/// The labels of the counts: hours, minutes, seconds, frames.
+pub fn labels() -> Box<[[u8; 4]; ROUND]> {
+    Box::new(counts().map(|count| {
+        let t = MtcTime::from_frame_count(count, TimeCodeType::Fps30Drop);
+        [t.hours, t.minutes, t.seconds, t.frames]
+    }))
+}
+
+/// Distances of up to a day either way.
+pub fn deltas() -> Box<[i32; ROUND]> {
+    let mut rng = Rng(2);
+    Box::new(std::array::from_fn(|_| {
+        rng.below(2 * DAY) as i32 - DAY as i32
+    }))
+}
+
+/// Random bodies of data bytes.
+pub fn random_bodies() -> Box<[[u8; BODY]; BODIES]> {
+    let mut rng = Rng(3);
+    Box::new(std::array::from_fn(|_| {
+        std::array::from_fn(|_| rng.below(128) as u8)
+    }))
+}

@@ -1,0 +1,91 @@
+//! The calls that are measured, as in the other sides; none is inlined.
+
+use std::hint::black_box;
+
+use super::ffi::{
+    fimbrast_add_frames, fimbrast_close_message, fimbrast_from_frame_count,
+    fimbrast_mmc_message_read, fimbrast_next_byte, fimbrast_next_command, fimbrast_open_commands,
+    fimbrast_put_command, fimbrast_receive, fimbrast_to_frame_count,
+};
+pub use super::ffi::{fimbrast_generator_new, fimbrast_reader_new};
+pub use super::ffi::{Code, Command, Event, Generator, Reader, Time, Universal, Written};
+
+/// The number of `next_command`'s refusal at the end.
+const END: u8 = 9;
+
+#[inline(never)]
+pub fn receive(reader: &mut Reader, byte: u8) -> Event {
+    let received = fimbrast_receive(*reader, byte);
+    *reader = received.reader;
+    received.event
+}
+
+/// The byte, where the generator is not stopped.
+#[inline(never)]
+pub fn next_byte(generator: &mut Generator) -> Option<u8> {
+    let sent = fimbrast_next_byte(*generator);
+    *generator = sent.generator;
+    (sent.refusal == 0).then_some(sent.byte)
+}
+
+#[inline(never)]
+pub fn to_frame_count(time: &Time) -> u32 {
+    fimbrast_to_frame_count(*time)
+}
+
+#[inline(never)]
+pub fn from_frame_count(count: u32, rate: u8) -> Time {
+    fimbrast_from_frame_count(count, rate)
+}
+
+#[inline(never)]
+pub fn add_frames(time: Time, delta: i32) -> Time {
+    fimbrast_add_frames(time, delta)
+}
+
+#[inline(never)]
+pub fn write(out: &mut [u8], device_id: u8, commands: &[Command]) -> Written {
+    let (to, room) = (out.as_mut_ptr(), out.len());
+    // SAFETY: `to` and `room` are a live slice that is borrowed alone, and the source is empty.
+    unsafe {
+        let mut writer = fimbrast_open_commands(to, room, device_id);
+        for command in commands {
+            writer = fimbrast_put_command(writer, to, room, [].as_ptr(), 0, *command);
+        }
+        fimbrast_close_message(writer, to, room)
+    }
+}
+
+/// A whole message of commands, item by item: how many.
+#[inline(never)]
+pub fn read(header: &Universal, data: &[u8]) -> usize {
+    let (bytes, length) = (data.as_ptr(), data.len());
+    // SAFETY: `bytes` and `length` are a live slice.
+    let message = unsafe { fimbrast_mmc_message_read(*header, bytes, length) };
+    if message.answer != 0 || message.responses {
+        return 0;
+    }
+    let (mut items, mut place) = (0, 0);
+    loop {
+        // SAFETY: as above.
+        let answer = unsafe { fimbrast_next_command(bytes, length, place) };
+        if answer.refusal == END {
+            return items;
+        }
+        black_box(&answer.command);
+        place = answer.place;
+        items += 1;
+    }
+}
+
+/// A list, byte by byte: how many reports.
+#[inline(never)]
+pub fn receive_all(reader: &mut Reader, bytes: &[u8]) -> usize {
+    let mut reports = 0;
+    for byte in bytes {
+        let received = fimbrast_receive(*reader, *byte);
+        *reader = received.reader;
+        reports += usize::from(received.event.report.present);
+    }
+    reports
+}

@@ -1,0 +1,147 @@
+//! The loops round the calls, over the same inputs.
+
+use std::hint::black_box;
+
+use super::boundary::{self, Code, Command, Time, Universal};
+use crate::case::Case;
+use crate::inputs::{self, BODIES, BODY, LOCATE_PLAY, ROOM, ROUND};
+
+const FORWARD: u8 = 0;
+const DROP_FRAME: u8 = 2;
+const PLAY: u8 = 1;
+const LOCATE_TARGET: u8 = 11;
+
+/// The header of a message of commands, for all devices.
+pub const COMMANDS: Universal = Universal {
+    real_time: true,
+    device_id: 0x7F,
+    sub_id1: 0x06,
+    has_sub_id2: false,
+    sub_id2: 0,
+};
+
+/// Every case, in the order of the tables.
+pub fn all() -> Vec<Case> {
+    vec![
+        receive(),
+        next_byte(),
+        to_frame_count(),
+        from_frame_count(),
+        add_frames(),
+        write(),
+        read_back(),
+        read_stops(),
+        read_random(),
+    ]
+}
+
+fn drop_frame([hours, minutes, seconds, frames]: [u8; 4]) -> Time {
+    Time {
+        hours,
+        minutes,
+        seconds,
+        frames,
+        rate: DROP_FRAME,
+    }
+}
+
+/// A number that tells a label.
+fn number(time: Time) -> u64 {
+    u64::from(time.frames) + u64::from(time.seconds) * 32 + u64::from(time.hours) * 4096
+}
+
+fn receive() -> Case {
+    let bytes: Box<[u8; ROUND]> = inputs::stream(ROUND).try_into().expect("a whole round");
+    let mut reader = boundary::fimbrast_reader_new();
+    Case::new("receive", move |turn| {
+        let byte = black_box(bytes[turn % ROUND]);
+        let event = black_box(boundary::receive(black_box(&mut reader), byte));
+        let report = event.report;
+        u64::from(event.piece)
+            + if report.present {
+                number(report.sequence.current)
+            } else {
+                0
+            }
+    })
+}
+
+fn next_byte() -> Case {
+    let mut generator = boundary::fimbrast_generator_new(drop_frame([0, 59, 30, 0]), FORWARD);
+    Case::new("next_byte", move |_| {
+        let byte = black_box(boundary::next_byte(black_box(&mut generator)));
+        byte.map_or(1000, u64::from)
+    })
+}
+
+fn to_frame_count() -> Case {
+    let labels = Box::new(inputs::labels().map(drop_frame));
+    Case::new("to_frame_count", move |turn| {
+        let time = black_box(&labels[turn % ROUND]);
+        u64::from(black_box(boundary::to_frame_count(time)))
+    })
+}
+
+fn from_frame_count() -> Case {
+    let counts = inputs::counts();
+    Case::new("from_frame_count", move |turn| {
+        let count = black_box(counts[turn % ROUND]);
+        let rate = black_box(DROP_FRAME);
+        number(black_box(boundary::from_frame_count(count, rate)))
+    })
+}
+
+fn add_frames() -> Case {
+    let labels = Box::new(inputs::labels().map(drop_frame));
+    let deltas = inputs::deltas();
+    Case::new("add_frames", move |turn| {
+        let time = black_box(labels[turn % ROUND]);
+        let delta = black_box(deltas[turn % ROUND]);
+        number(black_box(boundary::add_frames(time, delta)))
+    })
+}
+
+fn write() -> Case {
+    let locate = Command {
+        kind: LOCATE_TARGET,
+        code: Code {
+            time: drop_frame([1, 37, 52, 16]),
+            ..Code::default()
+        },
+        ..Command::default()
+    };
+    let play = Command {
+        kind: PLAY,
+        ..Command::default()
+    };
+    let list = [locate, play];
+    let mut out = [0; ROOM];
+    Case::new("write", move |_| {
+        let room = black_box(&mut out);
+        let written = black_box(boundary::write(room, black_box(0x7F), black_box(&list)));
+        let length = if written.refusal == 0 {
+            written.length as u64
+        } else {
+            1000
+        };
+        length + u64::from(out[8])
+    })
+}
+
+/// A message's data read item by item.
+fn read(data: &[u8]) -> u64 {
+    black_box(boundary::read(black_box(&COMMANDS), black_box(data))) as u64
+}
+
+fn read_back() -> Case {
+    Case::new("read_back", |_| read(&LOCATE_PLAY))
+}
+
+fn read_stops() -> Case {
+    Case::new("read_stops", |_| read(&[0x01; BODY]))
+}
+
+fn read_random() -> Case {
+    let bodies = inputs::random_bodies();
+    Case::new("read_random", move |turn| read(&bodies[turn % BODIES]))
+}

@@ -1,0 +1,70 @@
+//! The records and calls of `fimbrast.h` that are measured.
+
+/// Declares records with the layout of C.
+macro_rules! records {
+    ($($name:ident { $($field:ident: $type:ty),* $(,)? })*) => {
+        $(
+            #[derive(Debug, Clone, Copy, Default)]
+            #[repr(C)]
+            pub struct $name {
+                $(pub $field: $type,)*
+            }
+        )*
+    };
+}
+
+records! {
+    Time { hours: u8, minutes: u8, seconds: u8, frames: u8, rate: u8 }
+    MaybeTime { present: bool, time: Time }
+    Generator { time: Time, direction: u8, last: u8, running: bool }
+    Sent { generator: Generator, refusal: u8, byte: u8 }
+    Reader {
+        nibbles: [u8; 8],
+        count: u8,
+        first: u8,
+        last: u8,
+        direction: u8,
+        locked: bool,
+        running: bool,
+        previous: MaybeTime,
+        time: MaybeTime,
+    }
+    Sequence { raw: Time, current: Time, direction: u8, discontinuity: bool }
+    MaybeSequence { present: bool, sequence: Sequence }
+    Event { piece: u8, boundary: bool, report: MaybeSequence }
+    Received { reader: Reader, event: Event }
+    Universal { real_time: bool, device_id: u8, sub_id1: u8, has_sub_id2: bool, sub_id2: u8 }
+    Written { refusal: u8, length: usize }
+    MmcMessage { answer: u8, responses: bool, device_id: u8 }
+    Code { time: Time, color_frame: bool, blank: bool, negative: bool, status: bool, last: u8 }
+    Part { start: usize, length: usize }
+    Command { kind: u8, first: u8, second: u8, code: Code, name: Part, data: Part }
+    NextCommand { refusal: u8, command: Command, place: usize }
+    Writer { at: usize, items: usize, refusal: u8, needed: usize }
+}
+
+unsafe extern "C" {
+    pub safe fn fimbrast_to_frame_count(time: Time) -> u32;
+    pub safe fn fimbrast_from_frame_count(count: u32, rate: u8) -> Time;
+    pub safe fn fimbrast_add_frames(time: Time, delta: i32) -> Time;
+    pub safe fn fimbrast_generator_new(time: Time, direction: u8) -> Generator;
+    pub safe fn fimbrast_next_byte(generator: Generator) -> Sent;
+    pub safe fn fimbrast_reader_new() -> Reader;
+    pub safe fn fimbrast_receive(reader: Reader, byte: u8) -> Received;
+    pub fn fimbrast_mmc_message_read(
+        header: Universal,
+        data: *const u8,
+        length: usize,
+    ) -> MmcMessage;
+    pub fn fimbrast_next_command(body: *const u8, length: usize, place: usize) -> NextCommand;
+    pub fn fimbrast_open_commands(out: *mut u8, out_length: usize, device_id: u8) -> Writer;
+    pub fn fimbrast_put_command(
+        writer: Writer,
+        out: *mut u8,
+        out_length: usize,
+        source: *const u8,
+        source_length: usize,
+        command: Command,
+    ) -> Writer;
+    pub fn fimbrast_close_message(writer: Writer, out: *mut u8, out_length: usize) -> Written;
+}
