@@ -7,12 +7,13 @@ use super::lib::mmc::{FinalByte, MmcCommand, StandardTimeCode};
 use super::lib::mtc::{Direction, MtcGenerator, MtcReader, MtcTime, TimeCodeType};
 use super::lib::universal::Universal;
 use crate::case::Case;
-use crate::inputs::{self, BODIES, BODY, LOCATE_PLAY, ROOM, ROUND};
+use crate::inputs::{self, BODIES, BODY, LIST, LOCATE_PLAY, ROOM, ROUND};
 
 /// Every case, in the order of the tables.
 pub fn all() -> Vec<Case> {
     vec![
         receive(),
+        receive_list(),
         next_byte(),
         to_frame_count(),
         from_frame_count(),
@@ -57,6 +58,15 @@ fn receive() -> Case {
         let byte = black_box(bytes[turn % ROUND]);
         let event = black_box(boundary::receive(black_box(&mut reader), byte));
         u64::from(event.piece) + event.sequence.map_or(0, |s| number(s.current))
+    })
+}
+
+fn receive_list() -> Case {
+    let bytes = inputs::stream(LIST);
+    let mut reader = MtcReader::new();
+    Case::new("receive_list", move |_| {
+        let reports = super::receive_list(black_box(&mut reader), black_box(&bytes));
+        black_box(reports) as u64
     })
 }
 

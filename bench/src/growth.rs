@@ -55,7 +55,7 @@ fn receivers() -> [Side; 4] {
             let mut reader = side_bare::boundary::fimbrast_reader_new();
             side_bare::boundary::receive_all(&mut reader, bytes)
         }),
-        Box::new(|bytes| side_new::feed(&mut fimbrast::mtc::MtcReader::new(), bytes)),
+        Box::new(|bytes| side_new::receive_list(&mut fimbrast::mtc::MtcReader::new(), bytes)),
     ]
 }
 

@@ -4,6 +4,8 @@ use old::mtc::{Direction, MtcGenerator, MtcTime, TimeCodeType};
 
 /// How many different inputs a case goes round.
 pub const ROUND: usize = 8192;
+/// How many data bytes in a list that is received at once.
+pub const LIST: usize = 512;
 /// How many different random bodies.
 pub const BODIES: usize = 64;
 /// The length of the body of Stops and of the random ones.
@@ -24,7 +26,7 @@ impl Rng {
         self.0 = self.0.wrapping_add(0x9E37_79B9_7F4A_7C15);
         let z = (self.0 ^ (self.0 >> 30)).wrapping_mul(0xBF58_476D_1CE4_E5B9);
         let z = (z ^ (z >> 27)).wrapping_mul(0x94D0_49BB_1331_11EB);
-        ((z ^ (z >> 31)) >> 32) * n >> 32
+        (((z ^ (z >> 31)) >> 32) * n) >> 32
     }
 }
 

@@ -5,6 +5,9 @@
 //! - `bench names`: the operations, one to a line.
 //! - `bench one NAME SIDE COUNT`: one operation of `old`, `new` or `bare`, to count its instructions.
 
+// `boundary.rs` and `cases.rs` are built over both crates on purpose.
+#![allow(clippy::duplicate_mod)]
+
 mod case;
 mod growth;
 mod inputs;

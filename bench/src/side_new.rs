@@ -7,10 +7,14 @@ pub mod boundary;
 #[path = "cases.rs"]
 pub mod cases;
 
-use lib::mtc::MtcReader;
+pub use boundary_list::receive_list;
 
-/// A list in one call, which only the library has: how many reports.
-#[inline(never)]
-pub fn feed(reader: &mut MtcReader, bytes: &[u8]) -> usize {
-    reader.feed(bytes).reports
+mod boundary_list {
+    use super::lib::mtc::MtcReader;
+
+    /// A list of data bytes in one call: how many reports.
+    #[inline(never)]
+    pub fn receive_list(reader: &mut MtcReader, bytes: &[u8]) -> usize {
+        reader.feed(bytes).reports
+    }
 }

@@ -3,7 +3,7 @@
 use std::hint::black_box;
 
 use super::ffi::{
-    fimbrast_add_frames, fimbrast_close_message, fimbrast_from_frame_count,
+    fimbrast_add_frames, fimbrast_close_message, fimbrast_feed, fimbrast_from_frame_count,
     fimbrast_mmc_message_read, fimbrast_next_byte, fimbrast_next_command, fimbrast_open_commands,
     fimbrast_put_command, fimbrast_receive, fimbrast_to_frame_count,
 };
@@ -18,6 +18,15 @@ pub fn receive(reader: &mut Reader, byte: u8) -> Event {
     let received = fimbrast_receive(*reader, byte);
     *reader = received.reader;
     received.event
+}
+
+/// A list of data bytes in one call: how many reports.
+#[inline(never)]
+pub fn receive_list(reader: &mut Reader, bytes: &[u8]) -> usize {
+    // SAFETY: `bytes` is a live slice.
+    let fed = unsafe { fimbrast_feed(*reader, bytes.as_ptr(), bytes.len()) };
+    *reader = fed.reader;
+    fed.reports
 }
 
 /// The byte, where the generator is not stopped.

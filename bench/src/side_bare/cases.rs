@@ -4,7 +4,7 @@ use std::hint::black_box;
 
 use super::boundary::{self, Code, Command, Time, Universal};
 use crate::case::Case;
-use crate::inputs::{self, BODIES, BODY, LOCATE_PLAY, ROOM, ROUND};
+use crate::inputs::{self, BODIES, BODY, LIST, LOCATE_PLAY, ROOM, ROUND};
 
 const FORWARD: u8 = 0;
 const DROP_FRAME: u8 = 2;
@@ -24,6 +24,7 @@ pub const COMMANDS: Universal = Universal {
 pub fn all() -> Vec<Case> {
     vec![
         receive(),
+        receive_list(),
         next_byte(),
         to_frame_count(),
         from_frame_count(),
@@ -63,6 +64,15 @@ fn receive() -> Case {
             } else {
                 0
             }
+    })
+}
+
+fn receive_list() -> Case {
+    let bytes = inputs::stream(LIST);
+    let mut reader = boundary::fimbrast_reader_new();
+    Case::new("receive_list", move |_| {
+        let reports = boundary::receive_list(black_box(&mut reader), black_box(&bytes));
+        black_box(reports) as u64
     })
 }
 

@@ -33,6 +33,7 @@ records! {
     MaybeSequence { present: bool, sequence: Sequence }
     Event { piece: u8, boundary: bool, report: MaybeSequence }
     Received { reader: Reader, event: Event }
+    Fed { reader: Reader, reports: usize, discontinuities: usize, last: MaybeSequence }
     Universal { real_time: bool, device_id: u8, sub_id1: u8, has_sub_id2: bool, sub_id2: u8 }
     Written { refusal: u8, length: usize }
     MmcMessage { answer: u8, responses: bool, device_id: u8 }
@@ -51,6 +52,7 @@ unsafe extern "C" {
     pub safe fn fimbrast_next_byte(generator: Generator) -> Sent;
     pub safe fn fimbrast_reader_new() -> Reader;
     pub safe fn fimbrast_receive(reader: Reader, byte: u8) -> Received;
+    pub fn fimbrast_feed(reader: Reader, bytes: *const u8, length: usize) -> Fed;
     pub fn fimbrast_mmc_message_read(
         header: Universal,
         data: *const u8,
