@@ -25,9 +25,9 @@ prove:
 # The library for C and Rust, and what it answers there; where cargo or the published Rust is missing, a line says what was left out.
 after-proof:
 	@$(MAKE) --no-print-directory library c-example
-	@if command -v $(CARGO) >/dev/null; then $(MAKE) --no-print-directory bindings; \
+	@if $(CARGO) --version >/dev/null 2>&1; then $(MAKE) --no-print-directory bindings; \
 	  else echo "bindings/rust was not tested and old was not compared with new: there is no cargo here"; fi
-	@if ! command -v $(CARGO) >/dev/null; then :; \
+	@if ! $(CARGO) --version >/dev/null 2>&1; then :; \
 	  elif [ -f "$(OLD)/mtc.rs" ]; then $(MAKE) --no-print-directory compare; \
 	  else echo "old was not compared with new: no mtc.rs in $(OLD); give its folder with OLD=.."; fi
 
