@@ -18,11 +18,11 @@ number-requires c κs = search needs
 
 returns : tie.Need-returns
 unfolding flatReply
-returns c = cc
+returns c = rw (c .enum-told .given .1)
 
 returns-2 : tie.Need-returns-2
 unfolding flatReply
-returns-2 c = cc
+returns-2 c = rw (c .enum-told2 .given .1)
 
 returns-3 : tie.Need-returns-3
 unfolding flatReply
