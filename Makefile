@@ -9,10 +9,15 @@ COMPARE = compare/target/release/compare
 C_FLAGS = -std=c11 -Wall -Wextra -Wpedantic -Werror -O2
 ARCHIVE = target/staticlib/libfimbrast.a
 
-.PHONY: test prove library bindings c-example compare compare-long bench after-proof
+.PHONY: test run prove words library bindings c-example compare compare-long bench after-proof
 
 test: prove after-proof
 	@tail -n 1 target/gate.log
+
+# Says in plain words what becomes of the example strings, good and bad.
+run:
+	@mkdir -p target && { rt check mmc_check > target/run.log 2>&1 || { tail -n 20 target/run.log; exit 1; }; }
+	@target/bin/mmc_check examples/strings.txt
 
 # Proves every crate from nothing, runs the programs, tries the edits that must be refused.
 prove:
@@ -24,12 +29,16 @@ prove:
 
 # The library for C and Rust, and what it answers there; where cargo or the published Rust is missing, a line says what was left out.
 after-proof:
-	@$(MAKE) --no-print-directory library c-example
+	@$(MAKE) --no-print-directory words library c-example
 	@if $(CARGO) --version >/dev/null 2>&1; then $(MAKE) --no-print-directory bindings; \
 	  else echo "bindings/rust was not tested and old was not compared with new: there is no cargo here"; fi
 	@if ! $(CARGO) --version >/dev/null 2>&1; then :; \
 	  elif [ -f "$(OLD)/mtc.rs" ]; then $(MAKE) --no-print-directory compare; \
 	  else echo "old was not compared with new: no mtc.rs in $(OLD); give its folder with OLD=.."; fi
+
+# What mmc_check says of the example strings and of the handbook's.
+words:
+	@examples/check
 
 # target/staticlib/libfimbrast.a, for C and Rust to link.
 library:

@@ -1,0 +1,52 @@
+use borrow.Author.Needs.{needs}
+use Rattle.mmc_check.proofs.commands.all.Statement.{statement}
+use Rattle.mmc_check.proofs.commands.all.Tie as tie
+
+abbrev Inv-loop : tie.InvT-loop
+Inv-loop device-id own body run₀ turns₀ run turns = Unit
+
+abbrev μ-loop : tie.MeasureT-loop
+μ-loop device-id own body run₀ turns₀ run turns = turns
+
+idle-requires : tie.Need-idle-requires Inv-loop μ-loop
+idle-requires c κs = search needs
+
+begin-commands-requires : tie.Need-begin-commands-requires Inv-loop μ-loop
+begin-commands-requires c κs = search needs
+
+loop-holds : tie.Need-loop-holds Inv-loop μ-loop
+loop-holds c = search needs
+
+sub-turns : tie.Need-sub-turns Inv-loop μ-loop
+sub-turns c = search needs
+
+one-requires : tie.Need-one-requires Inv-loop μ-loop
+one-requires c κs = search needs
+
+loop-less : tie.Need-loop-less Inv-loop μ-loop
+loop-less c = search needs
+
+loop-again : tie.Need-loop-again Inv-loop μ-loop
+loop-again c = search needs
+
+returns : tie.Need-returns Inv-loop μ-loop
+returns c = search needs
+
+returns-2 : tie.Need-returns-2 Inv-loop μ-loop
+returns-2 c = search needs
+
+pub all-spec : {M : Type 1} → statement M
+all-spec =
+    tie.close
+    (tie.spec
+    Inv-loop
+    μ-loop
+    idle-requires
+    begin-commands-requires
+    loop-holds
+    sub-turns
+    one-requires
+    loop-less
+    loop-again
+    returns
+    returns-2)
