@@ -19,18 +19,7 @@ pub struct FlatWritten {
 pub fn number(error: SysexError) -> u8
     ensures { λ r. ⌜ r ≡ refusalOf error .number ⌝ }
 {
-    match error {
-        SysexError::DataByte => 1,
-        SysexError::Length => 2,
-        SysexError::OutOfRange => 3,
-        SysexError::BufferTooSmall { needed: _ } => 4,
-        SysexError::Device => 5,
-        SysexError::Source => 6,
-        SysexError::Target => 7,
-        SysexError::Stopped => 8,
-        SysexError::End => 9,
-        SysexError::ItemLimit => 10,
-    }
+    error.number()
 }
 
 // The length that is needed, which only refusal 4 gives.

@@ -14,22 +14,6 @@ use mmc::open_commands;
 use universal::SysexError;
 use universal::Written;
 
-// Document 01's number of a refusal.
-fn number(e: SysexError) -> u8 {
-    match e {
-        SysexError::DataByte => 1,
-        SysexError::Length => 2,
-        SysexError::OutOfRange => 3,
-        SysexError::BufferTooSmall { needed: _ } => 4,
-        SysexError::Device => 5,
-        SysexError::Source => 6,
-        SysexError::Target => 7,
-        SysexError::Stopped => 8,
-        SysexError::End => 9,
-        SysexError::ItemLimit => 10,
-    }
-}
-
 fn is_length(written: Written, length: usize) -> bool {
     match written {
         Written::Length(n) => n == length,
@@ -40,7 +24,7 @@ fn is_length(written: Written, length: usize) -> bool {
 fn is_refused(written: Written, by: u8) -> bool {
     match written {
         Written::Length(_) => false,
-        Written::Refused(e) => number(e) == by,
+        Written::Refused(e) => e.number() == by,
     }
 }
 
@@ -112,7 +96,7 @@ fn refusal_at(body: &[u8], place: usize) -> u8 {
     let answer = next.answer;
     match answer {
         CommandAnswer::Command(_) => 0,
-        CommandAnswer::Refused(e) => number(e),
+        CommandAnswer::Refused(e) => e.number(),
     }
 }
 

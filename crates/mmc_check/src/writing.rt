@@ -30,11 +30,12 @@ pub(crate) fn begin_commands(device_id: u8) -> Writing {
     }
 }
 
+// A refusal at the opening is for the device, which stands two bytes before the body.
 pub(crate) fn begin_responses(device_id: u8) -> Writing {
     let mut out = [0u8; 4];
     Writing {
         writer: open_responses(&mut out, device_id),
-        at: 0,
+        at: std::num::wrapping_sub_usize(0, 2),
     }
 }
 

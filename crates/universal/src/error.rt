@@ -1,4 +1,6 @@
 // The refusals of document 01, one case each. specs/Refusals.antt gives each its number.
+ghost use mathlib.Core.Path.{_≡_};
+ghost use Rattle.universal.specs.Refusals.{refusalOf};
 
 // Why a reading or a writing was turned back.
 pub enum SysexError {
@@ -22,4 +24,24 @@ pub enum SysexError {
     End,
     // 10: 256 items were already accepted in this writing.
     ItemLimit,
+}
+
+impl SysexError {
+    // The number of document 01.
+    pub fn number(self) -> u8
+        ensures { λ r. ⌜ r ≡ refusalOf self .number ⌝ }
+    {
+        match self {
+            SysexError::DataByte => 1,
+            SysexError::Length => 2,
+            SysexError::OutOfRange => 3,
+            SysexError::BufferTooSmall { needed: _ } => 4,
+            SysexError::Device => 5,
+            SysexError::Source => 6,
+            SysexError::Target => 7,
+            SysexError::Stopped => 8,
+            SysexError::End => 9,
+            SysexError::ItemLimit => 10,
+        }
+    }
 }
