@@ -310,6 +310,21 @@ typedef struct {
 
 fimbrast_next_command_answer fimbrast_next_command(const uint8_t *body, size_t length, size_t place);
 
+/* The same as one number, which comes back in registers. Its lowest byte is the kind, or 128 and the refusal's number.
+ * The bytes above it are, the lowest first:
+ *   LOCATE_FIELD   the register
+ *   LOCATE_TARGET  the five bytes of the time code as they are sent, with the reserved bits 0
+ *   MOVE           the destination and the source
+ *   WRITE          0 and the length of the data
+ *   OTHER_COMMAND  the lengths of the name and of the data
+ * A name begins at the place that was read, and data ends at the place to read on from. */
+typedef struct {
+    uint64_t word;
+    size_t place;
+} fimbrast_next_word_answer;
+
+fimbrast_next_word_answer fimbrast_next_word(const uint8_t *body, size_t length, size_t place);
+
 enum {
     FIMBRAST_TIME_CODE = 0,   /* field, code */
     FIMBRAST_SHORT = 1,       /* field, short_code */

@@ -161,6 +161,10 @@ int main(void)
     PLACE(next_command_answer, command);
     PLACE(next_command_answer, place);
     END;
+    SIZE(next_word_answer);
+    PLACE(next_word_answer, word);
+    PLACE(next_word_answer, place);
+    END;
     SIZE(field);
     PLACE(field, kind);
     PLACE(field, field);

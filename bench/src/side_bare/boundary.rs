@@ -4,14 +4,14 @@ use std::hint::black_box;
 
 use super::ffi::{
     fimbrast_add_frames, fimbrast_close_message, fimbrast_feed, fimbrast_from_frame_count,
-    fimbrast_mmc_message_read, fimbrast_next_byte, fimbrast_next_command, fimbrast_open_commands,
+    fimbrast_mmc_message_read, fimbrast_next_byte, fimbrast_next_word, fimbrast_open_commands,
     fimbrast_put_command, fimbrast_receive, fimbrast_to_frame_count,
 };
 pub use super::ffi::{fimbrast_generator_new, fimbrast_reader_new};
 pub use super::ffi::{Code, Command, Event, Generator, Reader, Time, Universal, Written};
 
-/// The number of `next_command`'s refusal at the end.
-const END: u8 = 9;
+/// The lowest byte of `next_word`'s number at the end: the refusal 9.
+const END: u8 = 128 + 9;
 
 #[inline(never)]
 pub fn receive(reader: &mut Reader, byte: u8) -> Event {
@@ -77,11 +77,11 @@ pub fn read(header: &Universal, data: &[u8]) -> usize {
     let (mut items, mut place) = (0, 0);
     loop {
         // SAFETY: as above.
-        let answer = unsafe { fimbrast_next_command(bytes, length, place) };
-        if answer.refusal == END {
+        let answer = unsafe { fimbrast_next_word(bytes, length, place) };
+        if answer.word as u8 == END {
             return items;
         }
-        black_box(&answer.command);
+        black_box(&answer.word);
         place = answer.place;
         items += 1;
     }

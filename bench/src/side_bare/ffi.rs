@@ -40,7 +40,7 @@ records! {
     Code { time: Time, color_frame: bool, blank: bool, negative: bool, status: bool, last: u8 }
     Part { start: usize, length: usize }
     Command { kind: u8, first: u8, second: u8, code: Code, name: Part, data: Part }
-    NextCommand { refusal: u8, command: Command, place: usize }
+    NextWord { word: u64, place: usize }
     Writer { at: usize, items: usize, refusal: u8, needed: usize }
 }
 
@@ -58,7 +58,7 @@ unsafe extern "C" {
         data: *const u8,
         length: usize,
     ) -> MmcMessage;
-    pub fn fimbrast_next_command(body: *const u8, length: usize, place: usize) -> NextCommand;
+    pub fn fimbrast_next_word(body: *const u8, length: usize, place: usize) -> NextWord;
     pub fn fimbrast_open_commands(out: *mut u8, out_length: usize, device_id: u8) -> Writer;
     pub fn fimbrast_put_command(
         writer: Writer,

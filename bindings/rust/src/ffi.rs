@@ -22,6 +22,12 @@ pub(crate) const LOCATE_FIELD: u8 = 10;
 pub(crate) const LOCATE_TARGET: u8 = 11;
 pub(crate) const MOVE: u8 = 12;
 pub(crate) const OTHER_COMMAND: u8 = 13;
+/// A refusal's number stands above this one.
+pub(crate) const REFUSED: u8 = 128;
+/// The refusal at the end of a string.
+pub(crate) const END: u8 = REFUSED + 9;
+/// The refusal of a string that is cut short.
+pub(crate) const CUT: u8 = REFUSED + 2;
 
 pub(crate) const TIME_CODE: u8 = 0;
 pub(crate) const SHORT: u8 = 1;
@@ -86,13 +92,44 @@ records! {
     Part { start: usize, length: usize }
     #[derive(Default)]
     Command { kind: u8, first: u8, second: u8, code: Code, name: Part, data: Part }
+    #[cfg(test)]
     NextCommand { refusal: u8, command: Command, place: usize }
+    NextWord { word: u64, place: usize }
     #[derive(Default)]
     Field { kind: u8, field: u8, code: Code, short_code: ShortCode, name: Part, data: Part }
     NextField { refusal: u8, field: Field, place: usize }
     Writer { at: usize, items: usize, refusal: u8, needed: usize }
     Applied { generator: Generator, answer: u8 }
     Run { generator: Generator, commands: usize, refused: usize, stop: u8 }
+}
+
+impl NextWord {
+    /// The case of a command, or `REFUSED` and a refusal's number.
+    #[inline]
+    pub(crate) const fn case(self) -> u8 {
+        self.word as u8
+    }
+
+    /// The name, at the place that was read, and the data.
+    #[inline]
+    pub(crate) fn parts(self, body: &[u8], place: usize) -> Option<(&[u8], &[u8])> {
+        let item = body.get(place..self.place)?;
+        let name = item.get(..usize::from(self.byte(0)))?;
+        let data = item.get(item.len().checked_sub(usize::from(self.byte(1)))?..)?;
+        Some((name, data))
+    }
+
+    /// The data, up to the place to read on from.
+    pub(crate) fn data(self, body: &[u8]) -> Option<&[u8]> {
+        let length = usize::from(self.byte(1));
+        body.get(self.place.checked_sub(length)?..self.place)
+    }
+
+    /// A byte above the case, the lowest first.
+    #[inline]
+    pub(crate) const fn byte(self, n: u32) -> u8 {
+        (self.word >> (8 + 8 * n)) as u8
+    }
 }
 
 impl Part {
@@ -174,7 +211,7 @@ unsafe extern "C" {
     pub(crate) safe fn fimbrast_to_subframes_form(code: Code) -> Code;
     pub(crate) safe fn fimbrast_to_status_form(code: Code, video_field1: bool) -> Code;
 
-    fn fimbrast_next_command(body: *const u8, length: usize, place: usize) -> NextCommand;
+    fn fimbrast_next_word(body: *const u8, length: usize, place: usize) -> NextWord;
     fn fimbrast_next_field(body: *const u8, length: usize, place: usize) -> NextField;
 
     fn fimbrast_open_commands(out: *mut u8, out_length: usize, device_id: u8) -> Writer;
@@ -255,15 +292,17 @@ pub(crate) fn user_bits_write(bits: UserBits, out: &mut [u8]) -> Written {
     unsafe { fimbrast_user_bits_write(bits, out.as_mut_ptr(), out.len()) }
 }
 
+#[inline]
 pub(crate) fn mmc_message_read(header: Universal, data: &[u8]) -> MmcMessage {
     // SAFETY: `data` is a live slice.
     unsafe { fimbrast_mmc_message_read(header, data.as_ptr(), data.len()) }
 }
 
-/// The command at the front of `body`.
-pub(crate) fn next_command(body: &[u8]) -> NextCommand {
+/// The command at a place of `body`.
+#[inline]
+pub(crate) fn next_word(body: &[u8], place: usize) -> NextWord {
     // SAFETY: `body` is a live slice.
-    unsafe { fimbrast_next_command(body.as_ptr(), body.len(), 0) }
+    unsafe { fimbrast_next_word(body.as_ptr(), body.len(), place) }
 }
 
 /// The information field at the front of `body`.

@@ -10,6 +10,8 @@
 //!
 //! A response from 7FH is read as it came, and is not valid. No call allocates or panics.
 
+use core::fmt;
+
 use crate::ffi;
 use crate::mtc::MtcTime;
 use crate::universal::{written, SysexError, Universal};
@@ -133,6 +135,7 @@ impl FinalByte {
         }
     }
 
+    #[inline]
     fn of(status: bool, last: u8) -> Self {
         if status {
             Self::Status(TimeCodeStatus::from_byte(last))
@@ -201,6 +204,27 @@ impl StandardTimeCode {
         }
     }
 
+    /// The time code of a Locate that was read: its five bytes above the case (pp. 8, 9).
+    #[inline]
+    fn of_word(next: ffi::NextWord) -> Self {
+        let [hr, mn, sc, fr] = [next.byte(0), next.byte(1), next.byte(2), next.byte(3)];
+        Self::of(ffi::Code {
+            time: ffi::Time {
+                hours: hr & 0x1F,
+                minutes: mn & 0x3F,
+                seconds: sc & 0x3F,
+                frames: fr & 0x1F,
+                rate: hr >> 5 & 0x03,
+            },
+            color_frame: mn & 0x40 != 0,
+            blank: sc & 0x40 != 0,
+            negative: fr & 0x40 != 0,
+            status: fr & 0x20 != 0,
+            last: next.byte(4),
+        })
+    }
+
+    #[inline]
     fn of(code: ffi::Code) -> Self {
         Self {
             time: MtcTime::of(code.time),
@@ -255,7 +279,9 @@ impl ShortTimeCode {
 }
 
 /// One command (pp. 20 to 32).
+// The mark of the case is as wide as the fields beside it, so that a command is moved by whole words.
 #[derive(Debug, Clone, PartialEq, Eq)]
+#[repr(u64)]
 pub enum MmcCommand<'a> {
     /// 01H STOP.
     Stop,
@@ -342,9 +368,10 @@ impl<'a> MmcCommand<'a> {
         }
     }
 
-    /// The command that was read from the front of `body`.
-    fn of(command: ffi::Command, body: &'a [u8]) -> Self {
-        match command.kind {
+    /// The command of a case that is a name alone.
+    #[inline]
+    const fn plain(case: u8) -> Option<Self> {
+        Some(match case {
             ffi::STOP => Self::Stop,
             ffi::PLAY => Self::Play,
             ffi::DEFERRED_PLAY => Self::DeferredPlay,
@@ -354,20 +381,26 @@ impl<'a> MmcCommand<'a> {
             ffi::RECORD_EXIT => Self::RecordExit,
             ffi::PAUSE => Self::Pause,
             ffi::RESET => Self::Reset,
-            ffi::WRITE => Self::Write(InfoFields::new(command.data.of(body))),
+            _ => return None,
+        })
+    }
+
+    /// A command of another case, whose data ends at the next place of `body`, or a refusal. It is not inlined, so that the
+    /// loop of a caller keeps an item where it was put.
+    #[inline(never)]
+    fn of(next: ffi::NextWord, body: &'a [u8]) -> Option<Result<Self, SysexError>> {
+        Some(Ok(match next.case() {
+            ffi::WRITE => Self::Write(InfoFields::new(next.data(body)?)),
             ffi::LOCATE_FIELD => Self::LocateField {
-                register: command.first,
+                register: next.byte(0),
             },
-            ffi::LOCATE_TARGET => Self::LocateTarget(StandardTimeCode::of(command.code)),
+            ffi::LOCATE_TARGET => Self::LocateTarget(StandardTimeCode::of_word(next)),
             ffi::MOVE => Self::Move {
-                destination: command.first,
-                source: command.second,
+                destination: next.byte(0),
+                source: next.byte(1),
             },
-            _ => Self::Other {
-                name: command.name.of(body),
-                data: command.data.of(body),
-            },
-        }
+            refusal => return Some(Err(SysexError::of(refusal & !ffi::REFUSED, 0))),
+        }))
     }
 
     fn put(&self, writer: ffi::Writer, out: &mut [u8]) -> ffi::Writer {
@@ -531,29 +564,61 @@ fn fill(room: &mut [u8], bytes: &[u8]) -> usize {
 /// assert_eq!(commands.next(), None);
 /// # Ok::<(), fimbrast::universal::SysexError>(())
 /// ```
-#[derive(Debug, Clone, PartialEq, Eq)]
+#[derive(Clone)]
 pub struct Commands<'a> {
     bytes: &'a [u8],
+    place: usize,
 }
 
 impl<'a> Commands<'a> {
     /// The bytes not read yet.
     pub const fn as_bytes(&self) -> &'a [u8] {
-        self.bytes
+        match self.bytes.split_at_checked(self.place) {
+            Some((_, rest)) => rest,
+            None => &[],
+        }
     }
 }
+
+impl fmt::Debug for Commands<'_> {
+    fn fmt(&self, f: &mut fmt::Formatter<'_>) -> fmt::Result {
+        f.debug_struct("Commands")
+            .field("bytes", &self.as_bytes())
+            .finish()
+    }
+}
+
+impl PartialEq for Commands<'_> {
+    fn eq(&self, other: &Self) -> bool {
+        self.as_bytes() == other.as_bytes()
+    }
+}
+
+impl Eq for Commands<'_> {}
 
 impl<'a> Iterator for Commands<'a> {
     type Item = Result<MmcCommand<'a>, SysexError>;
 
+    #[inline]
     fn next(&mut self) -> Option<Self::Item> {
-        let body = self.bytes;
-        let answer = ffi::next_command(body);
-        self.bytes = body.get(answer.place..).unwrap_or(&[]);
-        match SysexError::check(answer.refusal) {
-            Ok(()) => Some(Ok(MmcCommand::of(answer.command, body))),
-            Err(SysexError::End) => None,
-            Err(refusal) => Some(Err(refusal)),
+        let place = self.place;
+        // The library would answer 9.
+        if place >= self.bytes.len() {
+            return None;
+        }
+        let next = ffi::next_word(self.bytes, place);
+        self.place = next.place;
+        if let Some(plain) = MmcCommand::plain(next.case()) {
+            return Some(Ok(plain));
+        }
+        match next.case() {
+            ffi::OTHER_COMMAND => {
+                let (name, data) = next.parts(self.bytes, place)?;
+                Some(Ok(MmcCommand::Other { name, data }))
+            }
+            ffi::CUT => Some(Err(SysexError::Length)),
+            ffi::END => None,
+            _ => MmcCommand::of(next, self.bytes),
         }
     }
 }
@@ -625,8 +690,15 @@ pub enum MmcMessage<'a> {
 impl<'a> MmcMessage<'a> {
     /// Reads the message from its split parts (Real Time, Sub-ID#1 06H or 07H): `None` for another message,
     /// [`SysexError::Length`] for an empty string.
+    #[inline]
     pub fn from_universal(u: &Universal<'a>) -> Result<Option<Self>, SysexError> {
-        let read = ffi::mmc_message_read(u.flat(), u.data);
+        // Sub-ID#2 decides nothing here.
+        let header = ffi::Universal {
+            has_sub_id2: false,
+            sub_id2: 0,
+            ..u.flat()
+        };
+        let read = ffi::mmc_message_read(header, u.data);
         if read.answer == ffi::NOT_THIS {
             return Ok(None);
         }
@@ -640,7 +712,10 @@ impl<'a> MmcMessage<'a> {
         } else {
             Self::Commands {
                 device_id,
-                commands: Commands { bytes: u.data },
+                commands: Commands {
+                    bytes: u.data,
+                    place: 0,
+                },
             }
         }))
     }

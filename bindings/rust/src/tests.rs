@@ -133,6 +133,7 @@ fn layout_is_the_headers() {
         "part" Part { start, length }
         "command" Command { kind, first, second, code, name, data }
         "next_command_answer" NextCommand { refusal, command, place }
+        "next_word_answer" NextWord { word, place }
         "field" Field { kind, field, code, short_code, name, data }
         "next_field_answer" NextField { refusal, field, place }
         "writer" Writer { at, items, refusal, needed }

@@ -66,6 +66,7 @@ impl SysexError {
     }
 
     /// The refusal of a number that is not 0, with the needed length for 4. A number above 10 is taken as 10.
+    #[inline]
     pub(crate) const fn of(number: u8, needed: usize) -> Self {
         match number {
             1 => Self::DataByte,
@@ -82,6 +83,7 @@ impl SysexError {
     }
 
     /// Nothing for 0, else the refusal.
+    #[inline]
     pub(crate) const fn check(number: u8) -> Result<(), Self> {
         match number {
             0 => Ok(()),
@@ -152,6 +154,7 @@ pub struct Universal<'a> {
 
 impl Universal<'_> {
     /// The parts but the data.
+    #[inline]
     pub(crate) fn flat(&self) -> ffi::Universal {
         ffi::Universal {
             real_time: self.real_time,

@@ -3,9 +3,11 @@ use flat::string::FlatNextCommand;
 use flat::string::FlatNextField;
 use flat::string::flat_next_command;
 use flat::string::flat_next_field;
+use mmc::NextWord;
 ghost use mathlib.Core.Path.{_≡_};
 ghost use Rattle.mmc.specs.Command.{nextCommand};
 ghost use Rattle.mmc.specs.Field.{nextField};
+ghost use Rattle.mmc.specs.Word.{nextWord};
 ghost use Rattle.flat.specs.String.{flatNextCommand, flatNextField};
 
 // The next of `Commands`: the command at a place of the string.
@@ -14,6 +16,14 @@ pub extern "C" fn fimbrast_next_command(body: &[u8], place: usize) -> FlatNextCo
     ensures { λ r. ⌜ r ≡ flatNextCommand (nextCommand (now (body .entry)) place) ⌝ }
 {
     flat_next_command(mmc::next_command(body, place))
+}
+
+// The same as one number.
+#[no_mangle]
+pub extern "C" fn fimbrast_next_word(body: &[u8], place: usize) -> NextWord
+    ensures { λ r. ⌜ r ≡ nextWord (nextCommand (now (body .entry)) place) ⌝ }
+{
+    mmc::next_word(body, place)
 }
 
 // The next of `InfoFields`: the field at a place of the string.

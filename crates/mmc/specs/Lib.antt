@@ -10,5 +10,6 @@ pub mod Rp013Code
 pub mod Split
 pub mod Strings
 pub mod TimeCode
+pub mod Word
 pub mod Write
 pub mod Writings

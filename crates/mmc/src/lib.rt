@@ -8,6 +8,7 @@ mod named;
 mod part;
 mod split;
 mod time_code;
+mod word;
 mod write;
 
 pub use command::CommandAnswer;
@@ -35,6 +36,8 @@ pub use time_code::StandardTimeCode;
 pub use time_code::TimeCodeStatus;
 pub use time_code::full_name;
 pub use time_code::short_name;
+pub use word::NextWord;
+pub use word::next_word;
 pub use write::Writer;
 pub use write::Wrote;
 pub use write::open_commands;
