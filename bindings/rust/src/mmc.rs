@@ -370,8 +370,8 @@ impl<'a> MmcCommand<'a> {
 
     /// The command of a case that is a name alone.
     #[inline]
-    const fn plain(case: u8) -> Option<Self> {
-        Some(match case {
+    const fn plain(case: u8) -> Self {
+        match case {
             ffi::STOP => Self::Stop,
             ffi::PLAY => Self::Play,
             ffi::DEFERRED_PLAY => Self::DeferredPlay,
@@ -380,9 +380,8 @@ impl<'a> MmcCommand<'a> {
             ffi::RECORD_STROBE => Self::RecordStrobe,
             ffi::RECORD_EXIT => Self::RecordExit,
             ffi::PAUSE => Self::Pause,
-            ffi::RESET => Self::Reset,
-            _ => return None,
-        })
+            _ => Self::Reset,
+        }
     }
 
     /// A command of another case, whose data ends at the next place of `body`, or a refusal. It is not inlined, so that the
@@ -608,8 +607,8 @@ impl<'a> Iterator for Commands<'a> {
         }
         let next = ffi::next_word(self.bytes, place);
         self.place = next.place;
-        if let Some(plain) = MmcCommand::plain(next.case()) {
-            return Some(Ok(plain));
+        if next.word <= u64::from(ffi::RESET) {
+            return Some(Ok(MmcCommand::plain(next.case())));
         }
         match next.case() {
             ffi::OTHER_COMMAND => {
