@@ -138,18 +138,7 @@ fn move_word(data: &[u8], name_at: Part, data_at: Part) -> u64
 fn refusal_word(error: SysexError) -> u64
     ensures { λ r. ⌜ r ≡ 128 + refusalOf error .number ⌝ }
 {
-    match error {
-        SysexError::DataByte => 129,
-        SysexError::Length => 130,
-        SysexError::OutOfRange => 131,
-        SysexError::BufferTooSmall { needed: _ } => 132,
-        SysexError::Device => 133,
-        SysexError::Source => 134,
-        SysexError::Target => 135,
-        SysexError::Stopped => 136,
-        SysexError::End => 137,
-        SysexError::ItemLimit => 138,
-    }
+    128 + wide(error.number())
 }
 
 // The command of a name without prefixes and data, or 270 where it has either.
