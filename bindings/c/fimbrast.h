@@ -351,14 +351,9 @@ fimbrast_next_field_answer fimbrast_next_field(const uint8_t *body, size_t lengt
 
 /* ---- writing: opened, given its items one at a time, closed; one buffer throughout, left alone between the calls */
 
-/* The position, the items accepted, and the first refusal (with the needed length for 4), which it repeats. A refusal
- * above 10 is taken as 10. */
-typedef struct {
-    size_t at;
-    size_t items;
-    uint8_t refusal;
-    size_t needed;
-} fimbrast_writer;
+/* A writer: the position in the lowest four bytes, the items accepted in the next two, and in the byte above them the first
+ * refusal, which it repeats. A refusal above 10 is taken as 10. */
+typedef uint64_t fimbrast_writer;
 
 fimbrast_writer fimbrast_open_commands(uint8_t *out, size_t out_length, uint8_t device_id);
 fimbrast_writer fimbrast_open_responses(uint8_t *out, size_t out_length, uint8_t device_id);
@@ -366,6 +361,10 @@ fimbrast_writer fimbrast_open_fields(void);
 /* The name and data of an item are parts of the source. */
 fimbrast_writer fimbrast_put_command(fimbrast_writer writer, uint8_t *out, size_t out_length, const uint8_t *source,
                                      size_t source_length, fimbrast_command command);
+/* A command that is a name alone, FIMBRAST_STOP to FIMBRAST_RESET; a kind above is taken as FIMBRAST_RESET. */
+fimbrast_writer fimbrast_put_plain(fimbrast_writer writer, uint8_t *out, size_t out_length, uint8_t kind);
+/* FIMBRAST_LOCATE_TARGET. */
+fimbrast_writer fimbrast_put_locate(fimbrast_writer writer, uint8_t *out, size_t out_length, fimbrast_code code);
 fimbrast_writer fimbrast_put_field(fimbrast_writer writer, uint8_t *out, size_t out_length, const uint8_t *source,
                                    size_t source_length, fimbrast_field field);
 fimbrast_written fimbrast_close_message(fimbrast_writer writer, uint8_t *out, size_t out_length);

@@ -178,12 +178,6 @@ int main(void)
     PLACE(next_field_answer, field);
     PLACE(next_field_answer, place);
     END;
-    SIZE(writer);
-    PLACE(writer, at);
-    PLACE(writer, items);
-    PLACE(writer, refusal);
-    PLACE(writer, needed);
-    END;
     SIZE(applied);
     PLACE(applied, generator);
     PLACE(applied, answer);

@@ -1,5 +1,8 @@
 //! The records and calls of `fimbrast.h` that are measured.
 
+/// A writer, in one number.
+pub type Writer = u64;
+
 /// Declares records with the layout of C.
 macro_rules! records {
     ($($name:ident { $($field:ident: $type:ty),* $(,)? })*) => {
@@ -41,7 +44,6 @@ records! {
     Part { start: usize, length: usize }
     Command { kind: u8, first: u8, second: u8, code: Code, name: Part, data: Part }
     NextWord { word: u64, place: usize }
-    Writer { at: usize, items: usize, refusal: u8, needed: usize }
 }
 
 unsafe extern "C" {
@@ -67,6 +69,13 @@ unsafe extern "C" {
         source: *const u8,
         source_length: usize,
         command: Command,
+    ) -> Writer;
+    pub fn fimbrast_put_plain(writer: Writer, out: *mut u8, out_length: usize, kind: u8) -> Writer;
+    pub fn fimbrast_put_locate(
+        writer: Writer,
+        out: *mut u8,
+        out_length: usize,
+        code: Code,
     ) -> Writer;
     pub fn fimbrast_close_message(writer: Writer, out: *mut u8, out_length: usize) -> Written;
 }

@@ -33,6 +33,9 @@ pub(crate) const TIME_CODE: u8 = 0;
 pub(crate) const SHORT: u8 = 1;
 pub(crate) const OTHER_FIELD: u8 = 2;
 
+/// A writer: its position, items and refusal in one number.
+pub(crate) type Writer = u64;
+
 /// Declares records with the layout of C.
 macro_rules! records {
     ($($(#[$note:meta])* $name:ident { $($field:ident: $type:ty),* $(,)? })*) => {
@@ -98,7 +101,6 @@ records! {
     #[derive(Default)]
     Field { kind: u8, field: u8, code: Code, short_code: ShortCode, name: Part, data: Part }
     NextField { refusal: u8, field: Field, place: usize }
-    Writer { at: usize, items: usize, refusal: u8, needed: usize }
     Applied { generator: Generator, answer: u8 }
     Run { generator: Generator, commands: usize, refused: usize, stop: u8 }
 }
@@ -225,6 +227,8 @@ unsafe extern "C" {
         source_length: usize,
         command: Command,
     ) -> Writer;
+    fn fimbrast_put_plain(writer: Writer, out: *mut u8, out_length: usize, kind: u8) -> Writer;
+    fn fimbrast_put_locate(writer: Writer, out: *mut u8, out_length: usize, code: Code) -> Writer;
     fn fimbrast_put_field(
         writer: Writer,
         out: *mut u8,
@@ -338,6 +342,18 @@ pub(crate) fn put_command(
             command,
         )
     }
+}
+
+/// A command that is a name alone.
+pub(crate) fn put_plain(writer: Writer, out: &mut [u8], kind: u8) -> Writer {
+    // SAFETY: `out` is a live slice, borrowed alone.
+    unsafe { fimbrast_put_plain(writer, out.as_mut_ptr(), out.len(), kind) }
+}
+
+/// A Locate to a time.
+pub(crate) fn put_locate(writer: Writer, out: &mut [u8], code: Code) -> Writer {
+    // SAFETY: `out` is a live slice, borrowed alone.
+    unsafe { fimbrast_put_locate(writer, out.as_mut_ptr(), out.len(), code) }
 }
 
 pub(crate) fn put_field(writer: Writer, out: &mut [u8], source: &[u8], field: Field) -> Writer {

@@ -328,33 +328,44 @@ pub enum MmcCommand<'a> {
 }
 
 impl<'a> MmcCommand<'a> {
+    /// The number of its case.
+    const fn kind(&self) -> u8 {
+        match self {
+            Self::Stop => ffi::STOP,
+            Self::Play => ffi::PLAY,
+            Self::DeferredPlay => ffi::DEFERRED_PLAY,
+            Self::FastForward => ffi::FAST_FORWARD,
+            Self::Rewind => ffi::REWIND,
+            Self::RecordStrobe => ffi::RECORD_STROBE,
+            Self::RecordExit => ffi::RECORD_EXIT,
+            Self::Pause => ffi::PAUSE,
+            Self::Reset => ffi::RESET,
+            Self::Write(_) => ffi::WRITE,
+            Self::LocateField { .. } => ffi::LOCATE_FIELD,
+            Self::LocateTarget(_) => ffi::LOCATE_TARGET,
+            Self::Move { .. } => ffi::MOVE,
+            Self::Other { .. } => ffi::OTHER_COMMAND,
+        }
+    }
+
     /// The command without the bytes of `Other`. The data of `Write` is the whole of its source.
     pub(crate) fn flat(&self) -> ffi::Command {
-        let of = |kind| ffi::Command {
-            kind,
+        let kind = ffi::Command {
+            kind: self.kind(),
             ..ffi::Command::default()
         };
         match *self {
-            Self::Stop => of(ffi::STOP),
-            Self::Play => of(ffi::PLAY),
-            Self::DeferredPlay => of(ffi::DEFERRED_PLAY),
-            Self::FastForward => of(ffi::FAST_FORWARD),
-            Self::Rewind => of(ffi::REWIND),
-            Self::RecordStrobe => of(ffi::RECORD_STROBE),
-            Self::RecordExit => of(ffi::RECORD_EXIT),
-            Self::Pause => of(ffi::PAUSE),
-            Self::Reset => of(ffi::RESET),
             Self::Write(ref fields) => ffi::Command {
                 data: ffi::Part::whole(fields.bytes.len()),
-                ..of(ffi::WRITE)
+                ..kind
             },
             Self::LocateField { register } => ffi::Command {
                 first: register,
-                ..of(ffi::LOCATE_FIELD)
+                ..kind
             },
             Self::LocateTarget(target) => ffi::Command {
                 code: target.flat(),
-                ..of(ffi::LOCATE_TARGET)
+                ..kind
             },
             Self::Move {
                 destination,
@@ -362,9 +373,9 @@ impl<'a> MmcCommand<'a> {
             } => ffi::Command {
                 first: destination,
                 second: source,
-                ..of(ffi::MOVE)
+                ..kind
             },
-            Self::Other { .. } => of(ffi::OTHER_COMMAND),
+            _ => kind,
         }
     }
 
@@ -403,6 +414,16 @@ impl<'a> MmcCommand<'a> {
     }
 
     fn put(&self, writer: ffi::Writer, out: &mut [u8]) -> ffi::Writer {
+        match (self.kind(), self) {
+            (kind @ ffi::STOP..=ffi::RESET, _) => ffi::put_plain(writer, out, kind),
+            (_, Self::LocateTarget(target)) => ffi::put_locate(writer, out, target.flat()),
+            _ => self.put_other(writer, out),
+        }
+    }
+
+    /// A command of another case.
+    #[inline(never)]
+    fn put_other(&self, writer: ffi::Writer, out: &mut [u8]) -> ffi::Writer {
         let flat = self.flat();
         match self {
             Self::Write(fields) => ffi::put_command(writer, out, fields.bytes, flat),

@@ -136,7 +136,6 @@ fn layout_is_the_headers() {
         "next_word_answer" NextWord { word, place }
         "field" Field { kind, field, code, short_code, name, data }
         "next_field_answer" NextField { refusal, field, place }
-        "writer" Writer { at, items, refusal, needed }
         "applied" Applied { generator, answer }
         "run" Run { generator, commands, refused, stop }
     }

@@ -114,11 +114,18 @@ impl fmt::Display for SysexError {
 impl core::error::Error for SysexError {}
 
 /// The length, or the refusal.
-pub(crate) const fn written(answer: ffi::Written) -> Result<usize, SysexError> {
-    match answer.refusal {
-        0 => Ok(answer.length),
-        n => Err(SysexError::of(n, answer.length)),
+pub(crate) fn written(answer: ffi::Written) -> Result<usize, SysexError> {
+    if answer.refusal == 0 {
+        return Ok(answer.length);
     }
+    refused(answer)
+}
+
+/// Kept apart, so that a caller whose writing was accepted does not go through the refusals.
+#[cold]
+#[inline(never)]
+fn refused(answer: ffi::Written) -> Result<usize, SysexError> {
+    Err(SysexError::of(answer.refusal, answer.length))
 }
 
 /// True when a message for `device_id` is for the device `own`: they are the same, or it is for all (p. 35).

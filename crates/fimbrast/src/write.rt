@@ -1,4 +1,6 @@
 // Writing a string: opened, given its items one at a time, and closed.
+use flat::code::FlatCode;
+use flat::code::code_of;
 use flat::refusal::FlatWritten;
 use flat::refusal::flat_written;
 use flat::string::FlatCommand;
@@ -9,10 +11,14 @@ use flat::write::FlatWriter;
 use flat::write::flat_writer;
 use flat::write::writer_of;
 ghost use mathlib.Core.Path.{_≡_};
+ghost use mathlib.Core.List.{[]};
 ghost use lib.ListN.{length};
 ghost use Rattle.universal.specs.Overlay.{overlay};
+ghost use Rattle.mmc.specs.declared.command.MmcCommand.the-variants.{LocateTarget};
+ghost use Rattle.mmc.specs.Word.{plainCommand};
 ghost use Rattle.mmc.specs.Item.{commandItem, fieldItem};
 ghost use Rattle.mmc.specs.Write.{openedCommands, openedResponses, openedFields, begun, admitted, given, closedMessage, wholeMessage, wholeFields};
+ghost use Rattle.flat.specs.Code.{codeOf};
 ghost use Rattle.flat.specs.Refusal.{flatWritten};
 ghost use Rattle.flat.specs.String.{commandOf, fieldOf};
 ghost use Rattle.flat.specs.Write.{writingAt, flatWriter};
@@ -59,7 +65,33 @@ pub extern "C" fn fimbrast_put_command(
     flat_writer(back)
 }
 
-// One field, likewise.
+// A command that is a name alone, by its kind, 0 to 8; a kind above 8 is taken as 8.
+#[no_mangle]
+pub extern "C" fn fimbrast_put_plain(writer: FlatWriter, out: &mut [u8], kind: u8) -> FlatWriter
+    ensures { λ r. ⌜ r ≡ flatWriter (given (writingAt writer) (commandItem [] (plainCommand kind))) ⌝ }
+    ensures { λ _. ⌜ now (out .exit) ≡ overlay (now (out .entry)) (writingAt writer .at) (admitted (writingAt writer) (commandItem [] (plainCommand kind)) .bytes) ⌝ }
+{
+    let wrote = writer_of(writer).put_plain(out, kind);
+    let back = wrote.writer;
+    flat_writer(back)
+}
+
+// A Locate to a time.
+#[no_mangle]
+pub extern "C" fn fimbrast_put_locate(
+    writer: FlatWriter,
+    out: &mut [u8],
+    code: FlatCode,
+) -> FlatWriter
+    ensures { λ r. ⌜ r ≡ flatWriter (given (writingAt writer) (commandItem [] (LocateTarget (codeOf code)))) ⌝ }
+    ensures { λ _. ⌜ now (out .exit) ≡ overlay (now (out .entry)) (writingAt writer .at) (admitted (writingAt writer) (commandItem [] (LocateTarget (codeOf code))) .bytes) ⌝ }
+{
+    let wrote = writer_of(writer).put_locate(out, code_of(code));
+    let back = wrote.writer;
+    flat_writer(back)
+}
+
+// One field; its parts lie in the lent source.
 #[no_mangle]
 pub extern "C" fn fimbrast_put_field(
     writer: FlatWriter,

@@ -1,29 +1,24 @@
--- Writers as flat records, and back. Assumes nothing.
-use Prim.Native.Nat.{ℕ}
+-- Writers as numbers, and back. Assumes nothing.
+use Prim.Native.Nat.{ℕ, _+_, _*_, _/_, _%_}
 use mathlib.Core.Bool.{cond}
-use mathlib.Core.Option.{Option, none, some}
 use lib.Dec.{eqb}
-use Rattle.flat.specs.Refusal.{errorOf, neededOf, flatStop}
-use Rattle.flat.specs.declared.write.FlatWriter.{FlatWriter}
+use Rattle.flat.specs.Refusal.{errorOf, flatStop}
 use Rattle.mmc.specs.Write.{Writing, writingOf}
 use Rattle.mmc.specs.declared.time_code.Checked.{Checked}
 use Rattle.mmc.specs.declared.time_code.Checked.the-variants.{Accepted, Refused}
 use Rattle.mmc.specs.declared.write.Writer.{Writer}
-use Rattle.universal.specs.Refusals.{Refusal}
 
 unfoldable pub checkedAt : ℕ → ℕ → Checked
 checkedAt n needed = cond (eqb n 0) Accepted (Refused (errorOf n needed))
 
-unfoldable pub writerOf : FlatWriter → Writer
-writerOf w = record { at = w .at; items = w .items; checked = checkedAt (w .refusal) (w .needed) }
+-- The position in the lowest four bytes, the items in the next two, the refusal in the byte above them.
+unfoldable pub writerOf : ℕ → Writer
+writerOf w =
+    record { at = w % 4294967296; items = w / 4294967296 % 65536; checked = checkedAt (w / 281474976710656 % 256) 0 }
 
 -- In the paper's numbers.
-abbrev pub writingAt : FlatWriter → Writing
+abbrev pub writingAt : ℕ → Writing
 writingAt w = writingOf (writerOf w)
 
-unfoldable pub flatNeeded : Option Refusal → ℕ
-flatNeeded none = 0
-flatNeeded (some r) = neededOf r
-
-unfoldable pub flatWriter : Writing → FlatWriter
-flatWriter w = record { at = w .at; items = w .items; refusal = flatStop (w .stop); needed = flatNeeded (w .stop) }
+unfoldable pub flatWriter : Writing → ℕ
+flatWriter w = w .at % 4294967296 + w .items % 65536 * 4294967296 + flatStop (w .stop) * 281474976710656

@@ -1,23 +1,15 @@
 // Writing a string: opened, given its items one at a time, and closed.
 use crate::refusal::error;
 use crate::refusal::flat_stop;
-use crate::refusal::needed;
 use mmc::Checked;
 use mmc::Writer;
 ghost use mathlib.Core.Path.{_≡_};
-ghost use lib.ListN.{length};
-ghost use Rattle.mmc.specs.Named.{stopOf};
 ghost use Rattle.mmc.specs.Write.{writingOf};
-ghost use Rattle.flat.specs.Write.{checkedAt, writerOf, flatNeeded, flatWriter};
+ghost use Rattle.flat.specs.Write.{checkedAt, writerOf, flatWriter};
 
-// The position, the items accepted, and the first refusal, with the needed length for 4. A refusal above 10 is taken as 10.
-#[repr(C)]
-pub struct FlatWriter {
-    pub at: usize,
-    pub items: usize,
-    pub refusal: u8,
-    pub needed: usize,
-}
+// A writer as one number: the position in the lowest four bytes, the items accepted in the next two, and the first refusal above
+// them. A refusal above 10 is taken as 10.
+pub type FlatWriter = u64;
 
 pub fn checked_at(refusal: u8, needed: usize) -> Checked
     ensures { λ r. ⌜ r ≡ checkedAt refusal needed ⌝ }
@@ -32,18 +24,9 @@ pub fn writer_of(w: FlatWriter) -> Writer
     ensures { λ r. ⌜ r ≡ writerOf w ⌝ }
 {
     Writer {
-        at: w.at,
-        items: w.items,
-        checked: checked_at(w.refusal, w.needed),
-    }
-}
-
-pub fn flat_needed(checked: Checked) -> usize
-    ensures { λ r. ⌜ r ≡ flatNeeded (stopOf checked) ⌝ }
-{
-    match checked {
-        Checked::Accepted => 0,
-        Checked::Refused(e) => needed(e),
+        at: (w % 0x1_0000_0000) as usize,
+        items: (w / 0x1_0000_0000 % 0x1_0000) as usize,
+        checked: checked_at((w / 0x1_0000_0000_0000 % 0x100) as u8, 0),
     }
 }
 
@@ -51,10 +34,8 @@ pub fn flat_writer(w: Writer) -> FlatWriter
     ensures { λ r. ⌜ r ≡ flatWriter (writingOf w) ⌝ }
 {
     let checked = w.checked;
-    FlatWriter {
-        at: w.at,
-        items: w.items,
-        refusal: flat_stop(checked),
-        needed: flat_needed(checked),
-    }
+    let at = (w.at % 0x1_0000_0000) as u64;
+    let items = (w.items % 0x1_0000) as u64;
+    let refusal = flat_stop(checked) as u64;
+    at + items * 0x1_0000_0000 + refusal * 0x1_0000_0000_0000
 }

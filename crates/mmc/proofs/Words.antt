@@ -10,7 +10,7 @@ use lib.Dec.{leb, ltb, eqb, lit≤}
 use lib.ListN.{length, getD, take, drop, length-drop}
 use lib.Seq.{drop-cons, length-take-le}
 use Rattle.mmc.specs.declared.command.MmcCommand.{MmcCommand}
-use Rattle.mmc.specs.declared.command.MmcCommand.the-variants.{Other}
+use Rattle.mmc.specs.declared.command.MmcCommand.the-variants.{Stop, Play, DeferredPlay, FastForward, Rewind, RecordStrobe, RecordExit, Pause, Reset, Other}
 use Rattle.mmc.specs.declared.length.Kind.{Kind}
 use Rattle.mmc.specs.declared.length.Kind.the-variants.{Commands}
 use Rattle.mmc.specs.declared.length.Length.{Length}
@@ -26,7 +26,9 @@ use Rattle.mmc.specs.Length.{lengthOf, commandLength, within}
 use Rattle.mmc.specs.Part.{part, partOf, isInside}
 use Rattle.mmc.specs.Split.{Located, Next, prefixesAt, measured, byLength, splitAt, found, next, nextAs, nextPartsOf, partsAs}
 use Rattle.mmc.specs.TimeCode.{readFinal, finalValue, readStandard}
-use Rattle.mmc.specs.Word.{fiveBytes, codeWord, commandWord, answerWord, nextWord, shortWord}
+use Rattle.mmc.specs.Word.{fiveBytes, codeWord, commandWord, answerWord, nextWord, shortWord, plainCommand, plainName}
+use Rattle.mmc.specs.Item.{commandItem}
+use Rattle.universal.specs.Emission.{sent}
 use Rattle.universal.specs.Refusals.{Answer, gives, refused, refusalOf}
 use Rattle.universal.specs.declared.error.SysexError.{SysexError}
 use Rattle.mmc.proofs.Again.{hours-again, six-again, frames-again}
@@ -303,3 +305,26 @@ module _ (body : List ℕ) (place at : ℕ) (l : place < length body) (z : getD 
   prefixed-word n d w q p =
       word-found body place at k e (partOf body n) (partOf body d) n d w q
       (p ∙ ap commandWord (long-name (partOf body d) n d (partOf body n) (long n d q))) refl refl
+
+-- ---- a command that is a name alone, written
+
+pub plain-item : (n k : ℕ) → k ≡ plainName n → commandItem [] (plainCommand n) ≡ sent (k ∷ [])
+unfolding commandItem plainCommand plainName
+plain-item n k e = rw e (go (eqb n 0) (eqb n 1) (eqb n 2) (eqb n 3) (eqb n 4) (eqb n 5) (eqb n 6) (eqb n 7))
+  where
+    go : (p q r s t u v w : Bool)
+        → commandItem []
+        (cond p Stop
+        (cond q Play
+        (cond r DeferredPlay
+        (cond s FastForward (cond t Rewind (cond u RecordStrobe (cond v RecordExit (cond w Pause Reset))))))))
+        ≡ sent (cond p 1 (cond q 2 (cond r 3 (cond s 4 (cond t 5 (cond u 6 (cond v 7 (cond w 9 13))))))) ∷ [])
+    go true q r s t u v w = refl
+    go false true r s t u v w = refl
+    go false false true s t u v w = refl
+    go false false false true t u v w = refl
+    go false false false false true u v w = refl
+    go false false false false false true v w = refl
+    go false false false false false false true w = refl
+    go false false false false false false false true = refl
+    go false false false false false false false false = refl

@@ -88,6 +88,17 @@ pub as-it-is : (w : Writing) → w .items ≤ 256 → w .at ≤ 40000 → w .sto
 unfolding sound
 as-it-is w l h = rw (le-leb (w .items) 256 l, le-leb (w .at) 40000 h)
 
+-- Below 256 items and up to 40,000 it has its own refusal, if any.
+pub ready-kept : (w : Writing) → w .items < 256 → w .at ≤ 40000 → w .stop ≡ ready w
+unfolding ready
+ready-kept w l h =
+    go (w .stop)
+    ∙ ap₂ (λ (s : Option Refusal) (b : Bool). resume [] s (check b 10) .stop) (as-it-is w (omega arith) h) (sym (lt-ltb (w .items) 256 l))
+  where
+    go : (s : Option Refusal) → s ≡ resume [] s (check true 10) .stop
+    go none = refl
+    go (some r) = refl
+
 -- A writing that goes on is one that calls leave.
 pub goes-on : (w : Writing) → sound w .stop ≡ none → (w .items ≤ 256) × (w .at ≤ 40000)
 unfolding sound

@@ -62,3 +62,19 @@ shortWord n =
     (cond (eqb n 5) 4
     (cond (eqb n 6) 5
     (cond (eqb n 7) 6 (cond (eqb n 9) 7 (cond (eqb n 13) 8 (cond (within 64 120 n) 270 269))))))))))
+
+-- ---- commands that are a name alone, by their case; a number above 8 is taken as 8
+
+unfoldable pub plainCommand : ℕ → MmcCommand
+plainCommand n =
+    cond (eqb n 0) Stop
+    (cond (eqb n 1) Play
+    (cond (eqb n 2) DeferredPlay
+    (cond (eqb n 3) FastForward
+    (cond (eqb n 4) Rewind (cond (eqb n 5) RecordStrobe (cond (eqb n 6) RecordExit (cond (eqb n 7) Pause Reset)))))))
+
+unfoldable pub plainName : ℕ → ℕ
+plainName n =
+    cond (eqb n 0) 1
+    (cond (eqb n 1) 2
+    (cond (eqb n 2) 3 (cond (eqb n 3) 4 (cond (eqb n 4) 5 (cond (eqb n 5) 6 (cond (eqb n 6) 7 (cond (eqb n 7) 9 13)))))))

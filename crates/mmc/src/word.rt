@@ -15,7 +15,7 @@ ghost use Rattle.mmc.specs.Command.{readCommand, readLocate, readMove, l
 ghost use Rattle.mmc.specs.declared.length.Length.the-variants.{Count};
 ghost use Rattle.mmc.specs.Length.{commandLength};
 ghost use Rattle.mmc.specs.TimeCode.{readFinal, finalValue, readStandard};
-ghost use Rattle.mmc.specs.Word.{codeWord, withBytes, commandWord, nextWord, shortWord};
+ghost use Rattle.mmc.specs.Word.{codeWord, withBytes, commandWord, nextWord, plainName, shortWord};
 
 // A command or a refusal, and the place to read on from. The lowest byte is the case of `MmcCommand`, 0 to 13 in its order, or
 // a refusal's number and 128. Above it stand a Locate's register or the five bytes of its time code, a Move's two names, or
@@ -139,6 +139,23 @@ fn refusal_word(error: SysexError) -> u64
     ensures { λ r. ⌜ r ≡ 128 + refusalOf error .number ⌝ }
 {
     128 + wide(error.number())
+}
+
+// The name of a command that is a name alone, by its case; a number above 8 is taken as 8.
+pub(crate) fn plain_name(kind: u8) -> u8
+    ensures { λ r. ⌜ r ≡ plainName kind ⌝ }
+{
+    match kind {
+        0 => 0x01,
+        1 => 0x02,
+        2 => 0x03,
+        3 => 0x04,
+        4 => 0x05,
+        5 => 0x06,
+        6 => 0x07,
+        7 => 0x09,
+        _ => 0x0D,
+    }
 }
 
 // The command of a name without prefixes and data, or 270 where it has either.

@@ -1,15 +1,18 @@
 -- `flat::write::writer_of` meets its contract. Assumes nothing.
-use Rattle.flat.specs.Write.{writerOf}
 use borrow.Author.Needs.{needs}
 use Rattle.flat.proofs.write.writer_of.Statement.{statement}
 use Rattle.flat.proofs.write.writer_of.Tie as tie
+use Rattle.flat.specs.Write.{writerOf}
+
+cast-checked-at : tie.Need-cast-checked-at
+cast-checked-at c = search needs
 
 checked-at-requires : tie.Need-checked-at-requires
 checked-at-requires c κs = search needs
 
 returns : tie.Need-returns
 unfolding writerOf
-returns c = cc
+returns c = rw (c .checked-at .ensures)
 
 pub writer-of-spec : {M : Type 1} → statement M
-writer-of-spec = tie.close (tie.spec checked-at-requires returns)
+writer-of-spec = tie.close (tie.spec cast-checked-at checked-at-requires returns)

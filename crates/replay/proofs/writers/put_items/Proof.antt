@@ -6,10 +6,10 @@ use Rattle.replay.proofs.writers.put_items.Statement.{statement}
 use Rattle.replay.proofs.writers.put_items.Tie as tie
 
 abbrev Inv-loop : tie.InvT-loop
-Inv-loop size input at out₀ count source writer₀ i₀ out writer i = length out ≡ length out₀
+Inv-loop from size input at out₀ count source writer₀ i₀ out writer i = length out ≡ length out₀
 
 abbrev μ-loop : tie.MeasureT-loop
-μ-loop size input at out₀ count source writer₀ i₀ out writer i = count - i
+μ-loop from size input at out₀ count source writer₀ i₀ out writer i = count - i
 
 byte-at-requires : tie.Need-byte-at-requires Inv-loop μ-loop
 byte-at-requires c κs = search needs
