@@ -47,7 +47,7 @@ number-numbered r n = rw (seconds-back (n / framesPerSecond r)) (div-add-mod' n 
 -- ---- drop-frame, by tens of minutes, the minute among the ten, and the number in that minute
 
 -- Putting the skipped numbers back in.
-put-back : (t u x : ℕ) → u < 10 → x < 1800 → (u ≡ 0) ⊎ (2 ≤ x)
+pub put-back : (t u x : ℕ) → u < 10 → x < 1800 → (u ≡ 0) ⊎ (2 ≤ x)
     → withSkipped Fps30Drop (17982 * t + (1798 * u + x)) ≡ 18000 * t + (1800 * u + x)
 put-back t u x hu hx k =
     let tens : (17982 * t + (1798 * u + x)) / 17982 ≡ t = omega arith in

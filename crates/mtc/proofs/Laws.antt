@@ -25,6 +25,11 @@ use Rattle.mtc.specs.Stream.{Call, afterCall, afterCalls, events, sent, 
 use Rattle.mtc.proofs.After
 use Rattle.mtc.proofs.Counts
 use Rattle.mtc.proofs.DayCount
+-- A generator's next byte, running and stopped.
+pub use Rattle.mtc.proofs.Generators.{sends, stops}
+-- A sound reader's bounds, what keeps it sound, and what it does with the next piece in its direction.
+pub use Rattle.mtc.proofs.InOrder.{sound-by, Bounds, bounds, next-piece, sequence-of}
+pub use Rattle.mtc.proofs.Sound.{Sound, as-is, byte-sound}
 use Rattle.mtc.proofs.Moving
 -- Full messages and user bits: written bytes are RP-004/008's, a buffer that fits or is short, what is written reads back, and
 -- reading accepts the practice's layouts and no other.

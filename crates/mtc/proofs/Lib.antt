@@ -4,6 +4,7 @@ mod DayCount
 mod Distance
 mod Generators
 mod Groups
+mod InOrder
 pub mod Laws
 mod Messages
 mod Moving
@@ -16,6 +17,7 @@ mod Reading
 mod Rounds
 mod Sending
 mod Shapes
+mod Short
 mod Sound
 mod Streams
 mod Sums

@@ -21,7 +21,7 @@ pub enum Direction {
 
 impl Direction {
     // The first piece of a sequence.
-    pub(crate) fn first(self) -> u8
+    pub fn first(self) -> u8
         ensures { λ r. ⌜ (r ≡ first self) × (r ≤ 7) ⌝ }
     {
         match self {
@@ -31,7 +31,7 @@ impl Direction {
     }
 
     // The piece after `last`.
-    pub(crate) fn after(self, last: u8) -> u8
+    pub fn after(self, last: u8) -> u8
         requires { ⌜ last ≤ 7 ⌝ }
         ensures { λ r. ⌜ (r ≡ after self last) × (r ≤ 7) ⌝ }
     {
@@ -42,7 +42,7 @@ impl Direction {
     }
 
     // The last piece of a sequence.
-    fn last(self) -> u8
+    pub fn last(self) -> u8
         ensures { λ r. ⌜ r ≡ final self ⌝ }
     {
         match self {
@@ -52,11 +52,11 @@ impl Direction {
     }
 
     // The time of the sequence after that of `time`.
-    pub(crate) fn next_time(self, time: MtcTime) -> MtcTime
+    pub fn next_time(self, time: MtcTime) -> MtcTime
         ensures { λ r. ⌜ r ≡ addFrames time (move self) ⌝ }
     {
         match self {
-            Direction::Forward => time.add_frames(2),
+            Direction::Forward => time.two_later(),
             Direction::Reverse => time.add_frames(-2),
         }
     }
@@ -185,7 +185,6 @@ fn send(time: MtcTime, direction: Direction, piece: u8) -> Sent
     requires { ⌜ piece ≤ 7 ⌝ }
     ensures { λ r. ⌜ (nextByteOf (r .byte) ≡ gives (getD (pieces time) piece 0)) × (r .generator ≡ sentAt time direction piece) ⌝ }
 {
-    let bytes = QuarterFrame::pieces(time);
     Sent {
         generator: MtcGenerator {
             time,
@@ -193,6 +192,6 @@ fn send(time: MtcTime, direction: Direction, piece: u8) -> Sent
             last: MaybePiece::Piece(piece),
             running: true,
         },
-        byte: NextByte::Byte(bytes[piece as usize]),
+        byte: NextByte::Byte(QuarterFrame::piece(time, piece)),
     }
 }

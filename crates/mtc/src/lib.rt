@@ -23,6 +23,8 @@ pub use reader::MtcEvent;
 pub use reader::MtcReader;
 pub use reader::MtcSequence;
 pub use reader::Stepped;
+pub use reader::event;
+pub use reader::report;
 pub use time::MtcTime;
 pub use time::NewTime;
 pub use time::TimeCodeType;

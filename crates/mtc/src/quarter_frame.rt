@@ -2,6 +2,8 @@
 // data bytes of a label (p. 2).
 use crate::time::MtcTime;
 ghost use mathlib.Core.Path.{_≡_};
+ghost use Prim.Native.Nat.{_≤_};
+ghost use lib.ListN.{getD};
 ghost use Rattle.mtc.specs.QuarterFrame.{fromByte, toByte, pieces};
 
 // A data byte's piece, 0 (frames, low nibble) to 7 (hours, high nibble, and rate), and its value of four bits.
@@ -47,5 +49,23 @@ impl QuarterFrame {
             0x60 + h % 16,
             0x70 + rate.into_bits() * 2 + h / 16 % 2,
         ]
+    }
+
+    // One of them.
+    pub fn piece(time: MtcTime, piece: u8) -> u8
+        requires { ⌜ piece ≤ 7 ⌝ }
+        ensures { λ r. ⌜ r ≡ getD (pieces time) piece 0 ⌝ }
+    {
+        let rate = time.rate;
+        match piece {
+            0 => time.frames % 16,
+            1 => 0x10 + time.frames / 16 % 2,
+            2 => 0x20 + time.seconds % 16,
+            3 => 0x30 + time.seconds / 16 % 4,
+            4 => 0x40 + time.minutes % 16,
+            5 => 0x50 + time.minutes / 16 % 4,
+            6 => 0x60 + time.hours % 16,
+            _ => 0x70 + rate.into_bits() * 2 + time.hours / 16 % 2,
+        }
     }
 }

@@ -423,7 +423,7 @@ fn began(n: u8, p: u8, first: u8) -> u8
 }
 
 // What a piece gives: pieces 0 and 4 mark frame boundaries.
-fn event(p: u8, sequence: MaybeSequence) -> MtcEvent
+pub fn event(p: u8, sequence: MaybeSequence) -> MtcEvent
     ensures { λ r. ⌜ r ≡ eventWith p sequence ⌝ }
 {
     MtcEvent {
@@ -457,7 +457,7 @@ fn way(direction: MaybeDirection) -> Direction
 }
 
 // What a full sequence reports after a previous label.
-fn report(raw: MtcTime, direction: Direction, previous: MaybeTime) -> MtcSequence
+pub fn report(raw: MtcTime, direction: Direction, previous: MaybeTime) -> MtcSequence
     ensures { λ r. ⌜ r ≡ reported raw direction previous ⌝ }
 {
     MtcSequence {
@@ -473,7 +473,7 @@ fn current(raw: MtcTime, direction: Direction) -> MtcTime
     ensures { λ r. ⌜ r ≡ addFrames raw (offset direction) ⌝ }
 {
     match direction {
-        Direction::Forward => raw.add_frames(2),
+        Direction::Forward => raw.two_later(),
         Direction::Reverse => raw.add_frames(-1),
     }
 }

@@ -2,9 +2,11 @@
 // drop-frame the frame numbers 00 and 01 are skipped at the start of each minute except 00, 10, 20, 30, 40 and 50.
 use universal::SysexError;
 ghost use mathlib.Core.Path.{_≡_};
-ghost use Prim.Native.Nat.{_<_};
+ghost use Prim.Native.Nat.{_<_, _≤_, _+_, _*_, _/_, _%_};
+ghost use mathlib.Core.Bool.{true};
+ghost use lib.IntN.{pos};
 ghost use Rattle.mtc.specs.St12.{label, framesPerSecond, isValid, isSkipped};
-ghost use Rattle.mtc.specs.Time.{dayOf, bitsOf, typeOf, newTimeOf, newTime, nextValid, frameCount, labelAt, addFrames, rawTime, hoursByte, modZ, digits, withSkipped};
+ghost use Rattle.mtc.specs.Time.{dayOf, bitsOf, typeOf, newTimeOf, newTime, nextValid, frameCount, labelAt, addFrames, rawTime, hoursByte, modZ, digits, numbered, withSkipped};
 
 // The frames of ten minutes at 30 drop-frame: 10 * 1800 - 9 * 2.
 const DROP_10_MINUTES: u32 = 17_982;
@@ -98,6 +100,17 @@ pub enum NewTime {
     Refused(SysexError),
 }
 
+// A number modulo a day: one below it needs no division.
+fn within(n: u32, day: u32) -> u32
+    requires { ⌜ 0 < day ⌝ }
+    ensures { λ r. ⌜ r ≡ n % day ⌝ }
+{
+    if n < day {
+        return n;
+    }
+    n % day
+}
+
 // A signed distance modulo a day.
 fn reduced(delta: i32, day: u32) -> u32
     requires { ⌜ 0 < day ⌝ }
@@ -105,9 +118,21 @@ fn reduced(delta: i32, day: u32) -> u32
 {
     if delta < 0 {
         let back = (-1 - delta) as u32;
-        return day - 1 - back % day;
+        return day - 1 - within(back, day);
     }
-    (delta as u32) % day
+    within(delta as u32, day)
+}
+
+// A count of a drop-frame day moved by a signed distance, round midnight.
+fn drop_moved(count: u32, delta: i32) -> u32
+    requires { ⌜ count < 2589408 ⌝ }
+    ensures { λ r. ⌜ r ≡ (count + modZ delta 2589408) % 2589408 ⌝ }
+{
+    let n = count + reduced(delta, DAY_DROP);
+    if n < DAY_DROP {
+        return n;
+    }
+    n - DAY_DROP
 }
 
 // Whole seconds and frames of a rate as a label.
@@ -135,6 +160,37 @@ fn with_skipped(n: u32) -> u32
         return n + 18 * tens;
     }
     n + 18 * tens + 2 * ((rest - 2) / DROP_MINUTE)
+}
+
+// The label of a drop-frame minute of the day and a place in it.
+fn label_in(minutes: u16, place: u16) -> MtcTime
+    requires { ⌜ (minutes < 1440) × (place < 1800) ⌝ }
+    ensures { λ r. ⌜ r ≡ digits TimeCodeType.Fps30Drop (minutes * 60 + place / 30) (place % 30) ⌝ }
+{
+    let hours = minutes / 60;
+    let seconds = place / 30;
+    MtcTime {
+        hours: hours as u8,
+        minutes: (minutes - hours * 60) as u8,
+        seconds: seconds as u8,
+        frames: (place - seconds * 30) as u8,
+        rate: TimeCodeType::Fps30Drop,
+    }
+}
+
+// The label of a count of a drop-frame day. Ten minutes have 17,982 frames, so a quotient by their tenth is the minute, but for
+// the two frames before some minutes and the two after each tenth, which go by the tens.
+fn drop_label(n: u32) -> MtcTime
+    requires { ⌜ n < 2589408 ⌝ }
+    ensures { λ r. ⌜ r ≡ numbered TimeCodeType.Fps30Drop (withSkipped TimeCodeType.Fps30Drop n) ⌝ }
+{
+    let minutes = (n * 5 / 8_991) as u16;
+    let place = n - (minutes as u32 * DROP_MINUTE + (minutes / 10) as u32 * 2);
+    if place < 2 {
+        let m = with_skipped(n);
+        return label_of(m / 30, m % 30, TimeCodeType::Fps30Drop);
+    }
+    label_in(minutes, place as u16)
 }
 
 // The start of a minute at which drop-frame skips a frame number.
@@ -224,8 +280,10 @@ impl MtcTime {
         match rate {
             TimeCodeType::Fps24 => (seconds * 24 + frames) % DAY_24,
             TimeCodeType::Fps25 => (seconds * 25 + frames) % DAY_25,
-            TimeCodeType::Fps30Drop => (seconds * 30 + frames - 2 * (minutes - minutes / 10))
-                % DAY_DROP,
+            TimeCodeType::Fps30Drop => {
+                let n = minutes * DROP_MINUTE + self.seconds as u32 * 30 + frames;
+                within(n + minutes / 10 * 2, DAY_DROP)
+            }
             TimeCodeType::Fps30 => (seconds * 30 + frames) % DAY_30,
         }
     }
@@ -243,10 +301,7 @@ impl MtcTime {
                 let n = count % DAY_25;
                 label_of(n / 25, n % 25, rate)
             }
-            TimeCodeType::Fps30Drop => {
-                let n = with_skipped(count % DAY_DROP);
-                label_of(n / 30, n % 30, rate)
-            }
+            TimeCodeType::Fps30Drop => drop_label(within(count, DAY_DROP)),
             TimeCodeType::Fps30 => {
                 let n = count % DAY_30;
                 label_of(n / 30, n % 30, rate)
@@ -259,8 +314,50 @@ impl MtcTime {
         ensures { λ r. ⌜ r ≡ addFrames self delta ⌝ }
     {
         let rate = self.rate;
+        match rate {
+            TimeCodeType::Fps24 => self.moved(delta),
+            TimeCodeType::Fps25 => self.moved(delta),
+            TimeCodeType::Fps30Drop => drop_label(drop_moved(self.to_frame_count(), delta)),
+            TimeCodeType::Fps30 => self.moved(delta),
+        }
+    }
+
+    // The same at any rate, by the day.
+    fn moved(self, delta: i32) -> Self
+        ensures { λ r. ⌜ r ≡ addFrames self delta ⌝ }
+    {
+        let rate = self.rate;
         let step = reduced(delta, rate.day());
         MtcTime::from_frame_count(self.to_frame_count() + step, rate)
+    }
+
+    // The label two frames later, most often in the same second.
+    pub(crate) fn two_later(self) -> Self
+        ensures { λ r. ⌜ r ≡ addFrames self (pos 2) ⌝ }
+    {
+        let rate = self.rate;
+        if self.frames >= rate.frames_per_second() - 2 {
+            return self.add_frames(2);
+        }
+        if !self.is_in_day() {
+            return self.add_frames(2);
+        }
+        let mut t = self;
+        t.frames = self.frames + 2;
+        t
+    }
+
+    // True only where hours, minutes and seconds are in their ranges.
+    fn is_in_day(self) -> bool
+        ensures { λ r. ⌜ (r ≡ true → (self .hours ≤ 23) × ((self .minutes ≤ 59) × (self .seconds ≤ 59))) ⌝ }
+    {
+        if self.hours > 23 {
+            return false;
+        }
+        if self.minutes > 59 {
+            return false;
+        }
+        self.seconds <= 59
     }
 
     // A label of raw counts, masked to their widths.

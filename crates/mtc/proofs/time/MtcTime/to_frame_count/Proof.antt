@@ -1,8 +1,10 @@
+-- `mtc::time::MtcTime::to_frame_count` meets its contract. Assumes nothing.
+use Rattle.mtc.proofs.Rates.{count-at}
+use Rattle.mtc.specs.declared.time.TimeCodeType.the-variants.{Fps24, Fps25, Fps30Drop, Fps30}
+use Rattle.mtc.proofs.Short.{drop-count}
 use borrow.Author.Needs.{needs}
 use Rattle.mtc.proofs.time.MtcTime.to_frame_count.Statement.{statement}
 use Rattle.mtc.proofs.time.MtcTime.to_frame_count.Tie as tie
-use Rattle.mtc.proofs.Rates.{count-at}
-use Rattle.mtc.specs.declared.time.TimeCodeType.the-variants.{Fps24, Fps25, Fps30Drop, Fps30}
 
 cast-minutes : tie.Need-cast-minutes
 cast-minutes c = search needs
@@ -49,29 +51,38 @@ add-result-2 c = search needs
 enum-told-3 : tie.Need-enum-told-3
 enum-told-3 c = search needs
 
+mul-n : tie.Need-mul-n
+mul-n c = search needs
+
+cast-n : tie.Need-cast-n
+cast-n c = search needs
+
+mul-n-2 : tie.Need-mul-n-2
+mul-n-2 c = search needs
+
+add-n : tie.Need-add-n
+add-n c = search needs
+
+add-n-2 : tie.Need-add-n-2
+add-n-2 c = search needs
+
+mul-within : tie.Need-mul-within
+mul-within c = search needs
+
+add-within : tie.Need-add-within
+add-within c = search needs
+
+within-requires : tie.Need-within-requires
+within-requires c κs = search needs
+
+enum-told-4 : tie.Need-enum-told-4
+enum-told-4 c = search needs
+
 mul-result-3 : tie.Need-mul-result-3
 mul-result-3 c = search needs
 
 add-result-3 : tie.Need-add-result-3
 add-result-3 c = search needs
-
-sub-result : tie.Need-sub-result
-sub-result c = search needs
-
-mul-result-4 : tie.Need-mul-result-4
-mul-result-4 c = search needs
-
-sub-result-2 : tie.Need-sub-result-2
-sub-result-2 c = search needs
-
-enum-told-4 : tie.Need-enum-told-4
-enum-told-4 c = search needs
-
-mul-result-5 : tie.Need-mul-result-5
-mul-result-5 c = search needs
-
-add-result-4 : tie.Need-add-result-4
-add-result-4 c = search needs
 
 returns : tie.Need-returns
 returns c = count-at _ Fps24 (c .enum-told .given .1)
@@ -80,7 +91,7 @@ returns-2 : tie.Need-returns-2
 returns-2 c = count-at _ Fps25 (c .enum-told2 .given .1)
 
 returns-3 : tie.Need-returns-3
-returns-3 c = count-at _ Fps30Drop (c .enum-told3 .given .1)
+returns-3 c = drop-count _ _ (c .before .before .enum-told3 .given .1) (c .within .ensures)
 
 returns-4 : tie.Need-returns-4
 returns-4 c = count-at _ Fps30 (c .enum-told4 .given .1)
@@ -104,14 +115,17 @@ to-frame-count-spec =
     mul-result-2
     add-result-2
     enum-told-3
+    mul-n
+    cast-n
+    mul-n-2
+    add-n
+    add-n-2
+    mul-within
+    add-within
+    within-requires
+    enum-told-4
     mul-result-3
     add-result-3
-    sub-result
-    mul-result-4
-    sub-result-2
-    enum-told-4
-    mul-result-5
-    add-result-4
     returns
     returns-2
     returns-3
