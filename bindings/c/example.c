@@ -81,12 +81,10 @@ int main(void)
 
     fimbrast_reader reader = fimbrast_reader_new();
     for (int i = 1; i <= 24; i++) {
-        const fimbrast_sent sent = fimbrast_next_byte(generator);
-        generator = sent.generator;
-        const fimbrast_received received = fimbrast_receive(reader, sent.byte);
-        reader = received.reader;
-        if (received.event.report.present) {
-            const fimbrast_sequence sequence = received.event.report.sequence;
+        const fimbrast_next next = fimbrast_next_byte(&generator);
+        const fimbrast_event event = fimbrast_receive(&reader, next.byte);
+        if (event.report.present) {
+            const fimbrast_sequence sequence = event.report.sequence;
             printf("byte %d:", i);
             print_time(" raw", sequence.raw);
             print_time(" current", sequence.current);

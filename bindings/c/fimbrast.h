@@ -3,7 +3,8 @@
  *
  * Link with libfimbrast.a, which `make library` writes to target/staticlib. Every call is total: it ends, stays inside the
  * bytes lent to it, and asks nothing of its caller beyond what is said here. Nothing is allocated and nothing is kept
- * between calls; records go in and come back by value.
+ * between calls. Records go in and come back by value, but for those behind a pointer, which must point to a live one; a call
+ * changes only one that is not const, and no other thread may use it meanwhile.
  *
  * Bytes are lent as a pointer and a length. The pointer may be null or dangling where the length is 0. A buffer that is
  * written must not overlap one that is read in the same call. A bool must be 0 or 1, as C's bool is.
@@ -50,7 +51,7 @@ uint8_t fimbrast_frames_per_second(uint8_t rate);
 uint8_t fimbrast_time_new(fimbrast_time time);
 bool fimbrast_is_valid(fimbrast_time time);
 fimbrast_time fimbrast_next_valid(fimbrast_time time);
-uint32_t fimbrast_to_frame_count(fimbrast_time time);
+uint32_t fimbrast_to_frame_count(const fimbrast_time *time);
 fimbrast_time fimbrast_from_frame_count(uint32_t count, uint8_t rate);
 fimbrast_time fimbrast_add_frames(fimbrast_time time, int32_t delta);
 
@@ -80,14 +81,13 @@ typedef struct {
 } fimbrast_generator;
 
 typedef struct {
-    fimbrast_generator generator;
     uint8_t refusal;
     uint8_t byte;
-} fimbrast_sent;
+} fimbrast_next;
 
 fimbrast_generator fimbrast_generator_new(fimbrast_time time, uint8_t direction);
 /* The next data byte; refusal 8 while stopped, with byte 0. */
-fimbrast_sent fimbrast_next_byte(fimbrast_generator generator);
+fimbrast_next fimbrast_next_byte(fimbrast_generator *generator);
 fimbrast_generator fimbrast_set_running(fimbrast_generator generator, bool running);
 fimbrast_generator fimbrast_set_direction(fimbrast_generator generator, uint8_t direction);
 fimbrast_generator fimbrast_locate(fimbrast_generator generator, fimbrast_time time);
@@ -95,8 +95,8 @@ fimbrast_time fimbrast_generator_time(fimbrast_generator generator);
 
 /* ---- reader */
 
-/* A last piece above 7 is none; direction 0 is forward, 1 reverse, any other none. A record with a count or first piece
- * above 7 or a nibble above 15, which no call leaves, is taken as fresh. */
+/* Of a nibble the four low bits are read, of count and first piece the three low bits. A last piece above 7 is none; direction 0
+ * is forward, 1 reverse, any other none. */
 typedef struct {
     uint8_t nibbles[8];
     uint8_t count;
@@ -128,23 +128,17 @@ typedef struct {
     fimbrast_maybe_sequence report;
 } fimbrast_event;
 
+/* Of a list of data bytes: how many sequences it reported, how many of those with a discontinuity, and the last report. */
 typedef struct {
-    fimbrast_reader reader;
-    fimbrast_event event;
-} fimbrast_received;
-
-/* The reader after a list of data bytes, how many sequences it reported, how many of those with a discontinuity, and the
- * last report. */
-typedef struct {
-    fimbrast_reader reader;
     size_t reports;
     size_t discontinuities;
     fimbrast_maybe_sequence last;
 } fimbrast_fed;
 
 fimbrast_reader fimbrast_reader_new(void);
-fimbrast_received fimbrast_receive(fimbrast_reader reader, uint8_t byte);
-fimbrast_fed fimbrast_feed(fimbrast_reader reader, const uint8_t *bytes, size_t length);
+fimbrast_event fimbrast_receive(fimbrast_reader *reader, uint8_t byte);
+/* The bytes must not overlap the reader. */
+fimbrast_fed fimbrast_feed(fimbrast_reader *reader, const uint8_t *bytes, size_t length);
 fimbrast_reader fimbrast_reader_full_message(fimbrast_reader reader, fimbrast_time time);
 bool fimbrast_is_locked(fimbrast_reader reader);
 bool fimbrast_is_running(fimbrast_reader reader);

@@ -36,10 +36,9 @@ int main(void)
     PLACE(generator, last);
     PLACE(generator, running);
     END;
-    SIZE(sent);
-    PLACE(sent, generator);
-    PLACE(sent, refusal);
-    PLACE(sent, byte);
+    SIZE(next);
+    PLACE(next, refusal);
+    PLACE(next, byte);
     END;
     SIZE(reader);
     PLACE(reader, nibbles);
@@ -67,12 +66,7 @@ int main(void)
     PLACE(event, boundary);
     PLACE(event, report);
     END;
-    SIZE(received);
-    PLACE(received, reader);
-    PLACE(received, event);
-    END;
     SIZE(fed);
-    PLACE(fed, reader);
     PLACE(fed, reports);
     PLACE(fed, discontinuities);
     PLACE(fed, last);

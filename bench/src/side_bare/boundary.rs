@@ -19,31 +19,27 @@ const LOCATE_TARGET: u8 = 11;
 
 #[inline(never)]
 pub fn receive(reader: &mut Reader, byte: u8) -> Event {
-    let received = fimbrast_receive(*reader, byte);
-    *reader = received.reader;
-    received.event
+    fimbrast_receive(reader, byte)
 }
 
 /// A list of data bytes in one call: how many reports.
 #[inline(never)]
 pub fn receive_list(reader: &mut Reader, bytes: &[u8]) -> usize {
-    // SAFETY: `bytes` is a live slice.
-    let fed = unsafe { fimbrast_feed(*reader, bytes.as_ptr(), bytes.len()) };
-    *reader = fed.reader;
+    // SAFETY: `bytes` is a live slice, and `reader` is borrowed alone.
+    let fed = unsafe { fimbrast_feed(reader, bytes.as_ptr(), bytes.len()) };
     fed.reports
 }
 
 /// The byte, where the generator is not stopped.
 #[inline(never)]
 pub fn next_byte(generator: &mut Generator) -> Option<u8> {
-    let sent = fimbrast_next_byte(*generator);
-    *generator = sent.generator;
-    (sent.refusal == 0).then_some(sent.byte)
+    let next = fimbrast_next_byte(generator);
+    (next.refusal == 0).then_some(next.byte)
 }
 
 #[inline(never)]
 pub fn to_frame_count(time: &Time) -> u32 {
-    fimbrast_to_frame_count(*time)
+    fimbrast_to_frame_count(time)
 }
 
 #[inline(never)]
@@ -100,9 +96,8 @@ pub fn read(header: &Universal, data: &[u8]) -> usize {
 pub fn receive_all(reader: &mut Reader, bytes: &[u8]) -> usize {
     let mut reports = 0;
     for byte in bytes {
-        let received = fimbrast_receive(*reader, *byte);
-        *reader = received.reader;
-        reports += usize::from(received.event.report.present);
+        let event = fimbrast_receive(reader, *byte);
+        reports += usize::from(event.report.present);
     }
     reports
 }

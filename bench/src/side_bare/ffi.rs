@@ -20,7 +20,7 @@ records! {
     Time { hours: u8, minutes: u8, seconds: u8, frames: u8, rate: u8 }
     MaybeTime { present: bool, time: Time }
     Generator { time: Time, direction: u8, last: u8, running: bool }
-    Sent { generator: Generator, refusal: u8, byte: u8 }
+    Next { refusal: u8, byte: u8 }
     Reader {
         nibbles: [u8; 8],
         count: u8,
@@ -35,8 +35,7 @@ records! {
     Sequence { raw: Time, current: Time, direction: u8, discontinuity: bool }
     MaybeSequence { present: bool, sequence: Sequence }
     Event { piece: u8, boundary: bool, report: MaybeSequence }
-    Received { reader: Reader, event: Event }
-    Fed { reader: Reader, reports: usize, discontinuities: usize, last: MaybeSequence }
+    Fed { reports: usize, discontinuities: usize, last: MaybeSequence }
     Universal { real_time: bool, device_id: u8, sub_id1: u8, has_sub_id2: bool, sub_id2: u8 }
     Written { refusal: u8, length: usize }
     MmcMessage { answer: u8, responses: bool, device_id: u8 }
@@ -47,14 +46,14 @@ records! {
 }
 
 unsafe extern "C" {
-    pub safe fn fimbrast_to_frame_count(time: Time) -> u32;
+    pub safe fn fimbrast_to_frame_count(time: &Time) -> u32;
     pub safe fn fimbrast_from_frame_count(count: u32, rate: u8) -> Time;
     pub safe fn fimbrast_add_frames(time: Time, delta: i32) -> Time;
     pub safe fn fimbrast_generator_new(time: Time, direction: u8) -> Generator;
-    pub safe fn fimbrast_next_byte(generator: Generator) -> Sent;
+    pub safe fn fimbrast_next_byte(generator: &mut Generator) -> Next;
     pub safe fn fimbrast_reader_new() -> Reader;
-    pub safe fn fimbrast_receive(reader: Reader, byte: u8) -> Received;
-    pub fn fimbrast_feed(reader: Reader, bytes: *const u8, length: usize) -> Fed;
+    pub safe fn fimbrast_receive(reader: &mut Reader, byte: u8) -> Event;
+    pub fn fimbrast_feed(reader: &mut Reader, bytes: *const u8, length: usize) -> Fed;
     pub fn fimbrast_mmc_message_read(
         header: Universal,
         data: *const u8,

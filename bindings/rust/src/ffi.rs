@@ -1,7 +1,10 @@
 //! The library's records and calls, as `fimbrast.h` declares them. The rest of the crate has no unsafe code.
 //!
-//! A call on values alone is declared safe: it is total, keeps nothing, and any record may be given to it. A `bool` that comes
-//! back is 0 or 1. A call on lent bytes has a wrapper here that takes a slice.
+//! A call on values, or on a record behind a reference, is declared safe: it is total, keeps nothing, and any record may be given to
+//! it. What comes back, or is left in a record, is proved: a `bool` is 0 or 1, a rate 0 to 3, and a report's direction 0 or 1. So
+//! labels and reports come as the crate's own types. A call on lent bytes has a wrapper here that takes a slice.
+
+use crate::mtc::{Direction, MtcTime};
 
 /// An answer that is no refusal: another kind of message, or a message for another device.
 pub(crate) const NOT_THIS: u8 = 255;
@@ -58,7 +61,7 @@ records! {
     QuarterFrame { piece: u8, value: u8 }
     EightBytes { bytes: [u8; 8] }
     Generator { time: Time, direction: u8, last: u8, running: bool }
-    Sent { generator: Generator, refusal: u8, byte: u8 }
+    Next { refusal: u8, byte: u8 }
     Reader {
         nibbles: [u8; 8],
         count: u8,
@@ -70,11 +73,10 @@ records! {
         previous: MaybeTime,
         time: MaybeTime,
     }
-    Sequence { raw: Time, current: Time, direction: u8, discontinuity: bool }
+    Sequence { raw: MtcTime, current: MtcTime, direction: Direction, discontinuity: bool }
     MaybeSequence { present: bool, sequence: Sequence }
     Event { piece: u8, boundary: bool, report: MaybeSequence }
-    Received { reader: Reader, event: Event }
-    Fed { reader: Reader, reports: usize, discontinuities: usize, last: MaybeSequence }
+    Fed { reports: usize, discontinuities: usize, last: MaybeSequence }
     Universal { real_time: bool, device_id: u8, sub_id1: u8, has_sub_id2: bool, sub_id2: u8 }
     Written { refusal: u8, length: usize }
     FullMessage { answer: u8, device_id: u8, time: Time }
@@ -151,27 +153,27 @@ impl Part {
 
 unsafe extern "C" {
     pub(crate) safe fn fimbrast_frames_per_second(rate: u8) -> u8;
-    pub(crate) safe fn fimbrast_time_new(time: Time) -> u8;
-    pub(crate) safe fn fimbrast_is_valid(time: Time) -> bool;
-    pub(crate) safe fn fimbrast_next_valid(time: Time) -> Time;
-    pub(crate) safe fn fimbrast_to_frame_count(time: Time) -> u32;
-    pub(crate) safe fn fimbrast_from_frame_count(count: u32, rate: u8) -> Time;
-    pub(crate) safe fn fimbrast_add_frames(time: Time, delta: i32) -> Time;
+    pub(crate) safe fn fimbrast_time_new(time: MtcTime) -> u8;
+    pub(crate) safe fn fimbrast_is_valid(time: MtcTime) -> bool;
+    pub(crate) safe fn fimbrast_next_valid(time: MtcTime) -> MtcTime;
+    pub(crate) safe fn fimbrast_to_frame_count(time: &MtcTime) -> u32;
+    pub(crate) safe fn fimbrast_from_frame_count(count: u32, rate: u8) -> MtcTime;
+    pub(crate) safe fn fimbrast_add_frames(time: MtcTime, delta: i32) -> MtcTime;
 
     pub(crate) safe fn fimbrast_quarter_frame_read(byte: u8) -> QuarterFrame;
     pub(crate) safe fn fimbrast_quarter_frame_byte(frame: QuarterFrame) -> u8;
     pub(crate) safe fn fimbrast_pieces(time: Time) -> EightBytes;
 
     pub(crate) safe fn fimbrast_generator_new(time: Time, direction: u8) -> Generator;
-    pub(crate) safe fn fimbrast_next_byte(generator: Generator) -> Sent;
+    pub(crate) safe fn fimbrast_next_byte(generator: &mut Generator) -> Next;
     pub(crate) safe fn fimbrast_set_running(generator: Generator, running: bool) -> Generator;
     pub(crate) safe fn fimbrast_set_direction(generator: Generator, direction: u8) -> Generator;
     pub(crate) safe fn fimbrast_locate(generator: Generator, time: Time) -> Generator;
     pub(crate) safe fn fimbrast_generator_time(generator: Generator) -> Time;
 
     pub(crate) safe fn fimbrast_reader_new() -> Reader;
-    pub(crate) safe fn fimbrast_receive(reader: Reader, byte: u8) -> Received;
-    fn fimbrast_feed(reader: Reader, bytes: *const u8, length: usize) -> Fed;
+    pub(crate) safe fn fimbrast_receive(reader: &mut Reader, byte: u8) -> Event;
+    fn fimbrast_feed(reader: &mut Reader, bytes: *const u8, length: usize) -> Fed;
     pub(crate) safe fn fimbrast_reader_full_message(reader: Reader, time: Time) -> Reader;
     pub(crate) safe fn fimbrast_is_locked(reader: Reader) -> bool;
     pub(crate) safe fn fimbrast_is_running(reader: Reader) -> bool;
@@ -258,8 +260,8 @@ unsafe extern "C" {
 // In each call below the pointers and lengths are those of live slices, the one that is written is borrowed alone, and the
 // library stays inside them and keeps none.
 
-pub(crate) fn feed(reader: Reader, bytes: &[u8]) -> Fed {
-    // SAFETY: `bytes` is a live slice.
+pub(crate) fn feed(reader: &mut Reader, bytes: &[u8]) -> Fed {
+    // SAFETY: `bytes` is a live slice, and `reader` is borrowed alone.
     unsafe { fimbrast_feed(reader, bytes.as_ptr(), bytes.len()) }
 }
 

@@ -44,8 +44,9 @@ impl TimeCodeType {
     ///
     /// assert_eq!(TimeCodeType::from_bits(0xFE), TimeCodeType::Fps30Drop);
     /// ```
+    #[inline]
     pub fn from_bits(value: u8) -> Self {
-        Self::of(ffi::fimbrast_from_frame_count(0, value).rate)
+        ffi::fimbrast_from_frame_count(0, value).rate
     }
 
     /// The frames of a counting second: 24, 25 or 30.
@@ -66,6 +67,7 @@ impl TimeCodeType {
 
 /// A time code label. A reader gives the counts as received, masked to their widths.
 #[derive(Debug, Clone, Copy, PartialEq, Eq, Hash)]
+#[repr(C)]
 pub struct MtcTime {
     /// Hours, 0 to 23 (5 bits).
     pub hours: u8,
@@ -107,32 +109,37 @@ impl MtcTime {
             frames,
             rate,
         };
-        SysexError::check(ffi::fimbrast_time_new(time.flat())).map(|()| time)
+        SysexError::check(ffi::fimbrast_time_new(time)).map(|()| time)
     }
 
     /// True when each count is in its range and the number is not skipped.
+    #[inline]
     pub fn is_valid(&self) -> bool {
-        ffi::fimbrast_is_valid(self.flat())
+        ffi::fimbrast_is_valid(*self)
     }
 
     /// Frame 02 for a number that drop-frame skips, or the time itself (RP-013 Drop Frame Notes).
+    #[inline]
     pub fn next_valid(self) -> Self {
-        Self::of(ffi::fimbrast_next_valid(self.flat()))
+        ffi::fimbrast_next_valid(self)
     }
 
     /// The frames from 00:00:00:00 to the time, by the rule of its type.
+    #[inline]
     pub fn to_frame_count(&self) -> u32 {
-        ffi::fimbrast_to_frame_count(self.flat())
+        ffi::fimbrast_to_frame_count(self)
     }
 
     /// The time of `count` frames from 00:00:00:00, round midnight.
+    #[inline]
     pub fn from_frame_count(count: u32, rate: TimeCodeType) -> Self {
-        Self::of(ffi::fimbrast_from_frame_count(count, rate.into_bits()))
+        ffi::fimbrast_from_frame_count(count, rate.into_bits())
     }
 
     /// The time `delta` frames later, or earlier, round midnight.
+    #[inline]
     pub fn add_frames(self, delta: i32) -> Self {
-        Self::of(ffi::fimbrast_add_frames(self.flat(), delta))
+        ffi::fimbrast_add_frames(self, delta)
     }
 
     pub(crate) const fn flat(self) -> ffi::Time {
@@ -207,20 +214,25 @@ impl QuarterFrame {
 }
 
 /// The direction of a Quarter Frame sequence (p. 3).
-#[derive(Debug, Clone, Copy, PartialEq, Eq, Hash)]
+#[derive(Debug, Clone, Copy, PartialEq, Eq)]
+#[repr(u8)]
 pub enum Direction {
     /// Pieces 0 to 7.
-    Forward,
+    Forward = 0,
     /// Pieces 7 to 0.
-    Reverse,
+    Reverse = 1,
+}
+
+/// As the source's direction, which has the width of its language.
+impl Hash for Direction {
+    fn hash<H: Hasher>(&self, state: &mut H) {
+        (*self as isize).hash(state);
+    }
 }
 
 impl Direction {
     const fn flat(self) -> u8 {
-        match self {
-            Self::Forward => ffi::FORWARD,
-            Self::Reverse => ffi::REVERSE,
-        }
+        self as u8
     }
 
     /// The direction of a record that always has one.
@@ -333,11 +345,11 @@ impl MtcGenerator {
 
     /// The data byte of the next piece, or `None` while stopped. The time moves 2 frames as a sequence follows another
     /// (p. 3).
+    #[inline]
     pub fn next_byte(&mut self) -> Option<u8> {
-        let sent = ffi::fimbrast_next_byte(self.record);
-        self.record = sent.generator;
-        match sent.refusal {
-            0 => Some(sent.byte),
+        let next = ffi::fimbrast_next_byte(&mut self.record);
+        match next.refusal {
+            0 => Some(next.byte),
             _ => None,
         }
     }
@@ -381,6 +393,7 @@ impl MtcGenerator {
 
 /// The end of a full sequence.
 #[derive(Debug, Clone, Copy, PartialEq, Eq, Hash)]
+#[repr(C)]
 pub struct MtcSequence {
     /// The assembled time, counts as received.
     pub raw: MtcTime,
@@ -399,9 +412,9 @@ impl MtcSequence {
         }
         let s = report.sequence;
         Some(Self {
-            raw: MtcTime::of(s.raw),
-            current: MtcTime::of(s.current),
-            direction: Direction::of(s.direction),
+            raw: s.raw,
+            current: s.current,
+            direction: s.direction,
             discontinuity: s.discontinuity,
         })
     }
@@ -409,6 +422,7 @@ impl MtcSequence {
 
 /// What one data byte gives.
 #[derive(Debug, Clone, Copy, PartialEq, Eq, Hash)]
+#[repr(C)]
 pub struct MtcEvent {
     /// The piece, 0 to 7.
     pub piece: u8,
@@ -468,14 +482,18 @@ impl MtcReader {
 
     /// Takes one Quarter Frame data byte. A piece out of order drops the partial sequence and the lock; two adjacent pieces
     /// the other way turn the direction. A sequence starts at the first piece of the direction.
+    #[inline]
     pub fn receive(&mut self, byte: u8) -> MtcEvent {
-        let received = ffi::fimbrast_receive(self.record, byte);
-        self.record = received.reader;
-        MtcEvent {
-            piece: received.event.piece,
-            boundary: received.event.boundary,
-            sequence: MtcSequence::maybe(received.event.report),
+        let event = ffi::fimbrast_receive(&mut self.record, byte);
+        let mut answer = MtcEvent {
+            piece: event.piece,
+            boundary: event.boundary,
+            sequence: None,
+        };
+        if event.report.present {
+            answer.sequence = MtcSequence::maybe(event.report);
         }
+        answer
     }
 
     /// Takes a list of data bytes, each as [`MtcReader::receive`] does.
@@ -489,8 +507,7 @@ impl MtcReader {
     /// assert_eq!(fed.last.map(|s| s.current), reader.time());
     /// ```
     pub fn feed(&mut self, bytes: &[u8]) -> Fed {
-        let fed = ffi::feed(self.record, bytes);
-        self.record = fed.reader;
+        let fed = ffi::feed(&mut self.record, bytes);
         Fed {
             reports: fed.reports,
             discontinuities: fed.discontinuities,

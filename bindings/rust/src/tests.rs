@@ -109,13 +109,12 @@ fn layout_is_the_headers() {
         "quarter_frame" QuarterFrame { piece, value }
         "eight_bytes" EightBytes { bytes }
         "generator" Generator { time, direction, last, running }
-        "sent" Sent { generator, refusal, byte }
+        "next" Next { refusal, byte }
         "reader" Reader { nibbles, count, first, last, direction, locked, running, previous, time }
         "sequence" Sequence { raw, current, direction, discontinuity }
         "maybe_sequence" MaybeSequence { present, sequence }
         "event" Event { piece, boundary, report }
-        "received" Received { reader, event }
-        "fed" Fed { reader, reports, discontinuities, last }
+        "fed" Fed { reports, discontinuities, last }
         "universal" Universal { real_time, device_id, sub_id1, has_sub_id2, sub_id2 }
         "written" Written { refusal, length }
         "full_message" FullMessage { answer, device_id, time }

@@ -1,6 +1,6 @@
 -- A list of quarter frames, byte by byte, and what its counts mean. Assumes nothing.
 use Prim.Native.Nat.{ℕ, suc, _+_, _≤_, _<_}
-use mathlib.Core.Path.{_≡_, refl, sym, ap, _∙_}
+use mathlib.Core.Path.{_≡_, refl, sym, subst, ap, ap₂, _∙_}
 use mathlib.Core.Bool.{Bool, true, false, cond}
 use mathlib.Core.List.{List, [], _∷_, map}
 use native.Mathlib.Nat.{add-assoc}
@@ -9,8 +9,10 @@ use native.Mathlib.Omega.{arith}
 use lib.Dec.{lit≤}
 use lib.ListN.{length, drop, getD, drop-of-length-le}
 use lib.Seq.{drop-cons}
-use Rattle.fimbrast.specs.Feed.{unfed, counted, fedBy, fedAll, fed, one, jump, later, total, lastOf, Feeds}
-use Rattle.fimbrast.specs.declared.feed.Fed.{Fed}
+use Rattle.flat.specs.Reader.{flatSequence, flatMaybeSequence, flatEvent, readerIn}
+use Rattle.flat.specs.declared.reader.FlatEvent.{FlatEvent}
+use Rattle.fimbrast.specs.Feed.{Fed, unfed, counted, fedBy, fedAll, fed, flatFed, flatCounted, one, jump, later, total, lastOf, Feeds}
+use Rattle.fimbrast.specs.declared.feed.FlatFed.{FlatFed}
 use Rattle.mtc.proofs.Laws.{calls-none, calls-more, events-more}
 use Rattle.mtc.specs.Reader.{afterByte, eventOf}
 use Rattle.mtc.specs.Stream.{byte, afterCalls, events}
@@ -21,11 +23,11 @@ use Rattle.mtc.specs.declared.reader.MtcReader.{MtcReader}
 
 -- ---- the loop
 
-pub fed-turn : (f : Fed) (bs : List ℕ) (i : ℕ) → i < length bs → fedAll f (drop i bs) ≡ fedAll (fedBy f (getD bs i 0)) (drop (i + 1) bs)
+fed-turn : (f : Fed) (bs : List ℕ) (i : ℕ) → i < length bs → fedAll f (drop i bs) ≡ fedAll (fedBy f (getD bs i 0)) (drop (i + 1) bs)
 unfolding fedAll
 fed-turn f bs i h = rw (add-one, drop-cons bs i 0)
 
-pub fed-end : (f : Fed) (bs : List ℕ) (i : ℕ) → length bs ≤ i → fedAll f (drop i bs) ≡ f
+fed-end : (f : Fed) (bs : List ℕ) (i : ℕ) → length bs ≤ i → fedAll f (drop i bs) ≡ f
 unfolding fedAll
 fed-end f bs i h = rw (drop-of-length-le bs h)
 
@@ -44,15 +46,13 @@ unfolding counted
 counted-jumps f r NoSequence = omega arith
 counted-jumps f r (Sequence s) = let h : cond (s .discontinuity) 1 0 ≤ 1 = at-most-one (s .discontinuity) in omega arith
 
-pub fed-reports : (f : Fed) (b : ℕ) → fedBy f b .reports ≤ f .reports + 1
+fed-reports : (f : Fed) (b : ℕ) → fedBy f b .reports ≤ f .reports + 1
 unfolding fedBy
 fed-reports f b = counted-reports f (afterByte (f .reader) b) (eventOf (f .reader) b .sequence)
 
-pub fed-jumps : (f : Fed) (b : ℕ) → fedBy f b .discontinuities ≤ f .discontinuities + 1
+fed-jumps : (f : Fed) (b : ℕ) → fedBy f b .discontinuities ≤ f .discontinuities + 1
 unfolding fedBy
 fed-jumps f b = counted-jumps f (afterByte (f .reader) b) (eventOf (f .reader) b .sequence)
-
--- ---- what it means
 
 module _ (f : Fed) (r : MtcReader) where
   counted-reader : (s : MaybeSequence) → counted f r s .reader ≡ r
@@ -74,6 +74,65 @@ module _ (f : Fed) (r : MtcReader) where
   unfolding counted
   counted-last NoSequence = refl
   counted-last (Sequence s) = refl
+
+flat-counted : (f : Fed) (r : MtcReader) (s : MaybeSequence) → flatCounted (flatFed f) (flatMaybeSequence s) ≡ flatFed (counted f r s)
+unfolding flatCounted flatFed counted flatMaybeSequence flatSequence
+flat-counted f r NoSequence = refl
+flat-counted f r (Sequence s) = refl
+
+-- After i bytes: the counts and the reader's bytes stand for a state from which the rest gives what all bytes give.
+pub record After (r₀ : MtcReader) (bs rs : List ℕ) (f : FlatFed) (i : ℕ) : Type 0 where
+  pub state : Fed
+  pub flat : f ≡ flatFed state
+  pub reader : readerIn rs ≡ state .reader
+  pub reports : f .reports ≤ i
+  pub discontinuities : f .discontinuities ≤ i
+  pub rest : fed r₀ bs ≡ fedAll state (drop i bs)
+
+pub before-all : (bs rs : List ℕ) (f : FlatFed) → f ≡ flatFed (unfed (readerIn rs)) → After (readerIn rs) bs rs f 0
+unfolding fed flatFed
+before-all bs rs f e =
+    record {
+      state = unfed (readerIn rs);
+      flat = e;
+      reader = refl;
+      reports = rw e (lit≤ tt);
+      discontinuities = rw e (lit≤ tt);
+      rest = refl;
+    }
+
+pub after-one : (r₀ : MtcReader) (bs rs qs : List ℕ) (f g : FlatFed) (i : ℕ) (e : FlatEvent) → After r₀ bs rs f i → i < length bs
+    → (e ≡ flatEvent (eventOf (readerIn rs) (getD bs i 0))) × (readerIn qs ≡ afterByte (readerIn rs) (getD bs i 0))
+    → g ≡ flatCounted f (e .report) → After r₀ bs qs g (i + 1)
+unfolding fedBy flatFed flatEvent
+after-one r₀ bs rs qs f g i e a h q eg =
+    let b : ℕ = getD bs i 0 in
+    let s : Fed = a .state in
+    let t : Fed = fedBy s b in
+    let said : e .report ≡ flatMaybeSequence (eventOf (s .reader) b .sequence)
+    = ap (λ (x : FlatEvent). x .report) (q .0) ∙ ap (λ (r : MtcReader). flatMaybeSequence (eventOf r b .sequence)) (a .reader) in
+    let same : g ≡ flatFed t
+    = eg ∙ ap₂ flatCounted (a .flat) said ∙ flat-counted s (afterByte (s .reader) b) (eventOf (s .reader) b .sequence) in
+    let n : t .reports ≤ s .reports + 1 = fed-reports s b in
+    let d : t .discontinuities ≤ s .discontinuities + 1 = fed-jumps s b in
+    let n₀ : s .reports ≤ i = subst (λ (x : FlatFed). x .reports ≤ i) (a .flat) (a .reports) in
+    let d₀ : s .discontinuities ≤ i = subst (λ (x : FlatFed). x .discontinuities ≤ i) (a .flat) (a .discontinuities) in
+    record {
+      state = t;
+      flat = same;
+      reader = q .1 ∙ ap (λ (r : MtcReader). afterByte r b) (a .reader) ∙ sym (counted-reader s (afterByte (s .reader) b) (eventOf (s .reader) b .sequence));
+      reports = subst (λ (x : FlatFed). x .reports ≤ i + 1) (sym same) (omega (arith, n, n₀));
+      discontinuities = subst (λ (x : FlatFed). x .discontinuities ≤ i + 1) (sym same) (omega (arith, d, d₀));
+      rest = a .rest ∙ fed-turn s bs i h;
+    }
+
+pub after-all : (r₀ : MtcReader) (bs rs : List ℕ) (f : FlatFed) (i : ℕ) → After r₀ bs rs f i → length bs ≤ i
+    → (f ≡ flatFed (fed r₀ bs)) × (readerIn rs ≡ fed r₀ bs .reader)
+after-all r₀ bs rs f i a h =
+    let e : fed r₀ bs ≡ a .state = a .rest ∙ fed-end (a .state) bs i h in
+    (a .flat ∙ ap flatFed (sym e), a .reader ∙ ap (λ (x : Fed). x .reader) (sym e))
+
+-- ---- what it means
 
 -- What a list leaves, from a state on.
 record From (f : Fed) (bs : List ℕ) : Type 0 where

@@ -4,8 +4,8 @@ use Prim.Native.Nat.{ℕ, _+_}
 use mathlib.Core.Bool.{Bool, cond}
 use mathlib.Core.List.{List, [], _∷_, map}
 use mathlib.Core.Path.{_≡_}
-use Rattle.flat.specs.Reader.{flatReader, flatMaybeSequence}
-use Rattle.fimbrast.specs.declared.feed.Fed.{Fed}
+use Rattle.flat.specs.Reader.{flatMaybeSequence}
+use Rattle.flat.specs.declared.reader.FlatMaybeSequence.{FlatMaybeSequence}
 use Rattle.fimbrast.specs.declared.feed.FlatFed.{FlatFed}
 use Rattle.mtc.specs.Reader.{afterByte, eventOf}
 use Rattle.mtc.specs.Stream.{byte, afterCalls, events}
@@ -15,6 +15,13 @@ use Rattle.mtc.specs.declared.reader.MtcEvent.{MtcEvent}
 use Rattle.mtc.specs.declared.reader.MtcReader.{MtcReader}
 
 -- ---- as it is counted
+
+-- A reader after some bytes, its reports, those with a discontinuity, and the last one.
+pub record Fed : Type 0 where
+  pub reader : MtcReader
+  pub reports : ℕ
+  pub discontinuities : ℕ
+  pub last : MaybeSequence
 
 -- A reader that got nothing yet.
 abbrev pub unfed : MtcReader → Fed
@@ -41,14 +48,20 @@ fedAll f (b ∷ bs) = fedAll (fedBy f b) bs
 unfoldable pub fed : MtcReader → List ℕ → Fed
 fed r bs = fedAll (unfed r) bs
 
+-- The counts and the last report in numbers; the reader is left in its bytes.
 unfoldable pub flatFed : Fed → FlatFed
 flatFed f =
     record {
-      reader = flatReader (f .reader);
       reports = f .reports;
       discontinuities = f .discontinuities;
       last = flatMaybeSequence (f .last);
     }
+
+-- A report in numbers, counted.
+unfoldable pub flatCounted : FlatFed → FlatMaybeSequence → FlatFed
+flatCounted f s =
+    cond (s .present)
+    (record { reports = f .reports + 1; discontinuities = f .discontinuities + cond (s .sequence .discontinuity) 1 0; last = s }) f
 
 -- ---- what it means
 

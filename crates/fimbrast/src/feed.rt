@@ -1,32 +1,20 @@
 // A list of quarter frames given to a reader.
 use flat::reader::FlatMaybeSequence;
-use flat::reader::FlatReader;
 use flat::reader::flat_maybe_sequence;
-use flat::reader::flat_reader;
-use flat::reader::reader_of;
+use flat::reader::receive;
 use mtc::MaybeSequence;
-use mtc::MtcReader;
 ghost use mathlib.Core.Path.{_≡_};
 ghost use mathlib.Core.Bool.{cond};
 ghost use Prim.Native.Nat.{_<_, _≤_};
-ghost use Rattle.flat.specs.Reader.{readerOf};
-ghost use Rattle.fimbrast.specs.Feed.{counted, fedBy, fed, flatFed};
+ghost use Rattle.flat.specs.Reader.{readerIn};
+ghost use Rattle.fimbrast.specs.Feed.{flatCounted, fed, flatFed};
 
-// The reader after the data bytes, its reports, those with a discontinuity, and the last one.
+// The reports of the data bytes, those with a discontinuity, and the last one.
 #[repr(C)]
 pub struct FlatFed {
-    pub reader: FlatReader,
     pub reports: usize,
     pub discontinuities: usize,
     pub last: FlatMaybeSequence,
-}
-
-// The same, so far.
-struct Fed {
-    reader: MtcReader,
-    reports: usize,
-    discontinuities: usize,
-    last: MaybeSequence,
 }
 
 fn one_if(set: bool) -> usize
@@ -35,74 +23,38 @@ fn one_if(set: bool) -> usize
     if set { 1 } else { 0 }
 }
 
-// A byte left this reader, and reported this.
-fn counted(f: Fed, reader: MtcReader, sequence: MaybeSequence) -> Fed
+// A byte reported this.
+fn counted(f: FlatFed, report: FlatMaybeSequence) -> FlatFed
     requires { ⌜ (f .reports < 18446744073709551615) × (f .discontinuities < 18446744073709551615) ⌝ }
-    ensures { λ r. ⌜ r ≡ counted f reader sequence ⌝ }
+    ensures { λ r. ⌜ r ≡ flatCounted f report ⌝ }
 {
-    let last = f.last;
-    match sequence {
-        MaybeSequence::NoSequence => Fed {
-            reader,
-            reports: f.reports,
-            discontinuities: f.discontinuities,
-            last,
-        },
-        MaybeSequence::Sequence(s) => Fed {
-            reader,
-            reports: f.reports + 1,
-            discontinuities: f.discontinuities + one_if(s.discontinuity),
-            last: sequence,
-        },
+    if !report.present {
+        return f;
+    }
+    let sequence = report.sequence;
+    FlatFed {
+        reports: f.reports + 1,
+        discontinuities: f.discontinuities + one_if(sequence.discontinuity),
+        last: report,
     }
 }
 
-fn fed_by(f: Fed, byte: u8) -> Fed
-    requires { ⌜ (f .reports < 18446744073709551615) × (f .discontinuities < 18446744073709551615) ⌝ }
-    ensures { λ r. ⌜ r ≡ fedBy f byte ⌝ }
+// `MtcReader::receive` for each of the bytes, on the record's bytes.
+#[no_mangle]
+pub extern "C" fn fimbrast_feed(reader: &mut [u8; 26], bytes: &[u8]) -> FlatFed
+    ensures { λ r. ⌜ (r ≡ flatFed (fed (readerIn (now (reader .entry))) (now (bytes .entry)))) × (readerIn (now (reader .exit)) ≡ fed (readerIn (now (reader .entry))) (now (bytes .entry)) .reader) ⌝ }
 {
-    let reader = f.reader;
-    let stepped = reader.step(byte);
-    let back = stepped.reader;
-    let event = stepped.event;
-    let sequence = event.sequence;
-    counted(f, back, sequence)
-}
-
-fn fed_all(reader: MtcReader, bytes: &[u8]) -> Fed
-    ensures { λ r. ⌜ r ≡ fed reader (now (bytes .entry)) ⌝ }
-{
-    let mut f = Fed {
-        reader,
+    let mut f = FlatFed {
         reports: 0,
         discontinuities: 0,
-        last: MaybeSequence::NoSequence,
+        last: flat_maybe_sequence(MaybeSequence::NoSequence),
     };
     let mut i = 0;
     while i < bytes.len() {
-        f = fed_by(f, bytes[i]);
+        let event = receive(reader, bytes[i]);
+        let report = event.report;
+        f = counted(f, report);
         i += 1;
     }
     f
-}
-
-fn flat_fed(f: Fed) -> FlatFed
-    ensures { λ r. ⌜ r ≡ flatFed f ⌝ }
-{
-    let reader = f.reader;
-    let last = f.last;
-    FlatFed {
-        reader: flat_reader(reader),
-        reports: f.reports,
-        discontinuities: f.discontinuities,
-        last: flat_maybe_sequence(last),
-    }
-}
-
-// `MtcReader::receive` for each of the bytes.
-#[no_mangle]
-pub extern "C" fn fimbrast_feed(reader: FlatReader, bytes: &[u8]) -> FlatFed
-    ensures { λ r. ⌜ r ≡ flatFed (fed (readerOf reader) (now (bytes .entry))) ⌝ }
-{
-    flat_fed(fed_all(reader_of(reader), bytes))
 }

@@ -1,10 +1,10 @@
 // The quarter frame generator.
+use flat::generator::FlatByte;
 use flat::generator::FlatGenerator;
-use flat::generator::FlatSent;
 use flat::generator::direction_at;
 use flat::generator::flat_generator;
-use flat::generator::flat_sent;
 use flat::generator::generator_of;
+use flat::generator::next_byte;
 use flat::time::FlatTime;
 use flat::time::flat_time;
 use flat::time::time_of;
@@ -12,7 +12,7 @@ use mtc::MtcGenerator;
 ghost use mathlib.Core.Path.{_≡_};
 ghost use Rattle.mtc.specs.Generator.{nextByte, afterNextByte, started, withRunning, withDirection, located};
 ghost use Rattle.flat.specs.Time.{timeOf, flatTime};
-ghost use Rattle.flat.specs.Generator.{directionAt, generatorOf, flatGenerator, flatSent};
+ghost use Rattle.flat.specs.Generator.{directionAt, generatorOf, flatGenerator, generatorIn, flatByte};
 
 // `MtcGenerator::new`.
 #[no_mangle]
@@ -22,15 +22,12 @@ pub extern "C" fn fimbrast_generator_new(time: FlatTime, direction: u8) -> FlatG
     flat_generator(MtcGenerator::new(time_of(time), direction_at(direction)))
 }
 
-// `MtcGenerator::next_byte`.
+// `MtcGenerator::next_byte`, on the record's bytes.
 #[no_mangle]
-pub extern "C" fn fimbrast_next_byte(generator: FlatGenerator) -> FlatSent
-    ensures { λ r. ⌜ r ≡ flatSent (flatGenerator (afterNextByte (generatorOf generator))) (nextByte (generatorOf generator)) ⌝ }
+pub extern "C" fn fimbrast_next_byte(generator: &mut [u8; 8]) -> FlatByte
+    ensures { λ r. ⌜ (r ≡ flatByte (nextByte (generatorIn (now (generator .entry))))) × (generatorIn (now (generator .exit)) ≡ afterNextByte (generatorIn (now (generator .entry)))) ⌝ }
 {
-    let sent = generator_of(generator).next_byte();
-    let back = sent.generator;
-    let byte = sent.byte;
-    flat_sent(flat_generator(back), byte)
+    next_byte(generator)
 }
 
 // `MtcGenerator::set_running`.

@@ -1,12 +1,12 @@
 // The quarter frame reader.
+use flat::reader::FlatEvent;
 use flat::reader::FlatMaybeTime;
 use flat::reader::FlatReader;
-use flat::reader::FlatReceived;
 use flat::reader::flat_maybe_time;
 use flat::reader::flat_reader;
-use flat::reader::flat_received;
 use flat::reader::flat_way;
 use flat::reader::reader_of;
+use flat::reader::receive;
 use flat::time::FlatTime;
 use flat::time::time_of;
 use mtc::FullMessage;
@@ -14,7 +14,7 @@ use mtc::MtcReader;
 ghost use mathlib.Core.Path.{_≡_};
 ghost use Rattle.mtc.specs.Reader.{fresh, taken, afterByte, eventOf, afterFullMessage};
 ghost use Rattle.flat.specs.Time.{timeOf};
-ghost use Rattle.flat.specs.Reader.{flatWay, flatMaybeTime, readerOf, flatReader, flatReceived};
+ghost use Rattle.flat.specs.Reader.{flatWay, flatMaybeTime, readerOf, flatReader, readerIn, flatEvent};
 
 // `MtcReader::new`.
 #[no_mangle]
@@ -24,12 +24,12 @@ pub extern "C" fn fimbrast_reader_new() -> FlatReader
     flat_reader(MtcReader::new())
 }
 
-// `MtcReader::receive`.
+// `MtcReader::receive`, on the record's bytes.
 #[no_mangle]
-pub extern "C" fn fimbrast_receive(reader: FlatReader, byte: u8) -> FlatReceived
-    ensures { λ r. ⌜ r ≡ flatReceived (afterByte (readerOf reader) byte) (eventOf (readerOf reader) byte) ⌝ }
+pub extern "C" fn fimbrast_receive(reader: &mut [u8; 26], byte: u8) -> FlatEvent
+    ensures { λ r. ⌜ (r ≡ flatEvent (eventOf (readerIn (now (reader .entry))) byte)) × (readerIn (now (reader .exit)) ≡ afterByte (readerIn (now (reader .entry))) byte) ⌝ }
 {
-    flat_received(reader_of(reader).step(byte))
+    receive(reader, byte)
 }
 
 // `MtcReader::full_message`, with the message's time.

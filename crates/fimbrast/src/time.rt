@@ -6,6 +6,7 @@ use flat::time::flat_frame;
 use flat::time::flat_new;
 use flat::time::flat_time;
 use flat::time::frame_of;
+use flat::time::time_in;
 use flat::time::time_of;
 use mtc::MtcTime;
 use mtc::QuarterFrame;
@@ -15,7 +16,7 @@ ghost use Rattle.mtc.specs.QuarterFrame.{fromByte, toByte, pieces};
 ghost use Rattle.mtc.specs.St12.{framesPerSecond, isValid};
 ghost use Rattle.mtc.specs.Time.{newTime, nextValid, frameCount, labelAt, addFrames, typeOf};
 ghost use Rattle.flat.specs.Refusal.{refusalIn};
-ghost use Rattle.flat.specs.Time.{timeOf, flatTime, frameOf, flatFrame};
+ghost use Rattle.flat.specs.Time.{timeOf, timeAt, flatTime, frameOf, flatFrame};
 
 // The frames of a counting second.
 #[no_mangle]
@@ -51,12 +52,12 @@ pub extern "C" fn fimbrast_next_valid(time: FlatTime) -> FlatTime
     flat_time(time_of(time).next_valid())
 }
 
-// `MtcTime::to_frame_count`.
+// `MtcTime::to_frame_count`, of the record's bytes.
 #[no_mangle]
-pub extern "C" fn fimbrast_to_frame_count(time: FlatTime) -> u32
-    ensures { λ r. ⌜ r ≡ frameCount (timeOf time) ⌝ }
+pub extern "C" fn fimbrast_to_frame_count(time: &[u8; 5]) -> u32
+    ensures { λ r. ⌜ r ≡ frameCount (timeAt (now (time .entry)) 0) ⌝ }
 {
-    time_of(time).to_frame_count()
+    time_in(time).to_frame_count()
 }
 
 // `MtcTime::from_frame_count`.

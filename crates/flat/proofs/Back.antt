@@ -1,9 +1,15 @@
 -- Flat records stand for one value each: what is flattened and read back is the same. Assumes nothing.
+use Prim.Native.Nat.{ℕ, _%_, _≤_}
 use mathlib.Core.Path.{_≡_, refl, ap, ap₂}
 use mathlib.Core.Bool.{Bool, true, false}
+use mathlib.Core.List.{List, [], _∷_}
+use native.Mathlib.Omega.{arith}
+use borrow.Author.Tests.{le-leb}
+use lib.Dec.{lit<}
+use lib.ListN.{length, getD}
 use Rattle.flat.specs.Code.{finalOf, isStatus, flatFinal, codeOf, flatCode, shortOf, flatShort}
 use Rattle.flat.specs.Generator.{directionAt, flatDirection, pieceAt, flatPiece, generatorOf, flatGenerator}
-use Rattle.flat.specs.Reader.{wayAt, flatWay, maybeTimeOf, flatMaybeTime, readerOf, flatReader}
+use Rattle.flat.specs.Reader.{wayAt, flatWay, maybeTimeOf, flatMaybeTime, nibblesIn, readerOf, flatReader}
 use Rattle.flat.specs.String.{partAt, flatPart, commandOf, flatCommand, fieldOf, flatField}
 use Rattle.flat.specs.Time.{timeOf, flatTime}
 use Rattle.mmc.specs.TimeCode.{readStatus, statusByte}
@@ -17,6 +23,7 @@ use Rattle.mmc.specs.declared.time_code.FinalByte.the-variants.{Subframes, Stat
 use Rattle.mmc.specs.declared.time_code.ShortTimeCode.{ShortTimeCode}
 use Rattle.mmc.specs.declared.time_code.StandardTimeCode.{StandardTimeCode}
 use Rattle.mmc.specs.declared.time_code.TimeCodeStatus.{TimeCodeStatus}
+use Rattle.mtc.proofs.Laws.{Sound, Bounds, bounds}
 use Rattle.mtc.specs.Reader.{pieceFits}
 use Rattle.mtc.specs.Time.{bitsOf, typeOf}
 use Rattle.mtc.specs.declared.generator.Direction.{Direction}
@@ -51,7 +58,7 @@ direction-back Forward = refl
 direction-back Reverse = refl
 
 -- A last piece above 7, which no call leaves, is not kept.
-piece-back : (p : MaybePiece) → pieceFits p ≡ true → pieceAt (flatPiece p) ≡ p
+pub piece-back : (p : MaybePiece) → pieceFits p ≡ true → pieceAt (flatPiece p) ≡ p
 unfolding pieceAt flatPiece
 piece-back NoPiece h = refl
 piece-back (Piece n) h = rw h
@@ -60,7 +67,7 @@ pub generator-back : (g : MtcGenerator) → pieceFits (g .last) ≡ true → gen
 unfolding generatorOf flatGenerator
 generator-back g h = rw (time-back (g .time), direction-back (g .direction), piece-back (g .last) h)
 
-way-back : (d : MaybeDirection) → wayAt (flatWay d) ≡ d
+pub way-back : (d : MaybeDirection) → wayAt (flatWay d) ≡ d
 unfolding wayAt flatWay directionAt flatDirection
 way-back NoDirection = refl
 way-back (Going Forward) = refl
@@ -71,10 +78,40 @@ unfolding maybeTimeOf flatMaybeTime
 maybe-time-back NoTime = refl
 maybe-time-back (Time t) = ap (λ (u : MtcTime). Time u) (time-back t)
 
-pub reader-back : (r : MtcReader) → pieceFits (r .last) ≡ true → readerOf (flatReader r) ≡ r
+-- Eight bytes are their list.
+eight : (n : List ℕ) → length n ≡ 8
+    → getD n 0 0 ∷ getD n 1 0 ∷ getD n 2 0 ∷ getD n 3 0 ∷ getD n 4 0 ∷ getD n 5 0 ∷ getD n 6 0 ∷ getD n 7 0 ∷ [] ≡ n
+eight [] x = absurd (omega arith)
+eight (a ∷ []) x = absurd (omega arith)
+eight (a ∷ b ∷ []) x = absurd (omega arith)
+eight (a ∷ b ∷ c ∷ []) x = absurd (omega arith)
+eight (a ∷ b ∷ c ∷ d ∷ []) x = absurd (omega arith)
+eight (a ∷ b ∷ c ∷ d ∷ e ∷ []) x = absurd (omega arith)
+eight (a ∷ b ∷ c ∷ d ∷ e ∷ f ∷ []) x = absurd (omega arith)
+eight (a ∷ b ∷ c ∷ d ∷ e ∷ f ∷ g ∷ []) x = absurd (omega arith)
+eight (a ∷ b ∷ c ∷ d ∷ e ∷ f ∷ g ∷ h ∷ []) x = refl
+eight (a ∷ b ∷ c ∷ d ∷ e ∷ f ∷ g ∷ h ∷ i ∷ n) x = absurd (omega arith)
+
+small : (n : ℕ) → n ≤ 15 → n % 16 ≡ n
+small n h = omega arith
+
+pub nibbles-back : (r : MtcReader) → Bounds r → nibblesIn (r .nibbles) ≡ r .nibbles
+unfolding nibblesIn
+nibbles-back r b =
+    rw (small (getD (r .nibbles) 0 0) (b .nibbles 0 (lit< tt)), small (getD (r .nibbles) 1 0) (b .nibbles 1 (lit< tt)), small (getD (r .nibbles) 2 0) (b .nibbles 2 (lit< tt)), small (getD (r .nibbles) 3 0) (b .nibbles 3 (lit< tt)), small (getD (r .nibbles) 4 0) (b .nibbles 4 (lit< tt)), small (getD (r .nibbles) 5 0) (b .nibbles 5 (lit< tt)), small (getD (r .nibbles) 6 0) (b .nibbles 6 (lit< tt)), small (getD (r .nibbles) 7 0) (b .nibbles 7 (lit< tt))) (eight (r .nibbles) (b .eight))
+
+pub low-back : (n : ℕ) → n ≤ 7 → n % 8 ≡ n
+low-back n h = omega arith
+
+pub last-fits : (r : MtcReader) → Bounds r → (m : MaybePiece) → r .last ≡ m → pieceFits m ≡ true
+last-fits r b NoPiece e = refl
+last-fits r b (Piece p) e = le-leb p 7 (b .last p e)
+
+pub reader-back : (r : MtcReader) → Sound r → readerOf (flatReader r) ≡ r
 unfolding readerOf flatReader
-reader-back r h =
-    rw (piece-back (r .last) h, way-back (r .direction), maybe-time-back (r .previous), maybe-time-back (r .time))
+reader-back r s =
+    let b : Bounds r = bounds r s in
+    rw (nibbles-back r b, low-back (r .count) (b .count), low-back (r .first) (b .first), piece-back (r .last) (last-fits r b (r .last) refl), way-back (r .direction), maybe-time-back (r .previous), maybe-time-back (r .time))
 
 -- ---- time codes, commands, fields
 

@@ -1,3 +1,4 @@
 mod Back
+mod Bytes
 mod Checks
 pub mod Laws

@@ -1,5 +1,7 @@
 -- Labels and quarter frames as flat records, and back. Assumes nothing.
-use Prim.Native.Nat.{ℕ}
+use Prim.Native.Nat.{ℕ, _+_}
+use mathlib.Core.List.{List}
+use lib.ListN.{getD}
 use Rattle.flat.specs.declared.time.FlatFrame.{FlatFrame}
 use Rattle.flat.specs.declared.time.FlatTime.{FlatTime}
 use Rattle.mtc.specs.Time.{bitsOf, typeOf}
@@ -20,6 +22,17 @@ frameOf q = record { piece = q .piece; value = q .value }
 
 unfoldable pub flatFrame : QuarterFrame → FlatFrame
 flatFrame q = record { piece = q .piece; value = q .value }
+
+-- The label in the five bytes from a place on.
+unfoldable pub timeAt : List ℕ → ℕ → MtcTime
+timeAt bs k =
+    record {
+      hours = getD bs k 0;
+      minutes = getD bs (k + 1) 0;
+      seconds = getD bs (k + 2) 0;
+      frames = getD bs (k + 3) 0;
+      rate = typeOf (getD bs (k + 4) 0);
+    }
 
 -- All zeros, where there is no label.
 abbrev pub noTime : FlatTime

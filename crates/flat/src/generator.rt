@@ -1,15 +1,28 @@
 // The quarter frame generator.
-use crate::refusal::number;
 use crate::time::FlatTime;
 use crate::time::flat_time;
 use crate::time::time_of;
 use mtc::Direction;
 use mtc::MaybePiece;
 use mtc::MtcGenerator;
-use mtc::NextByte;
+use mtc::MtcTime;
+use mtc::QuarterFrame;
+use mtc::TimeCodeType;
 ghost use mathlib.Core.Path.{_≡_};
-ghost use Rattle.mtc.specs.Generator.{nextByte, nextByteOf};
-ghost use Rattle.flat.specs.Generator.{directionAt, flatDirection, pieceAt, flatPiece, generatorOf, flatGenerator, flatSent};
+ghost use Prim.Native.Nat.{_≤_};
+ghost use lib.ListN.{length, getD};
+ghost use Rattle.mtc.specs.Generator.{nextByte, afterNextByte, move};
+ghost use Rattle.mtc.specs.Time.{addFrames};
+ghost use Rattle.mtc.specs.QuarterFrame.{pieces};
+ghost use Rattle.universal.specs.Refusals.{gives};
+ghost use Rattle.flat.specs.Generator.{directionAt, flatDirection, pieceAt, flatPiece, generatorOf, flatGenerator, generatorIn, movedTo, sentBy, flatByte};
+
+// The places of a generator's record, after its label.
+const DIRECTION: usize = 5;
+
+const LAST: usize = 6;
+
+const RUNNING: usize = 7;
 
 // Direction 0 is forward, any other reverse. A last piece above 7 is none.
 #[repr(C)]
@@ -20,10 +33,9 @@ pub struct FlatGenerator {
     pub running: bool,
 }
 
-// A data byte, or a refusal and 0, with the generator that comes back.
+// A data byte, or a refusal and 0.
 #[repr(C)]
-pub struct FlatSent {
-    pub generator: FlatGenerator,
+pub struct FlatByte {
     pub refusal: u8,
     pub byte: u8,
 }
@@ -90,19 +102,61 @@ pub fn flat_generator(g: MtcGenerator) -> FlatGenerator
     }
 }
 
-pub fn flat_sent(generator: FlatGenerator, byte: NextByte) -> FlatSent
-    ensures { λ r. ⌜ r ≡ flatSent generator (nextByteOf byte) ⌝ }
+// `MtcGenerator::next_byte` on the record's bytes, of which only those that change are stored.
+pub fn next_byte(g: &mut [u8; 8]) -> FlatByte
+    ensures { λ r. ⌜ (r ≡ flatByte (nextByte (generatorIn (now (g .entry))))) × (generatorIn (now (g .exit)) ≡ afterNextByte (generatorIn (now (g .entry)))) ⌝ }
 {
-    match byte {
-        NextByte::Byte(byte) => FlatSent {
-            generator,
-            refusal: 0,
-            byte,
-        },
-        NextByte::Refused(e) => FlatSent {
-            generator,
-            refusal: number(e),
+    if g[RUNNING] == 0 {
+        return FlatByte {
+            refusal: 8,
             byte: 0,
-        },
+        };
+    }
+    let direction = direction_at(g[DIRECTION]);
+    let last = g[LAST];
+    if last > 7 {
+        return send(g, direction.first());
+    }
+    if last != direction.last() {
+        return send(g, direction.after(last));
+    }
+    move_on(g, direction);
+    send(g, direction.after(last))
+}
+
+// The time of the next sequence.
+fn move_on(g: &mut [u8; 8], direction: Direction)
+    ensures { λ _. ⌜ generatorIn (now (g .exit)) ≡ movedTo (generatorIn (now (g .entry))) (addFrames (generatorIn (now (g .entry)) .time) (move direction)) ⌝ }
+{
+    let time = flat_time(direction.next_time(time_in(*g)));
+    g[0] = time.hours;
+    g[1] = time.minutes;
+    g[2] = time.seconds;
+    g[3] = time.frames;
+    g[4] = time.rate;
+}
+
+// One piece of the time.
+fn send(g: &mut [u8; 8], piece: u8) -> FlatByte
+    requires { ⌜ piece ≤ 7 ⌝ }
+    ensures { λ r. ⌜ (r ≡ flatByte (gives (getD (pieces (generatorIn (now (g .entry)) .time)) piece 0))) × (generatorIn (now (g .exit)) ≡ sentBy (generatorIn (now (g .entry))) piece) ⌝ }
+{
+    let time = time_in(*g);
+    g[LAST] = piece;
+    FlatByte {
+        refusal: 0,
+        byte: QuarterFrame::piece(time, piece),
+    }
+}
+
+fn time_in(g: [u8; 8]) -> MtcTime
+    ensures { λ r. ⌜ (r ≡ generatorIn g .time) × (length g ≡ 8) ⌝ }
+{
+    MtcTime {
+        hours: g[0],
+        minutes: g[1],
+        seconds: g[2],
+        frames: g[3],
+        rate: TimeCodeType::from_bits(g[4]),
     }
 }

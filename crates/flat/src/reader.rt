@@ -13,9 +13,19 @@ use mtc::MaybeTime;
 use mtc::MtcEvent;
 use mtc::MtcReader;
 use mtc::MtcSequence;
-use mtc::Stepped;
+use mtc::MtcTime;
+use mtc::TimeCodeType;
+use mtc::event;
+use mtc::report;
 ghost use mathlib.Core.Path.{_≡_};
-ghost use Rattle.flat.specs.Reader.{wayAt, flatWay, maybeTimeOf, flatMaybeTime, readerOf, flatReader, flatSequence, flatMaybeSequence, flatEvent, flatReceived};
+ghost use Prim.Native.Nat.{_≤_};
+ghost use lib.ListN.{length, getD};
+ghost use mathlib.Core.Bool.{cond};
+ghost use Rattle.mtc.specs.St12.{label};
+ghost use Rattle.mtc.specs.Time.{typeOf};
+ghost use Rattle.mtc.specs.Reader.{rawOf, sequenceOf, completed, eventWith, afterByte, eventOf};
+ghost use Rattle.flat.specs.Generator.{isSet};
+ghost use Rattle.flat.specs.Reader.{wayAt, flatWay, maybeTimeOf, flatMaybeTime, readerOf, flatReader, flatSequence, flatMaybeSequence, flatEvent, nibblesIn, maybeTimeAt, readerIn, bit, bytesOf, usualNumber};
 
 // A time, where `present`; elsewhere all zeros.
 #[repr(C)]
@@ -24,7 +34,8 @@ pub struct FlatMaybeTime {
     pub time: FlatTime,
 }
 
-// A last piece above 7 is none; direction 0 is forward, 1 reverse, any other none.
+// Of a nibble the four low bits are read, of count and first piece three. A last piece above 7 is none; direction 0 is forward,
+// 1 reverse, any other none.
 #[repr(C)]
 pub struct FlatReader {
     pub nibbles: [u8; 8],
@@ -58,13 +69,6 @@ pub struct FlatEvent {
     pub piece: u8,
     pub boundary: bool,
     pub report: FlatMaybeSequence,
-}
-
-// What one data byte gives, with the reader that it leaves.
-#[repr(C)]
-pub struct FlatReceived {
-    pub reader: FlatReader,
-    pub event: FlatEvent,
 }
 
 pub fn way_at(n: u8) -> MaybeDirection
@@ -110,16 +114,32 @@ pub fn flat_maybe_time(t: MaybeTime) -> FlatMaybeTime
     }
 }
 
+fn nibbles_in(n: &[u8; 8]) -> [u8; 8]
+    ensures { λ r. ⌜ r ≡ nibblesIn (now (n .entry)) ⌝ }
+{
+    [
+        n[0] % 16,
+        n[1] % 16,
+        n[2] % 16,
+        n[3] % 16,
+        n[4] % 16,
+        n[5] % 16,
+        n[6] % 16,
+        n[7] % 16,
+    ]
+}
+
 pub fn reader_of(r: FlatReader) -> MtcReader
     ensures { λ q. ⌜ q ≡ readerOf r ⌝ }
 {
-    let nibbles = r.nibbles;
+    let n = r.nibbles;
+    let nibbles = nibbles_in(&n);
     let previous = r.previous;
     let time = r.time;
     MtcReader {
         nibbles,
-        count: r.count,
-        first: r.first,
+        count: r.count % 8,
+        first: r.first % 8,
         last: piece_at(r.last),
         direction: way_at(r.direction),
         locked: r.locked,
@@ -195,13 +215,217 @@ pub fn flat_event(e: MtcEvent) -> FlatEvent
     }
 }
 
-pub fn flat_received(s: Stepped) -> FlatReceived
-    ensures { λ r. ⌜ r ≡ flatReceived (s .reader) (s .event) ⌝ }
+// ---- the reader's record as its 26 bytes
+
+const COUNT: usize = 8;
+
+const FIRST: usize = 9;
+
+const LAST: usize = 10;
+
+const DIRECTION: usize = 11;
+
+const LOCKED: usize = 12;
+
+const RUNNING: usize = 13;
+
+// `MtcReader::receive` on the record's bytes. A piece that is the next one changes a few of them; any other goes by the record.
+pub fn receive(r: &mut [u8; 26], byte: u8) -> FlatEvent
+    ensures { λ e. ⌜ (e ≡ flatEvent (eventOf (readerIn (now (r .entry))) byte)) × (readerIn (now (r .exit)) ≡ afterByte (readerIn (now (r .entry))) byte) ⌝ }
 {
-    let reader = s.reader;
-    let event = s.event;
-    FlatReceived {
-        reader: flat_reader(reader),
-        event: flat_event(event),
+    let p = byte / 16 % 8;
+    let n = usual(*r, p);
+    if n == 0 {
+        return receive_any(r, byte);
     }
+    r[p as usize] = byte % 16;
+    r[LAST] = p;
+    r[RUNNING] = 1;
+    if n == 8 {
+        r[COUNT] = 0;
+        return complete(r, p);
+    }
+    if n > 1 {
+        r[COUNT] = n;
+        return flat_event(event(p, MaybeSequence::NoSequence));
+    }
+    r[FIRST] = p;
+    r[COUNT] = 1;
+    flat_event(event(p, MaybeSequence::NoSequence))
+}
+
+// The number of a piece that is the next one in a known direction; 0 for any other, and for one that belongs to no sequence.
+fn usual(r: [u8; 26], p: u8) -> u8
+    ensures { λ n. ⌜ (n ≡ usualNumber (getD r 8 0) (getD r 10 0) (getD r 11 0) p) × ((n ≤ 8) × (length r ≡ 26)) ⌝ }
+{
+    let last = r[LAST];
+    let direction = r[DIRECTION];
+    if direction > 1 {
+        return 0;
+    }
+    if last > 7 {
+        return 0;
+    }
+    let d = direction_at(direction);
+    if d.after(last) != p {
+        return 0;
+    }
+    let held = r[COUNT] % 8;
+    if held > 0 {
+        return held + 1;
+    }
+    if p == d.first() {
+        return 1;
+    }
+    0
+}
+
+// Any data byte, by the record.
+fn receive_any(r: &mut [u8; 26], byte: u8) -> FlatEvent
+    ensures { λ e. ⌜ (e ≡ flatEvent (eventOf (readerIn (now (r .entry))) byte)) × (readerIn (now (r .exit)) ≡ afterByte (readerIn (now (r .entry))) byte) ⌝ }
+{
+    let q = reader_in(r).step(byte);
+    let reader = q.reader;
+    let event = q.event;
+    *r = bytes_of(reader);
+    flat_event(event)
+}
+
+// The end of a full sequence, at its last piece, in a known direction.
+fn complete(r: &mut [u8; 26], p: u8) -> FlatEvent
+    requires { ⌜ getD (now r) 11 0 ≤ 1 ⌝ }
+    ensures { λ e. ⌜ (e ≡ flatEvent (eventWith p (MaybeSequence.Sequence (sequenceOf (readerIn (now (r .entry))))))) × (readerIn (now (r .exit)) ≡ completed (readerIn (now (r .entry)))) ⌝ }
+{
+    let s = report(raw_in(*r), direction_at(r[DIRECTION]), previous_in(r));
+    let raw = s.raw;
+    let current = s.current;
+    let previous = flat_time(raw);
+    let time = flat_time(current);
+    r[LOCKED] = 1;
+    r[14] = 1;
+    r[15] = previous.hours;
+    r[16] = previous.minutes;
+    r[17] = previous.seconds;
+    r[18] = previous.frames;
+    r[19] = previous.rate;
+    r[20] = 1;
+    r[21] = time.hours;
+    r[22] = time.minutes;
+    r[23] = time.seconds;
+    r[24] = time.frames;
+    r[25] = time.rate;
+    flat_event(event(p, MaybeSequence::Sequence(s)))
+}
+
+// The label of the eight nibbles.
+fn raw_in(r: [u8; 26]) -> MtcTime
+    ensures { λ t. ⌜ (t ≡ rawOf (nibblesIn r)) × (length r ≡ 26) ⌝ }
+{
+    MtcTime::raw(
+        r[6] % 16 + r[7] % 16 * 16,
+        r[4] % 16 + r[5] % 16 * 16,
+        r[2] % 16 + r[3] % 16 * 16,
+        r[0] % 16 + r[1] % 16 * 16,
+    )
+}
+
+fn previous_in(r: &[u8; 26]) -> MaybeTime
+    ensures { λ t. ⌜ t ≡ maybeTimeAt (now (r .entry)) 14 ⌝ }
+{
+    maybe_time(r[14], r[15], r[16], r[17], r[18], r[19])
+}
+
+fn time_in(r: &[u8; 26]) -> MaybeTime
+    ensures { λ t. ⌜ t ≡ maybeTimeAt (now (r .entry)) 20 ⌝ }
+{
+    maybe_time(r[20], r[21], r[22], r[23], r[24], r[25])
+}
+
+fn maybe_time(present: u8, hours: u8, minutes: u8, seconds: u8, frames: u8, rate: u8) -> MaybeTime
+    ensures { λ t. ⌜ t ≡ cond (isSet present) (MaybeTime.Time (label (typeOf rate) hours minutes seconds frames)) MaybeTime.NoTime ⌝ }
+{
+    if present == 0 {
+        return MaybeTime::NoTime;
+    }
+    MaybeTime::Time(MtcTime {
+        hours,
+        minutes,
+        seconds,
+        frames,
+        rate: TimeCodeType::from_bits(rate),
+    })
+}
+
+fn reader_in(r: &[u8; 26]) -> MtcReader
+    ensures { λ q. ⌜ q ≡ readerIn (now (r .entry)) ⌝ }
+{
+    let nibbles = [
+        r[0] % 16,
+        r[1] % 16,
+        r[2] % 16,
+        r[3] % 16,
+        r[4] % 16,
+        r[5] % 16,
+        r[6] % 16,
+        r[7] % 16,
+    ];
+    MtcReader {
+        nibbles,
+        count: r[COUNT] % 8,
+        first: r[FIRST] % 8,
+        last: piece_at(r[LAST]),
+        direction: way_at(r[DIRECTION]),
+        locked: r[LOCKED] != 0,
+        running: r[RUNNING] != 0,
+        previous: previous_in(r),
+        time: time_in(r),
+    }
+}
+
+fn bit(set: bool) -> u8
+    ensures { λ r. ⌜ r ≡ bit set ⌝ }
+{
+    if set { 1 } else { 0 }
+}
+
+fn bytes_of(r: MtcReader) -> [u8; 26]
+    ensures { λ q. ⌜ q ≡ bytesOf r ⌝ }
+{
+    let n = r.nibbles;
+    let last = r.last;
+    let direction = r.direction;
+    let before = r.previous;
+    let current = r.time;
+    let p = flat_maybe_time(before);
+    let previous = p.time;
+    let t = flat_maybe_time(current);
+    let time = t.time;
+    [
+        n[0],
+        n[1],
+        n[2],
+        n[3],
+        n[4],
+        n[5],
+        n[6],
+        n[7],
+        r.count,
+        r.first,
+        flat_piece(last),
+        flat_way(direction),
+        bit(r.locked),
+        bit(r.running),
+        bit(p.present),
+        previous.hours,
+        previous.minutes,
+        previous.seconds,
+        previous.frames,
+        previous.rate,
+        bit(t.present),
+        time.hours,
+        time.minutes,
+        time.seconds,
+        time.frames,
+        time.rate,
+    ]
 }

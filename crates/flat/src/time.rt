@@ -7,7 +7,7 @@ use mtc::TimeCodeType;
 ghost use mathlib.Core.Path.{_≡_};
 ghost use Rattle.mtc.specs.Time.{newTimeOf};
 ghost use Rattle.flat.specs.Refusal.{refusalIn};
-ghost use Rattle.flat.specs.Time.{timeOf, flatTime, noTime, frameOf, flatFrame};
+ghost use Rattle.flat.specs.Time.{timeOf, timeAt, flatTime, noTime, frameOf, flatFrame};
 
 // A label. Of the rate only the two low bits are read.
 #[repr(C)]
@@ -41,6 +41,19 @@ pub fn time_of(t: FlatTime) -> MtcTime
         seconds: t.seconds,
         frames: t.frames,
         rate: TimeCodeType::from_bits(t.rate),
+    }
+}
+
+// The label in five bytes.
+pub fn time_in(bytes: &[u8; 5]) -> MtcTime
+    ensures { λ r. ⌜ r ≡ timeAt (now (bytes .entry)) 0 ⌝ }
+{
+    MtcTime {
+        hours: bytes[0],
+        minutes: bytes[1],
+        seconds: bytes[2],
+        frames: bytes[3],
+        rate: TimeCodeType::from_bits(bytes[4]),
     }
 }
 

@@ -15,6 +15,18 @@ use fimbrast::time::fimbrast_is_valid;
 use fimbrast::time::fimbrast_next_valid;
 use fimbrast::time::fimbrast_time_new;
 use fimbrast::time::fimbrast_to_frame_count;
+use flat::time::FlatTime;
+
+fn count(time: FlatTime) -> u32 {
+    let bytes = [
+        time.hours,
+        time.minutes,
+        time.seconds,
+        time.frames,
+        time.rate,
+    ];
+    fimbrast_to_frame_count(&bytes)
+}
 
 pub(crate) fn label(call: u8, input: &[u8], answer: &[u8]) -> usize {
     let time = time_at(input, 0);
@@ -26,7 +38,7 @@ pub(crate) fn label(call: u8, input: &[u8], answer: &[u8]) -> usize {
             0,
         ),
         0x02 => time_is(fimbrast_next_valid(time), answer, 0),
-        0x03 => u32_is(fimbrast_to_frame_count(time), answer),
+        0x03 => u32_is(count(time), answer),
         0x04 => time_is(
             fimbrast_from_frame_count(u32_at(input, 0), byte_at(input, 4)),
             answer,

@@ -80,10 +80,16 @@ fn generator_is(generator: FlatGenerator, answer: &[u8]) -> usize {
     same_at(&bytes, answer, 0)
 }
 
-fn next_byte(generator: FlatGenerator, answer: &[u8]) -> usize {
-    let sent = fimbrast_next_byte(generator);
-    let back = sent.generator;
-    two_are(sent.refusal, sent.byte, answer, generator_is(back, answer))
+// The bytes that a call left.
+fn eight_of(b: &[u8; 8]) -> [u8; 8] {
+    [b[0], b[1], b[2], b[3], b[4], b[5], b[6], b[7]]
+}
+
+fn next_byte(input: &[u8], answer: &[u8]) -> usize {
+    let mut generator = eight_at(input, 0);
+    let next = fimbrast_next_byte(&mut generator);
+    let left = eight_of(&generator);
+    two_are(next.refusal, next.byte, answer, same_at(&left, answer, 0))
 }
 
 pub(crate) fn generated(call: u8, input: &[u8], answer: &[u8]) -> usize {
@@ -95,7 +101,7 @@ pub(crate) fn generated(call: u8, input: &[u8], answer: &[u8]) -> usize {
                 answer,
             )
         }
-        0x21 => next_byte(generator, answer),
+        0x21 => next_byte(input, answer),
         0x22 => generator_is(fimbrast_set_running(generator, flag_at(input, 8)), answer),
         0x23 => generator_is(fimbrast_set_direction(generator, byte_at(input, 8)), answer),
         0x24 => generator_is(fimbrast_locate(generator, time_at(input, 8)), answer),
@@ -163,11 +169,75 @@ fn event_is(event: FlatEvent, answer: &[u8], from: usize) -> usize {
     two_are(sequence.direction, sequence.discontinuity as u8, answer, at)
 }
 
+// The first 26 bytes of the input.
+fn record_at(input: &[u8]) -> [u8; 26] {
+    [
+        byte_at(input, 0),
+        byte_at(input, 1),
+        byte_at(input, 2),
+        byte_at(input, 3),
+        byte_at(input, 4),
+        byte_at(input, 5),
+        byte_at(input, 6),
+        byte_at(input, 7),
+        byte_at(input, 8),
+        byte_at(input, 9),
+        byte_at(input, 10),
+        byte_at(input, 11),
+        byte_at(input, 12),
+        byte_at(input, 13),
+        byte_at(input, 14),
+        byte_at(input, 15),
+        byte_at(input, 16),
+        byte_at(input, 17),
+        byte_at(input, 18),
+        byte_at(input, 19),
+        byte_at(input, 20),
+        byte_at(input, 21),
+        byte_at(input, 22),
+        byte_at(input, 23),
+        byte_at(input, 24),
+        byte_at(input, 25),
+    ]
+}
+
+// The bytes that a call left.
+fn record_of(b: &[u8; 26]) -> [u8; 26] {
+    [
+        b[0],
+        b[1],
+        b[2],
+        b[3],
+        b[4],
+        b[5],
+        b[6],
+        b[7],
+        b[8],
+        b[9],
+        b[10],
+        b[11],
+        b[12],
+        b[13],
+        b[14],
+        b[15],
+        b[16],
+        b[17],
+        b[18],
+        b[19],
+        b[20],
+        b[21],
+        b[22],
+        b[23],
+        b[24],
+        b[25],
+    ]
+}
+
 fn receive(input: &[u8], answer: &[u8]) -> usize {
-    let received = fimbrast_receive(reader_at(input), byte_at(input, 26));
-    let reader = received.reader;
-    let event = received.event;
-    event_is(event, answer, reader_is(reader, answer))
+    let mut reader = record_at(input);
+    let event = fimbrast_receive(&mut reader, byte_at(input, 26));
+    let left = record_of(&reader);
+    event_is(event, answer, same_at(&left, answer, 0))
 }
 
 fn state(reader: FlatReader, answer: &[u8]) -> usize {

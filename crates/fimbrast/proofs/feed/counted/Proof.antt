@@ -1,33 +1,28 @@
 -- `fimbrast::feed::counted` meets its contract. Assumes nothing.
-use Rattle.fimbrast.specs.Feed.{counted}
+use borrow.Author.Tests.{not-true, not-false}
+use Rattle.fimbrast.specs.Feed.{flatCounted}
 use borrow.Author.Needs.{needs}
 use Rattle.fimbrast.proofs.feed.counted.Statement.{statement}
 use Rattle.fimbrast.proofs.feed.counted.Tie as tie
 
-enum-told : tie.Need-enum-told
-enum-told c = search needs
+returns : tie.Need-returns
+unfolding flatCounted
+returns c =
+    rw (not-true (c .before .before .args .report .present) (c .if1 .taken))
 
-enum-known-sequence : tie.Need-enum-known-sequence
-enum-known-sequence c = search needs
-
-add-t7 : tie.Need-add-t7
-add-t7 c = search needs
+add-t5 : tie.Need-add-t5
+add-t5 c = search needs
 
 one-if-requires : tie.Need-one-if-requires
 one-if-requires c κs = search needs
 
-add-t9 : tie.Need-add-t9
-add-t9 c = search needs
-
-returns : tie.Need-returns
-unfolding counted
-returns c = rw (c .enum-told .given .1)
+add-t7 : tie.Need-add-t7
+add-t7 c = search needs
 
 returns-2 : tie.Need-returns-2
-unfolding counted
-returns-2 c = rw (c .before .before .before .before .sequence .given .1, c .before .one-if .ensures .0)
+unfolding flatCounted
+returns-2 c =
+    rw (not-false (c .before .before .before .before .before .before .args .report .present) (c .before .before .before .before .if1 .left), c .before .one-if .ensures .0)
 
 pub counted-spec : {M : Type 1} → statement M
-counted-spec =
-    tie.close
-    (tie.spec enum-told enum-known-sequence add-t7 one-if-requires add-t9 returns returns-2)
+counted-spec = tie.close (tie.spec returns add-t5 one-if-requires add-t7 returns-2)
