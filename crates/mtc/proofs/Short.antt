@@ -9,6 +9,8 @@ use native.Mathlib.Omega.{arith}
 use borrow.Author.Tests.{le-ltb}
 use lib.Dec.{T, ltb, eqb, lit<, lit≤}
 use lib.IntN.{ℤ, pos}
+use lib.ListN.{getD}
+use mathlib.Core.List.{_∷_, []}
 use mir.Syntax.{w32}
 use mir.Val.{Fits}
 use Rattle.mtc.specs.declared.time.MtcTime.{MtcTime}
@@ -144,13 +146,21 @@ two-later r h m s f hh hm hs hf =
 
 -- ---- one piece
 
--- The last piece is what is left of the eight.
-pub seventh : (p : ℕ) → p ≤ 7 → (p ≡ 0 → ⊥) → (p ≡ 1 → ⊥) → (p ≡ 2 → ⊥) → (p ≡ 3 → ⊥) → (p ≡ 4 → ⊥) → (p ≡ 5 → ⊥) → (p ≡ 6 → ⊥) → p ≡ 7
-seventh zero h a b c d e f g = absurd (a refl)
-seventh (suc zero) h a b c d e f g = absurd (b refl)
-seventh (suc (suc zero)) h a b c d e f g = absurd (c refl)
-seventh (suc (suc (suc zero))) h a b c d e f g = absurd (d refl)
-seventh (suc (suc (suc (suc zero)))) h a b c d e f g = absurd (e refl)
-seventh (suc (suc (suc (suc (suc zero))))) h a b c d e f g = absurd (f refl)
-seventh (suc (suc (suc (suc (suc (suc zero)))))) h a b c d e f g = absurd (g refl)
-seventh (suc (suc (suc (suc (suc (suc (suc n))))))) h a b c d e f g = omega arith
+-- The piece after one, of the last three bits alone.
+pub next-forward : (l : ℕ) → (l % 8 + 1) % 8 ≡ (l + 1) % 8
+next-forward l = omega arith
+
+pub next-reverse : (l : ℕ) → (l % 8 + 7) % 8 ≡ (l + 7) % 8
+next-reverse l = omega arith
+
+-- Past the eighth of eight there is nothing.
+pub past-eight : (a b c d e f g h : ℕ) → (p : ℕ) → (p ≡ 0 → ⊥) → (p ≡ 1 → ⊥) → (p ≡ 2 → ⊥) → (p ≡ 3 → ⊥) → (p ≡ 4 → ⊥) → (p ≡ 5 → ⊥) → (p ≡ 6 → ⊥) → (p ≡ 7 → ⊥) → 0 ≡ getD (a ∷ b ∷ c ∷ d ∷ e ∷ f ∷ g ∷ h ∷ []) p 0
+past-eight a b c d e f g h zero n0 n1 n2 n3 n4 n5 n6 n7 = absurd (n0 refl)
+past-eight a b c d e f g h (suc zero) n0 n1 n2 n3 n4 n5 n6 n7 = absurd (n1 refl)
+past-eight a b c d e f g h (suc (suc zero)) n0 n1 n2 n3 n4 n5 n6 n7 = absurd (n2 refl)
+past-eight a b c d e f g h (suc (suc (suc zero))) n0 n1 n2 n3 n4 n5 n6 n7 = absurd (n3 refl)
+past-eight a b c d e f g h (suc (suc (suc (suc zero)))) n0 n1 n2 n3 n4 n5 n6 n7 = absurd (n4 refl)
+past-eight a b c d e f g h (suc (suc (suc (suc (suc zero))))) n0 n1 n2 n3 n4 n5 n6 n7 = absurd (n5 refl)
+past-eight a b c d e f g h (suc (suc (suc (suc (suc (suc zero)))))) n0 n1 n2 n3 n4 n5 n6 n7 = absurd (n6 refl)
+past-eight a b c d e f g h (suc (suc (suc (suc (suc (suc (suc zero))))))) n0 n1 n2 n3 n4 n5 n6 n7 = absurd (n7 refl)
+past-eight a b c d e f g h (suc (suc (suc (suc (suc (suc (suc (suc n)))))))) n0 n1 n2 n3 n4 n5 n6 n7 = refl

@@ -32,12 +32,11 @@ impl Direction {
 
     // The piece after `last`.
     pub fn after(self, last: u8) -> u8
-        requires { ⌜ last ≤ 7 ⌝ }
         ensures { λ r. ⌜ (r ≡ after self last) × (r ≤ 7) ⌝ }
     {
         match self {
-            Direction::Forward => (last + 1) % 8,
-            Direction::Reverse => (last + 7) % 8,
+            Direction::Forward => (last % 8 + 1) % 8,
+            Direction::Reverse => (last % 8 + 7) % 8,
         }
     }
 

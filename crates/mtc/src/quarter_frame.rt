@@ -2,7 +2,6 @@
 // data bytes of a label (p. 2).
 use crate::time::MtcTime;
 ghost use mathlib.Core.Path.{_≡_};
-ghost use Prim.Native.Nat.{_≤_};
 ghost use lib.ListN.{getD};
 ghost use Rattle.mtc.specs.QuarterFrame.{fromByte, toByte, pieces};
 
@@ -51,9 +50,8 @@ impl QuarterFrame {
         ]
     }
 
-    // One of them.
+    // One of them; 0 past piece 7.
     pub fn piece(time: MtcTime, piece: u8) -> u8
-        requires { ⌜ piece ≤ 7 ⌝ }
         ensures { λ r. ⌜ r ≡ getD (pieces time) piece 0 ⌝ }
     {
         let rate = time.rate;
@@ -65,7 +63,8 @@ impl QuarterFrame {
             4 => 0x40 + time.minutes % 16,
             5 => 0x50 + time.minutes / 16 % 4,
             6 => 0x60 + time.hours % 16,
-            _ => 0x70 + rate.into_bits() * 2 + time.hours / 16 % 2,
+            7 => 0x70 + rate.into_bits() * 2 + time.hours / 16 % 2,
+            _ => 0,
         }
     }
 }

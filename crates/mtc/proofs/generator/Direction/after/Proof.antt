@@ -1,5 +1,6 @@
 -- `mtc::generator::Direction::after` meets its contract. Assumes nothing.
 use borrow.Author.Needs.{needs}
+use Rattle.mtc.proofs.Short.{next-forward, next-reverse}
 use Rattle.mtc.proofs.generator.Direction.after.Statement.{statement}
 use Rattle.mtc.proofs.generator.Direction.after.Tie as tie
 
@@ -16,10 +17,10 @@ add-result-2 : tie.Need-add-result-2
 add-result-2 c = search needs
 
 returns : tie.Need-returns
-returns c = (rw (c .enum-told .given .1), search needs)
+returns c = (rw (c .enum-told .given .1, next-forward _), search needs)
 
 returns-2 : tie.Need-returns-2
-returns-2 c = (rw (c .enum-told2 .given .1), search needs)
+returns-2 c = (rw (c .enum-told2 .given .1, next-reverse _), search needs)
 
 pub after-spec : {M : Type 1} → statement M
 after-spec = tie.close (tie.spec enum-told add-result enum-told-2 add-result-2 returns returns-2)

@@ -2,7 +2,7 @@
 use native.Mathlib.Omega.{arith}
 use Rattle.mtc.specs.QuarterFrame.{pieces}
 use Rattle.mtc.proofs.Nibbles.{bits-small}
-use Rattle.mtc.proofs.Short.{seventh}
+use Rattle.mtc.proofs.Short.{past-eight}
 use borrow.Author.Needs.{needs}
 use Rattle.mtc.proofs.quarter_frame.QuarterFrame.piece.Statement.{statement}
 use Rattle.mtc.proofs.quarter_frame.QuarterFrame.piece.Tie as tie
@@ -67,9 +67,13 @@ returns-7 c = rw (c .before .match .keys7)
 
 returns-8 : tie.Need-returns-8
 unfolding pieces
-returns-8 c =
-    let n = c .before .before .match .rest in
-    rw (seventh _ (c .before .before .before .pre) (n .0 .0 .0 .0 .0 .0 .1) (n .0 .0 .0 .0 .0 .1) (n .0 .0 .0 .0 .1) (n .0 .0 .0 .1) (n .0 .0 .1) (n .0 .1) (n .1), c .before .into-bits .ensures)
+returns-8 c = rw (c .before .before .match .keys8, c .before .into-bits .ensures)
+
+returns-9 : tie.Need-returns-9
+unfolding pieces
+returns-9 c =
+    let n = c .match .rest in
+    past-eight _ _ _ _ _ _ _ _ _ (n .0 .0 .0 .0 .0 .0 .0 .1) (n .0 .0 .0 .0 .0 .0 .1) (n .0 .0 .0 .0 .0 .1) (n .0 .0 .0 .0 .1) (n .0 .0 .0 .1) (n .0 .0 .1) (n .0 .1) (n .1)
 
 pub piece-spec : {M : Type 1} → statement M
 piece-spec =
@@ -92,4 +96,5 @@ piece-spec =
     returns-5
     returns-6
     returns-7
-    returns-8)
+    returns-8
+    returns-9)

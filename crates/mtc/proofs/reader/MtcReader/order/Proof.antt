@@ -30,7 +30,7 @@ enum-known-direction : tie.Need-enum-known-direction
 enum-known-direction c = search needs
 
 after-requires : tie.Need-after-requires
-after-requires c κs = sound-last _ (c .before .before .before .before .before .before .pre) (c .before .before .before .before .last .given .1)
+after-requires c κs = search needs
 
 ordered-requires-2 : tie.Need-ordered-requires-2
 ordered-requires-2 c κs = search needs
