@@ -95,8 +95,8 @@ fimbrast_time fimbrast_generator_time(fimbrast_generator generator);
 
 /* ---- reader */
 
-/* Of a nibble the four low bits are read, of count and first piece the three low bits. A last piece above 7 is none; direction 0
- * is forward, 1 reverse, any other none. */
+/* A last piece above 7 is none; direction 0 is forward, 1 reverse, any other none. A record with a count or first piece
+ * above 7 or a nibble above 15, which no call leaves, is taken as fresh. */
 typedef struct {
     uint8_t nibbles[8];
     uint8_t count;

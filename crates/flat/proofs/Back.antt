@@ -107,11 +107,10 @@ pub last-fits : (r : MtcReader) → Bounds r → (m : MaybePiece) → r .last �
 last-fits r b NoPiece e = refl
 last-fits r b (Piece p) e = le-leb p 7 (b .last p e)
 
-pub reader-back : (r : MtcReader) → Sound r → readerOf (flatReader r) ≡ r
+pub reader-back : (r : MtcReader) → pieceFits (r .last) ≡ true → readerOf (flatReader r) ≡ r
 unfolding readerOf flatReader
-reader-back r s =
-    let b : Bounds r = bounds r s in
-    rw (nibbles-back r b, low-back (r .count) (b .count), low-back (r .first) (b .first), piece-back (r .last) (last-fits r b (r .last) refl), way-back (r .direction), maybe-time-back (r .previous), maybe-time-back (r .time))
+reader-back r h =
+    rw (piece-back (r .last) h, way-back (r .direction), maybe-time-back (r .previous), maybe-time-back (r .time))
 
 -- ---- time codes, commands, fields
 

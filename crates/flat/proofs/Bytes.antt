@@ -1,5 +1,5 @@
 -- The records as bytes: what a store to some of the bytes does to the generator or reader that they stand for. Assumes nothing.
-use Prim.Native.Nat.{ℕ, zero, suc, _+_, _%_, _≤_, _<_}
+use Prim.Native.Nat.{ℕ, zero, suc, _+_, _/_, _%_, _≤_, _<_}
 use mathlib.Core.Bool.{Bool, true, false, cond}
 use mathlib.Core.List.{List, [], _∷_}
 use mathlib.Core.Path.{_≡_, refl, sym, subst, ap, ap₂, _∙_}
@@ -13,7 +13,7 @@ use Rattle.mtc.proofs.Laws.{Sound, sound-by, Bounds, bounds, byte-sound, next-p
 use Rattle.mtc.specs.Generator.{first, after, final, move, known, pieceNext, timeNext, sentAt, nextByte, afterNextByte}
 use Rattle.mtc.specs.QuarterFrame.{pieceOf, valueOf, pieces}
 use Rattle.mtc.specs.Time.{addFrames}
-use Rattle.mtc.specs.Reader.{pieceFits, ordered, numberAfter, readerBy, reportBy, directionOf, stored, completed, eventWith, reported, sequenceOf, rawOf, afterByte, eventOf}
+use Rattle.mtc.specs.Reader.{fresh, pieceFits, ordered, numberAfter, readerBy, reportBy, directionOf, stored, completed, eventWith, reported, sequenceOf, rawOf, afterByte, eventOf}
 use Rattle.mtc.specs.declared.generator.Direction.{Direction}
 use Rattle.mtc.specs.declared.generator.MaybePiece.{MaybePiece}
 use Rattle.mtc.specs.declared.generator.MaybePiece.the-variants.{NoPiece, Piece}
@@ -28,7 +28,7 @@ use Rattle.mtc.specs.declared.reader.MtcReader.{MtcReader}
 use Rattle.mtc.specs.declared.reader.MtcSequence.{MtcSequence}
 use Rattle.mtc.specs.declared.time.MtcTime.{MtcTime}
 use Rattle.flat.specs.Generator.{directionAt, pieceAt, flatPiece, isSet, generatorIn, movedTo, sentBy, flatByte}
-use Rattle.flat.specs.Reader.{wayAt, flatWay, flatMaybeTime, flatEvent, nibblesIn, maybeTimeAt, readerIn, bit, bytesOf, usualNumber}
+use Rattle.flat.specs.Reader.{wayAt, flatWay, flatMaybeTime, flatEvent, nibblesIn, maybeTimeAt, readerBits, excess, inRange, readerIn, bit, bytesOf, usualNumber}
 use Rattle.flat.specs.Time.{timeOf, timeAt, flatTime}
 use Rattle.flat.specs.declared.generator.FlatByte.{FlatByte}
 use Rattle.flat.specs.declared.reader.FlatEvent.{FlatEvent}
@@ -157,9 +157,9 @@ piece-fits n = go (leb n 7) refl
     go true e = rw e tt
     go false e = tt
 
-pub sound-in : (bs : List ℕ) → Sound (readerIn bs)
-unfolding readerIn nibblesIn
-sound-in bs = sound-by (readerIn bs) (omega arith) (omega arith) (piece-fits (getD bs 10 0)) (nibble-in bs) refl
+pub sound-in : (bs : List ℕ) → Sound (readerBits bs)
+unfolding readerBits nibblesIn
+sound-in bs = sound-by (readerBits bs) (omega arith) (omega arith) (piece-fits (getD bs 10 0)) (nibble-in bs) refl
 
 -- ---- and any sound reader is kept by its bytes
 
@@ -176,8 +176,8 @@ unfolding flatMaybeTime
 time-in NoTime = refl
 time-in (Time t) = ap (λ (u : MtcTime). Time u) (time-back t)
 
-pub bytes-back : (r : MtcReader) → Sound r → readerIn (bytesOf r) ≡ r
-unfolding readerIn bytesOf nibblesIn maybeTimeAt timeAt timeOf
+pub bytes-back : (r : MtcReader) → Sound r → readerBits (bytesOf r) ≡ r
+unfolding readerBits bytesOf nibblesIn maybeTimeAt timeAt timeOf
 bytes-back r s =
     let b : Bounds r = bounds r s in
     let n : nibblesIn (r .nibbles) ≡ r .nibbles = nibbles-back r b in
@@ -191,11 +191,45 @@ pub bytes-are : (r : MtcReader) (l w k u : ℕ) (p t : FlatMaybeTime) (a b : ℕ
 unfolding bytesOf
 bytes-are r l w k u p t a b el ew ek eu ep et ea eb = rw (el, ew, ek, eu, ea, eb, ep, et)
 
+pub bytes-range : (r : MtcReader) → Sound r → inRange (bytesOf r) ≡ true
+unfolding inRange bytesOf
+bytes-range r s =
+    let b : Bounds r = bounds r s in
+    eq-eqb (excess (bytesOf r)) 0 (omega (arith, b .nibbles 0 (lit< tt), b .nibbles 1 (lit< tt), b .nibbles 2 (lit< tt), b .nibbles 3 (lit< tt), b .nibbles 4 (lit< tt), b .nibbles 5 (lit< tt), b .nibbles 6 (lit< tt), b .nibbles 7 (lit< tt), b .count, b .first))
+
 -- Any byte, by the record.
-pub any-back : (bs xs : List ℕ) (b : ℕ) (r q : MtcReader) → r ≡ readerIn bs → q ≡ afterByte r b → xs ≡ bytesOf q → readerIn xs ≡ afterByte (readerIn bs) b
+pub any-back : (bs xs : List ℕ) (b : ℕ) (r q : MtcReader) → r ≡ readerBits bs → q ≡ afterByte r b → xs ≡ bytesOf q
+    → (readerBits xs ≡ afterByte (readerBits bs) b) × (inRange xs ≡ true)
 any-back bs xs b r q er eq ex =
-    let e : q ≡ afterByte (readerIn bs) b = eq ∙ ap (λ (x : MtcReader). afterByte x b) er in
-    ap readerIn (ex ∙ ap bytesOf e) ∙ bytes-back (afterByte (readerIn bs) b) (byte-sound (readerIn bs) (sound-in bs) b)
+    let e : q ≡ afterByte (readerBits bs) b = eq ∙ ap (λ (x : MtcReader). afterByte x b) er in
+    let s : Sound (afterByte (readerBits bs) b) = byte-sound (readerBits bs) (sound-in bs) b in (
+      ap readerBits (ex ∙ ap bytesOf e) ∙ bytes-back (afterByte (readerBits bs) b) s,
+      ap inRange (ex ∙ ap bytesOf e) ∙ bytes-range (afterByte (readerBits bs) b) s,
+    )
+
+-- ---- records that no calls leave
+
+-- A record in its ranges stands for the reader of its bits, and so does what is left of it.
+pub ranged : (bs xs : List ℕ) (b : ℕ) (f : FlatEvent) → inRange bs ≡ true
+    → (f ≡ flatEvent (eventOf (readerBits bs) b)) × ((readerBits xs ≡ afterByte (readerBits bs) b) × (inRange xs ≡ true))
+    → (f ≡ flatEvent (eventOf (readerIn bs) b)) × (readerIn xs ≡ afterByte (readerIn bs) b)
+unfolding readerIn
+ranged bs xs b f h s = (s .0 ∙ rw h, rw (s .1 .1, h) (s .1 .0))
+
+fresh-sound : Sound fresh
+unfolding readerBits bytesOf nibblesIn pieceAt wayAt maybeTimeAt flatPiece flatWay flatMaybeTime
+fresh-sound = sound-in (bytesOf fresh)
+
+-- Any other is taken as fresh.
+pub unranged : (bs xs : List ℕ) (b : ℕ) (f : FlatEvent) → inRange bs ≡ false
+    → (f ≡ flatEvent (eventOf fresh b)) × (xs ≡ bytesOf (afterByte fresh b))
+    → (f ≡ flatEvent (eventOf (readerIn bs) b)) × (readerIn xs ≡ afterByte (readerIn bs) b)
+unfolding readerIn
+unranged bs xs b f h s =
+    let q : Sound (afterByte fresh b) = byte-sound fresh fresh-sound b in (
+      s .0 ∙ rw h,
+      rw (h, s .1, bytes-range (afterByte fresh b) q) (bytes-back (afterByte fresh b) q),
+    )
 
 -- ---- the next piece
 
@@ -269,8 +303,8 @@ with-piece bs p v n f =
 
 module _ (v n : ℕ) (hv : v ≤ 15) where
   kept : (bs : List ℕ) (p : ℕ) → p ≤ 7
-      → readerIn (set (set (set (set (spelled 14 bs) p v) 10 p) 13 1) 8 n) ≡ with-piece (spelled 14 bs) p v n (getD (spelled 14 bs) 9 0 % 8)
-  unfolding readerIn nibblesIn pieceAt maybeTimeAt timeAt
+      → readerBits (set (set (set (set (spelled 14 bs) p v) 10 p) 13 1) 8 n) ≡ with-piece (spelled 14 bs) p v n (getD (spelled 14 bs) 9 0 % 8)
+  unfolding readerBits nibblesIn pieceAt maybeTimeAt timeAt
   kept bs zero h = rw (small v hv)
   kept bs (suc zero) h = rw (small v hv)
   kept bs (suc (suc zero)) h = rw (small v hv)
@@ -282,8 +316,8 @@ module _ (v n : ℕ) (hv : v ≤ 15) where
   kept bs (suc (suc (suc (suc (suc (suc (suc (suc p)))))))) h = absurd (omega arith)
 
   kept-first : (bs : List ℕ) (p : ℕ) → p ≤ 7
-      → readerIn (set (set (set (set (set (spelled 14 bs) p v) 10 p) 13 1) 9 p) 8 n) ≡ with-piece (spelled 14 bs) p v n p
-  unfolding readerIn nibblesIn pieceAt maybeTimeAt timeAt
+      → readerBits (set (set (set (set (set (spelled 14 bs) p v) 10 p) 13 1) 9 p) 8 n) ≡ with-piece (spelled 14 bs) p v n p
+  unfolding readerBits nibblesIn pieceAt maybeTimeAt timeAt
   kept-first bs zero h = rw (small v hv)
   kept-first bs (suc zero) h = rw (small v hv)
   kept-first bs (suc (suc zero)) h = rw (small v hv)
@@ -293,6 +327,41 @@ module _ (v n : ℕ) (hv : v ≤ 15) where
   kept-first bs (suc (suc (suc (suc (suc (suc zero)))))) h = rw (small v hv)
   kept-first bs (suc (suc (suc (suc (suc (suc (suc zero))))))) h = rw (small v hv)
   kept-first bs (suc (suc (suc (suc (suc (suc (suc (suc p)))))))) h = absurd (omega arith)
+
+-- The bytes after the next piece, and after the first one of a sequence.
+abbrev pub put : List ℕ → ℕ → ℕ → ℕ → List ℕ
+put bs p v n = set (set (set (set bs p v) 10 p) 13 1) 8 n
+
+abbrev pub put-first : List ℕ → ℕ → ℕ → ℕ → List ℕ
+put-first bs p v n = set (set (set (set (set bs p v) 10 p) 13 1) 9 p) 8 n
+
+-- A store of a nibble, a count, a last piece and `running` keeps the ranges.
+module _ (v n : ℕ) (hv : v ≤ 15) (hn : n ≤ 7) where
+  kept-range : (bs : List ℕ) (p : ℕ) → p ≤ 7 → inRange (spelled 14 bs) ≡ true
+      → inRange (set (set (set (set (spelled 14 bs) p v) 10 p) 13 1) 8 n) ≡ true
+  unfolding inRange
+  kept-range bs zero h e = eq-eqb (excess (put (spelled 14 bs) 0 v n)) 0 (omega (arith, eqb-true (excess (spelled 14 bs)) 0 e))
+  kept-range bs (suc zero) h e = eq-eqb (excess (put (spelled 14 bs) 1 v n)) 0 (omega (arith, eqb-true (excess (spelled 14 bs)) 0 e))
+  kept-range bs (suc (suc zero)) h e = eq-eqb (excess (put (spelled 14 bs) 2 v n)) 0 (omega (arith, eqb-true (excess (spelled 14 bs)) 0 e))
+  kept-range bs (suc (suc (suc zero))) h e = eq-eqb (excess (put (spelled 14 bs) 3 v n)) 0 (omega (arith, eqb-true (excess (spelled 14 bs)) 0 e))
+  kept-range bs (suc (suc (suc (suc zero)))) h e = eq-eqb (excess (put (spelled 14 bs) 4 v n)) 0 (omega (arith, eqb-true (excess (spelled 14 bs)) 0 e))
+  kept-range bs (suc (suc (suc (suc (suc zero))))) h e = eq-eqb (excess (put (spelled 14 bs) 5 v n)) 0 (omega (arith, eqb-true (excess (spelled 14 bs)) 0 e))
+  kept-range bs (suc (suc (suc (suc (suc (suc zero)))))) h e = eq-eqb (excess (put (spelled 14 bs) 6 v n)) 0 (omega (arith, eqb-true (excess (spelled 14 bs)) 0 e))
+  kept-range bs (suc (suc (suc (suc (suc (suc (suc zero))))))) h e = eq-eqb (excess (put (spelled 14 bs) 7 v n)) 0 (omega (arith, eqb-true (excess (spelled 14 bs)) 0 e))
+  kept-range bs (suc (suc (suc (suc (suc (suc (suc (suc p)))))))) h e = absurd (omega arith)
+
+  kept-first-range : (bs : List ℕ) (p : ℕ) → p ≤ 7 → inRange (spelled 14 bs) ≡ true
+      → inRange (set (set (set (set (set (spelled 14 bs) p v) 10 p) 13 1) 9 p) 8 n) ≡ true
+  unfolding inRange
+  kept-first-range bs zero h e = eq-eqb (excess (put-first (spelled 14 bs) 0 v n)) 0 (omega (arith, eqb-true (excess (spelled 14 bs)) 0 e))
+  kept-first-range bs (suc zero) h e = eq-eqb (excess (put-first (spelled 14 bs) 1 v n)) 0 (omega (arith, eqb-true (excess (spelled 14 bs)) 0 e))
+  kept-first-range bs (suc (suc zero)) h e = eq-eqb (excess (put-first (spelled 14 bs) 2 v n)) 0 (omega (arith, eqb-true (excess (spelled 14 bs)) 0 e))
+  kept-first-range bs (suc (suc (suc zero))) h e = eq-eqb (excess (put-first (spelled 14 bs) 3 v n)) 0 (omega (arith, eqb-true (excess (spelled 14 bs)) 0 e))
+  kept-first-range bs (suc (suc (suc (suc zero)))) h e = eq-eqb (excess (put-first (spelled 14 bs) 4 v n)) 0 (omega (arith, eqb-true (excess (spelled 14 bs)) 0 e))
+  kept-first-range bs (suc (suc (suc (suc (suc zero))))) h e = eq-eqb (excess (put-first (spelled 14 bs) 5 v n)) 0 (omega (arith, eqb-true (excess (spelled 14 bs)) 0 e))
+  kept-first-range bs (suc (suc (suc (suc (suc (suc zero)))))) h e = eq-eqb (excess (put-first (spelled 14 bs) 6 v n)) 0 (omega (arith, eqb-true (excess (spelled 14 bs)) 0 e))
+  kept-first-range bs (suc (suc (suc (suc (suc (suc (suc zero))))))) h e = eq-eqb (excess (put-first (spelled 14 bs) 7 v n)) 0 (omega (arith, eqb-true (excess (spelled 14 bs)) 0 e))
+  kept-first-range bs (suc (suc (suc (suc (suc (suc (suc (suc p)))))))) h e = absurd (omega arith)
 
 not-eight : (n : ℕ) → n ≡ 11 → n ≡ 8 → ⊥
 not-eight n e x = omega arith
@@ -309,18 +378,14 @@ above p h x = go 11 refl x
     go : (n : ℕ) → n ≡ 11 → n ≡ p → ⊥
     go n e y = omega arith
 
+below-eight : (n : ℕ) → n ≤ 8 → (n ≡ 8 → ⊥) → n ≤ 7
+below-eight n h z = omega (arith, z)
+
 pub above-one : (n : ℕ) → 1 < n → n ≡ 1 → ⊥
 above-one n h x = omega arith
 
 pub only-one : (n : ℕ) → (n ≡ 0 → ⊥) → n ≤ 1 → n ≡ 1
 only-one n z h = omega (arith, z)
-
--- The bytes after the next piece, and after the first one of a sequence.
-abbrev pub put : List ℕ → ℕ → ℕ → ℕ → List ℕ
-put bs p v n = set (set (set (set bs p v) 10 p) 13 1) 8 n
-
-abbrev pub put-first : List ℕ → ℕ → ℕ → ℕ → List ℕ
-put-first bs p v n = set (set (set (set (set bs p v) 10 p) 13 1) 9 p) 8 n
 
 module _ (bs : List ℕ) (b n : ℕ) (e : length bs ≡ 26) (u : Usual bs (pieceOf b) n) where
   piece-small : pieceOf b ≤ 7
@@ -329,56 +394,66 @@ module _ (bs : List ℕ) (b n : ℕ) (e : length bs ≡ 26) (u : Usual bs (piece
   value-small : valueOf b ≤ 15
   value-small = omega arith
 
-  told : (afterByte (readerIn bs) b ≡ readerBy (readerIn bs) (ordered true (Going (directionAt (getD bs 11 0))) true) n (pieceOf b) (valueOf b))
-      × (eventOf (readerIn bs) b ≡ eventWith (pieceOf b) (reportBy (readerIn bs) (ordered true (Going (directionAt (getD bs 11 0))) true) n (pieceOf b) (valueOf b)))
-  unfolding readerIn
+  told : (afterByte (readerBits bs) b ≡ readerBy (readerBits bs) (ordered true (Going (directionAt (getD bs 11 0))) true) n (pieceOf b) (valueOf b))
+      × (eventOf (readerBits bs) b ≡ eventWith (pieceOf b) (reportBy (readerBits bs) (ordered true (Going (directionAt (getD bs 11 0))) true) n (pieceOf b) (valueOf b)))
+  unfolding readerBits
   told =
-      next-piece (readerIn bs) (sound-in bs) b (getD bs 10 0) n (directionAt (getD bs 11 0)) (last-in (getD bs 10 0) (u .last))
+      next-piece (readerBits bs) (sound-in bs) b (getD bs 10 0) n (directionAt (getD bs 11 0)) (last-in (getD bs 10 0) (u .last))
       (way-in (getD bs 11 0) (u .way)) (u .next) (u .number)
 
-  kept-in : (k : ℕ) → readerIn (put bs (pieceOf b) (valueOf b) k) ≡ with-piece bs (pieceOf b) (valueOf b) k (getD bs 9 0 % 8)
+  kept-in : (k : ℕ) → readerBits (put bs (pieceOf b) (valueOf b) k) ≡ with-piece bs (pieceOf b) (valueOf b) k (getD bs 9 0 % 8)
   kept-in k =
-      subst (λ (x : List ℕ). readerIn (put x (pieceOf b) (valueOf b) k) ≡ with-piece x (pieceOf b) (valueOf b) k (getD x 9 0 % 8))
+      subst (λ (x : List ℕ). readerBits (put x (pieceOf b) (valueOf b) k) ≡ with-piece x (pieceOf b) (valueOf b) k (getD x 9 0 % 8))
       (spell 14 bs (omega (arith, e))) (kept (valueOf b) k value-small bs (pieceOf b) piece-small)
 
-  kept-first-in : (k : ℕ) → readerIn (put-first bs (pieceOf b) (valueOf b) k) ≡ with-piece bs (pieceOf b) (valueOf b) k (pieceOf b)
+  kept-first-in : (k : ℕ) → readerBits (put-first bs (pieceOf b) (valueOf b) k) ≡ with-piece bs (pieceOf b) (valueOf b) k (pieceOf b)
   kept-first-in k =
-      subst (λ (x : List ℕ). readerIn (put-first x (pieceOf b) (valueOf b) k) ≡ with-piece x (pieceOf b) (valueOf b) k (pieceOf b))
+      subst (λ (x : List ℕ). readerBits (put-first x (pieceOf b) (valueOf b) k) ≡ with-piece x (pieceOf b) (valueOf b) k (pieceOf b))
       (spell 14 bs (omega (arith, e))) (kept-first (valueOf b) k value-small bs (pieceOf b) piece-small)
 
+  range-in : inRange bs ≡ true → (k : ℕ) → k ≤ 7 → inRange (put bs (pieceOf b) (valueOf b) k) ≡ true
+  range-in h k hk =
+      subst (λ (x : List ℕ). inRange x ≡ true → inRange (put x (pieceOf b) (valueOf b) k) ≡ true) (spell 14 bs (omega (arith, e)))
+      (kept-range (valueOf b) k value-small hk bs (pieceOf b) piece-small) h
+
+  first-range-in : inRange bs ≡ true → (k : ℕ) → k ≤ 7 → inRange (put-first bs (pieceOf b) (valueOf b) k) ≡ true
+  first-range-in h k hk =
+      subst (λ (x : List ℕ). inRange x ≡ true → inRange (put-first x (pieceOf b) (valueOf b) k) ≡ true) (spell 14 bs (omega (arith, e)))
+      (kept-first-range (valueOf b) k value-small hk bs (pieceOf b) piece-small) h
+
   stored-is : (k : ℕ) {f : ℕ} → cond (eqb k 1) (pieceOf b) (getD bs 9 0 % 8) ≡ f
-      → with-piece bs (pieceOf b) (valueOf b) k f ≡ stored (readerIn bs) (ordered true (Going (directionAt (getD bs 11 0))) true) k (pieceOf b) (valueOf b)
-  unfolding readerIn
+      → with-piece bs (pieceOf b) (valueOf b) k f ≡ stored (readerBits bs) (ordered true (Going (directionAt (getD bs 11 0))) true) k (pieceOf b) (valueOf b)
+  unfolding readerBits
   stored-is k ef = rw (way-in (getD bs 11 0) (u .way), ef)
 
   -- A piece before the last one.
-  pub after-piece : (n ≡ 0 → ⊥) → (n ≡ 8 → ⊥) → (n ≡ 1 → ⊥)
-      → (flatEvent (eventWith (pieceOf b) NoSequence) ≡ flatEvent (eventOf (readerIn bs) b))
-      × (readerIn (put bs (pieceOf b) (valueOf b) n) ≡ afterByte (readerIn bs) b)
-  after-piece z y o = (
+  pub after-piece : inRange bs ≡ true → n ≤ 8 → (n ≡ 0 → ⊥) → (n ≡ 8 → ⊥) → (n ≡ 1 → ⊥)
+      → (flatEvent (eventWith (pieceOf b) NoSequence) ≡ flatEvent (eventOf (readerBits bs) b))
+      × ((readerBits (put bs (pieceOf b) (valueOf b) n) ≡ afterByte (readerBits bs) b) × (inRange (put bs (pieceOf b) (valueOf b) n) ≡ true))
+  after-piece h m z y o = (
     ap flatEvent (sym (told .1 ∙ rw (ne-eqb n 8 y))),
-    kept-in n ∙ stored-is n (rw (ne-eqb n 1 o)) ∙ sym (told .0 ∙ rw (ne-eqb n 0 z, ne-eqb n 8 y)),
+    (kept-in n ∙ stored-is n (rw (ne-eqb n 1 o)) ∙ sym (told .0 ∙ rw (ne-eqb n 0 z, ne-eqb n 8 y)), range-in h n (below-eight n m y)),
   )
 
   -- The first piece of a sequence.
-  pub after-first : n ≡ 1
-      → (flatEvent (eventWith (pieceOf b) NoSequence) ≡ flatEvent (eventOf (readerIn bs) b))
-      × (readerIn (put-first bs (pieceOf b) (valueOf b) 1) ≡ afterByte (readerIn bs) b)
-  after-first o = (
+  pub after-first : inRange bs ≡ true → n ≡ 1
+      → (flatEvent (eventWith (pieceOf b) NoSequence) ≡ flatEvent (eventOf (readerBits bs) b))
+      × ((readerBits (put-first bs (pieceOf b) (valueOf b) 1) ≡ afterByte (readerBits bs) b) × (inRange (put-first bs (pieceOf b) (valueOf b) 1) ≡ true))
+  after-first h o = (
     ap flatEvent (sym (told .1 ∙ rw o)),
-    kept-first-in 1 ∙ stored-is 1 refl ∙ sym (told .0 ∙ rw o),
+    (kept-first-in 1 ∙ stored-is 1 refl ∙ sym (told .0 ∙ rw o), first-range-in h 1 (omega arith)),
   )
 
   -- The last one.
-  pub after-last : (f : FlatEvent) (q : MtcReader) → n ≡ 8
-      → (f ≡ flatEvent (eventWith (pieceOf b) (Sequence (sequenceOf (readerIn (put bs (pieceOf b) (valueOf b) 0))))))
-      × (q ≡ completed (readerIn (put bs (pieceOf b) (valueOf b) 0)))
-      → (f ≡ flatEvent (eventOf (readerIn bs) b)) × (q ≡ afterByte (readerIn bs) b)
-  after-last f q y h =
-      let s : readerIn (put bs (pieceOf b) (valueOf b) 0) ≡ stored (readerIn bs) (ordered true (Going (directionAt (getD bs 11 0))) true) 8 (pieceOf b) (valueOf b)
+  pub after-last : (f : FlatEvent) (q : MtcReader) (w : Bool) → inRange bs ≡ true → n ≡ 8
+      → (f ≡ flatEvent (eventWith (pieceOf b) (Sequence (sequenceOf (readerBits (put bs (pieceOf b) (valueOf b) 0))))))
+      × ((q ≡ completed (readerBits (put bs (pieceOf b) (valueOf b) 0))) × (w ≡ inRange (put bs (pieceOf b) (valueOf b) 0)))
+      → (f ≡ flatEvent (eventOf (readerBits bs) b)) × ((q ≡ afterByte (readerBits bs) b) × (w ≡ true))
+  after-last f q w k y h =
+      let s : readerBits (put bs (pieceOf b) (valueOf b) 0) ≡ stored (readerBits bs) (ordered true (Going (directionAt (getD bs 11 0))) true) 8 (pieceOf b) (valueOf b)
       = kept-in 0 ∙ stored-is 8 refl in (
         h .0 ∙ ap (λ (r : MtcReader). flatEvent (eventWith (pieceOf b) (Sequence (sequenceOf r)))) s ∙ ap flatEvent (sym (told .1 ∙ rw y)),
-        h .1 ∙ ap completed s ∙ sym (told .0 ∙ rw y),
+        (h .1 .0 ∙ ap completed s ∙ sym (told .0 ∙ rw y), h .1 .1 ∙ range-in k 0 (omega arith)),
       )
 
   pub way-kept : getD (put bs (pieceOf b) (valueOf b) 0) 11 0 ≤ 1
@@ -413,19 +488,27 @@ with-times r x y =
       time = Time y;
     }
 
-times-in : (bs : List ℕ) (a b : FlatTime) → readerIn (put-times (spelled 26 bs) a b) ≡ with-times (readerIn (spelled 26 bs)) (timeOf a) (timeOf b)
-unfolding readerIn nibblesIn maybeTimeAt timeAt timeOf
+times-in : (bs : List ℕ) (a b : FlatTime) → readerBits (put-times (spelled 26 bs) a b) ≡ with-times (readerBits (spelled 26 bs)) (timeOf a) (timeOf b)
+unfolding readerBits nibblesIn maybeTimeAt timeAt timeOf
 times-in bs a b = refl
 
-pub ended : (bs : List ℕ) (s : MtcSequence) (a b : FlatTime) → length bs ≡ 26 → s ≡ sequenceOf (readerIn bs)
-    → a ≡ flatTime (s .raw) → b ≡ flatTime (s .current) → readerIn (put-times bs a b) ≡ completed (readerIn bs)
+pub ended : (bs : List ℕ) (s : MtcSequence) (a b : FlatTime) → length bs ≡ 26 → s ≡ sequenceOf (readerBits bs)
+    → a ≡ flatTime (s .raw) → b ≡ flatTime (s .current) → readerBits (put-times bs a b) ≡ completed (readerBits bs)
 ended bs s a b e es ea eb =
-    subst (λ (x : List ℕ). readerIn (put-times x a b) ≡ with-times (readerIn x) (timeOf a) (timeOf b)) (spell 26 bs (omega (arith, e))) (times-in bs a b)
-    ∙ ap₂ (with-times (readerIn bs)) (ap timeOf ea ∙ time-back (s .raw)) (ap timeOf eb ∙ time-back (s .current))
-    ∙ ap (λ (q : MtcSequence). with-times (readerIn bs) (q .raw) (q .current)) es
+    subst (λ (x : List ℕ). readerBits (put-times x a b) ≡ with-times (readerBits x) (timeOf a) (timeOf b)) (spell 26 bs (omega (arith, e))) (times-in bs a b)
+    ∙ ap₂ (with-times (readerBits bs)) (ap timeOf ea ∙ time-back (s .raw)) (ap timeOf eb ∙ time-back (s .current))
+    ∙ ap (λ (q : MtcSequence). with-times (readerBits bs) (q .raw) (q .current)) es
+
+times-spelled : (bs : List ℕ) (a b : FlatTime) → inRange (put-times (spelled 26 bs) a b) ≡ inRange (spelled 26 bs)
+unfolding inRange
+times-spelled bs a b = refl
+
+pub times-range : (bs : List ℕ) (a b : FlatTime) → length bs ≡ 26 → inRange (put-times bs a b) ≡ inRange bs
+times-range bs a b e =
+    subst (λ (x : List ℕ). inRange (put-times x a b) ≡ inRange x) (spell 26 bs (omega (arith, e))) (times-spelled bs a b)
 
 pub reported-in : (bs : List ℕ) (raw : MtcTime) (d : Direction) (m : MaybeTime) (s : MtcSequence) → getD bs 11 0 ≤ 1
-    → raw ≡ rawOf (nibblesIn bs) → d ≡ directionAt (getD bs 11 0) → m ≡ maybeTimeAt bs 14 → s ≡ reported raw d m → s ≡ sequenceOf (readerIn bs)
-unfolding readerIn
+    → raw ≡ rawOf (nibblesIn bs) → d ≡ directionAt (getD bs 11 0) → m ≡ maybeTimeAt bs 14 → s ≡ reported raw d m → s ≡ sequenceOf (readerBits bs)
+unfolding readerBits
 reported-in bs raw d m s h er ed em es =
-    es ∙ rw (er, ed, em) (ap (λ (w : MaybeDirection). reported (rawOf (nibblesIn bs)) (directionOf w) (maybeTimeAt bs 14)) (sym (way-in (getD bs 11 0) h)) ∙ sequence-of (readerIn bs))
+    es ∙ rw (er, ed, em) (ap (λ (w : MaybeDirection). reported (rawOf (nibblesIn bs)) (directionOf w) (maybeTimeAt bs 14)) (sym (way-in (getD bs 11 0) h)) ∙ sequence-of (readerBits bs))

@@ -1,5 +1,5 @@
 -- Readers and their events as flat records, and back. Assumes nothing.
-use Prim.Native.Nat.{ℕ, _+_, _%_}
+use Prim.Native.Nat.{ℕ, _+_, _/_, _%_}
 use mathlib.Core.Bool.{Bool, true, false, cond}
 use mathlib.Core.List.{List, [], _∷_}
 use lib.Dec.{leb, eqb}
@@ -12,7 +12,7 @@ use Rattle.flat.specs.declared.reader.FlatMaybeTime.{FlatMaybeTime}
 use Rattle.flat.specs.declared.reader.FlatReader.{FlatReader}
 use Rattle.flat.specs.declared.reader.FlatSequence.{FlatSequence}
 use Rattle.mtc.specs.Generator.{first, after}
-use Rattle.mtc.specs.Reader.{numberAfter}
+use Rattle.mtc.specs.Reader.{fresh, numberAfter}
 use Rattle.mtc.specs.declared.reader.MaybeDirection.{MaybeDirection}
 use Rattle.mtc.specs.declared.reader.MaybeDirection.the-variants.{NoDirection, Going}
 use Rattle.mtc.specs.declared.reader.MaybeSequence.{MaybeSequence}
@@ -38,26 +38,12 @@ unfoldable pub flatMaybeTime : MaybeTime → FlatMaybeTime
 flatMaybeTime NoTime = record { present = false; time = noTime }
 flatMaybeTime (Time t) = record { present = true; time = flatTime t }
 
--- Eight nibbles: of each byte the four low bits are read.
-unfoldable pub nibblesIn : List ℕ → List ℕ
-nibblesIn bs =
-    (getD bs 0 0 % 16)
-    ∷ (getD bs 1 0 % 16)
-    ∷ (getD bs 2 0 % 16)
-    ∷ (getD bs 3 0 % 16)
-    ∷ (getD bs 4 0 % 16)
-    ∷ (getD bs 5 0 % 16)
-    ∷ (getD bs 6 0 % 16)
-    ∷ (getD bs 7 0 % 16)
-    ∷ []
-
--- Of count and first piece the three low bits are read.
 unfoldable pub readerOf : FlatReader → MtcReader
 readerOf r =
     record {
-      nibbles = nibblesIn (r .nibbles);
-      count = r .count % 8;
-      first = r .first % 8;
+      nibbles = r .nibbles;
+      count = r .count;
+      first = r .first;
       last = pieceAt (r .last);
       direction = wayAt (r .direction);
       locked = r .locked;
@@ -102,11 +88,25 @@ flatEvent e = record { piece = e .piece; boundary = e .boundary; report = flatMa
 
 -- ---- the same record as its 26 bytes
 
+-- Eight nibbles: of each byte the four low bits are read.
+unfoldable pub nibblesIn : List ℕ → List ℕ
+nibblesIn bs =
+    (getD bs 0 0 % 16)
+    ∷ (getD bs 1 0 % 16)
+    ∷ (getD bs 2 0 % 16)
+    ∷ (getD bs 3 0 % 16)
+    ∷ (getD bs 4 0 % 16)
+    ∷ (getD bs 5 0 % 16)
+    ∷ (getD bs 6 0 % 16)
+    ∷ (getD bs 7 0 % 16)
+    ∷ []
+
 unfoldable pub maybeTimeAt : List ℕ → ℕ → MaybeTime
 maybeTimeAt bs k = cond (isSet (getD bs k 0)) (Time (timeAt bs (k + 1))) NoTime
 
-unfoldable pub readerIn : List ℕ → MtcReader
-readerIn bs =
+-- By their low bits: four of a nibble, three of count and first piece.
+unfoldable pub readerBits : List ℕ → MtcReader
+readerBits bs =
     record {
       nibbles = nibblesIn bs;
       count = getD bs 8 0 % 8;
@@ -118,6 +118,20 @@ readerIn bs =
       previous = maybeTimeAt bs 14;
       time = maybeTimeAt bs 20;
     }
+
+-- What stands above the low bits, summed.
+abbrev pub excess : List ℕ → ℕ
+excess bs =
+    getD bs 0 0 / 16 + getD bs 1 0 / 16 + getD bs 2 0 / 16 + getD bs 3 0 / 16 + getD bs 4 0 / 16 + getD bs 5 0 / 16 + getD bs 6 0 / 16
+    + getD bs 7 0 / 16 + getD bs 8 0 / 8 + getD bs 9 0 / 8
+
+-- Nibbles at most 15, count and first piece at most 7: nothing stands above their low bits.
+unfoldable pub inRange : List ℕ → Bool
+inRange bs = eqb (excess bs) 0
+
+-- The reader of 26 bytes. A record that no calls leave is taken as fresh.
+unfoldable pub readerIn : List ℕ → MtcReader
+readerIn bs = cond (inRange bs) (readerBits bs) fresh
 
 -- A truth as a byte.
 abbrev pub bit : Bool → ℕ

@@ -18,14 +18,14 @@ use mtc::TimeCodeType;
 use mtc::event;
 use mtc::report;
 ghost use mathlib.Core.Path.{_≡_};
-ghost use Prim.Native.Nat.{_≤_};
+ghost use Prim.Native.Nat.{_/_, _≤_};
 ghost use lib.ListN.{length, getD};
-ghost use mathlib.Core.Bool.{cond};
+ghost use mathlib.Core.Bool.{true, cond};
 ghost use Rattle.mtc.specs.St12.{label};
 ghost use Rattle.mtc.specs.Time.{typeOf};
-ghost use Rattle.mtc.specs.Reader.{rawOf, sequenceOf, completed, eventWith, afterByte, eventOf};
+ghost use Rattle.mtc.specs.Reader.{fresh, rawOf, sequenceOf, completed, eventWith, afterByte, eventOf};
 ghost use Rattle.flat.specs.Generator.{isSet};
-ghost use Rattle.flat.specs.Reader.{wayAt, flatWay, maybeTimeOf, flatMaybeTime, readerOf, flatReader, flatSequence, flatMaybeSequence, flatEvent, nibblesIn, maybeTimeAt, readerIn, bit, bytesOf, usualNumber};
+ghost use Rattle.flat.specs.Reader.{wayAt, flatWay, maybeTimeOf, flatMaybeTime, readerOf, flatReader, flatSequence, flatMaybeSequence, flatEvent, nibblesIn, maybeTimeAt, readerBits, inRange, readerIn, bit, bytesOf, usualNumber};
 
 // A time, where `present`; elsewhere all zeros.
 #[repr(C)]
@@ -34,8 +34,7 @@ pub struct FlatMaybeTime {
     pub time: FlatTime,
 }
 
-// Of a nibble the four low bits are read, of count and first piece three. A last piece above 7 is none; direction 0 is forward,
-// 1 reverse, any other none.
+// A last piece above 7 is none; direction 0 is forward, 1 reverse, any other none.
 #[repr(C)]
 pub struct FlatReader {
     pub nibbles: [u8; 8],
@@ -114,32 +113,16 @@ pub fn flat_maybe_time(t: MaybeTime) -> FlatMaybeTime
     }
 }
 
-fn nibbles_in(n: &[u8; 8]) -> [u8; 8]
-    ensures { λ r. ⌜ r ≡ nibblesIn (now (n .entry)) ⌝ }
-{
-    [
-        n[0] % 16,
-        n[1] % 16,
-        n[2] % 16,
-        n[3] % 16,
-        n[4] % 16,
-        n[5] % 16,
-        n[6] % 16,
-        n[7] % 16,
-    ]
-}
-
 pub fn reader_of(r: FlatReader) -> MtcReader
     ensures { λ q. ⌜ q ≡ readerOf r ⌝ }
 {
-    let n = r.nibbles;
-    let nibbles = nibbles_in(&n);
+    let nibbles = r.nibbles;
     let previous = r.previous;
     let time = r.time;
     MtcReader {
         nibbles,
-        count: r.count % 8,
-        first: r.first % 8,
+        count: r.count,
+        first: r.first,
         last: piece_at(r.last),
         direction: way_at(r.direction),
         locked: r.locked,
@@ -229,9 +212,62 @@ const LOCKED: usize = 12;
 
 const RUNNING: usize = 13;
 
-// `MtcReader::receive` on the record's bytes. A piece that is the next one changes a few of them; any other goes by the record.
+// `MtcReader::receive` on the record's bytes. One that no calls leave is taken as fresh.
 pub fn receive(r: &mut [u8; 26], byte: u8) -> FlatEvent
     ensures { λ e. ⌜ (e ≡ flatEvent (eventOf (readerIn (now (r .entry))) byte)) × (readerIn (now (r .exit)) ≡ afterByte (readerIn (now (r .entry))) byte) ⌝ }
+{
+    if in_range(*r) {
+        return receive_in(r, byte);
+    }
+    receive_fresh(r, byte)
+}
+
+// What stands above a nibble.
+fn above_nibble(byte: u8) -> u8
+    ensures { λ r. ⌜ (r ≡ byte / 16) × (r ≤ 15) ⌝ }
+{
+    byte / 16
+}
+
+// What stands above a piece.
+fn above_piece(byte: u8) -> u8
+    ensures { λ r. ⌜ (r ≡ byte / 8) × (r ≤ 31) ⌝ }
+{
+    byte / 8
+}
+
+// Nibbles at most 15, count and first piece at most 7.
+fn in_range(r: [u8; 26]) -> bool
+    ensures { λ b. ⌜ (b ≡ inRange r) × (length r ≡ 26) ⌝ }
+{
+    let sum = above_nibble(r[0])
+        + above_nibble(r[1])
+        + above_nibble(r[2])
+        + above_nibble(r[3])
+        + above_nibble(r[4])
+        + above_nibble(r[5])
+        + above_nibble(r[6])
+        + above_nibble(r[7])
+        + above_piece(r[COUNT])
+        + above_piece(r[FIRST]);
+    sum == 0
+}
+
+// A data byte to a fresh reader.
+fn receive_fresh(r: &mut [u8; 26], byte: u8) -> FlatEvent
+    ensures { λ e. ⌜ (e ≡ flatEvent (eventOf fresh byte)) × (now (r .exit) ≡ bytesOf (afterByte fresh byte)) ⌝ }
+{
+    let q = MtcReader::new().step(byte);
+    let reader = q.reader;
+    let event = q.event;
+    *r = bytes_of(reader);
+    flat_event(event)
+}
+
+// A piece that is the next one changes a few bytes; any other goes by the record.
+fn receive_in(r: &mut [u8; 26], byte: u8) -> FlatEvent
+    requires { ⌜ inRange (now r) ≡ true ⌝ }
+    ensures { λ e. ⌜ (e ≡ flatEvent (eventOf (readerBits (now (r .entry))) byte)) × ((readerBits (now (r .exit)) ≡ afterByte (readerBits (now (r .entry))) byte) × (inRange (now (r .exit)) ≡ true)) ⌝ }
 {
     let p = byte / 16 % 8;
     let n = usual(*r, p);
@@ -282,7 +318,7 @@ fn usual(r: [u8; 26], p: u8) -> u8
 
 // Any data byte, by the record.
 fn receive_any(r: &mut [u8; 26], byte: u8) -> FlatEvent
-    ensures { λ e. ⌜ (e ≡ flatEvent (eventOf (readerIn (now (r .entry))) byte)) × (readerIn (now (r .exit)) ≡ afterByte (readerIn (now (r .entry))) byte) ⌝ }
+    ensures { λ e. ⌜ (e ≡ flatEvent (eventOf (readerBits (now (r .entry))) byte)) × ((readerBits (now (r .exit)) ≡ afterByte (readerBits (now (r .entry))) byte) × (inRange (now (r .exit)) ≡ true)) ⌝ }
 {
     let q = reader_in(r).step(byte);
     let reader = q.reader;
@@ -294,7 +330,7 @@ fn receive_any(r: &mut [u8; 26], byte: u8) -> FlatEvent
 // The end of a full sequence, at its last piece, in a known direction.
 fn complete(r: &mut [u8; 26], p: u8) -> FlatEvent
     requires { ⌜ getD (now r) 11 0 ≤ 1 ⌝ }
-    ensures { λ e. ⌜ (e ≡ flatEvent (eventWith p (MaybeSequence.Sequence (sequenceOf (readerIn (now (r .entry))))))) × (readerIn (now (r .exit)) ≡ completed (readerIn (now (r .entry)))) ⌝ }
+    ensures { λ e. ⌜ (e ≡ flatEvent (eventWith p (MaybeSequence.Sequence (sequenceOf (readerBits (now (r .entry))))))) × ((readerBits (now (r .exit)) ≡ completed (readerBits (now (r .entry)))) × (inRange (now (r .exit)) ≡ inRange (now (r .entry)))) ⌝ }
 {
     let s = report(raw_in(*r), direction_at(r[DIRECTION]), previous_in(r));
     let raw = s.raw;
@@ -357,7 +393,7 @@ fn maybe_time(present: u8, hours: u8, minutes: u8, seconds: u8, frames: u8, rate
 }
 
 fn reader_in(r: &[u8; 26]) -> MtcReader
-    ensures { λ q. ⌜ q ≡ readerIn (now (r .entry)) ⌝ }
+    ensures { λ q. ⌜ q ≡ readerBits (now (r .entry)) ⌝ }
 {
     let nibbles = [
         r[0] % 16,

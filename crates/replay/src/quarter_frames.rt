@@ -171,73 +171,30 @@ fn event_is(event: FlatEvent, answer: &[u8], from: usize) -> usize {
 
 // The first 26 bytes of the input.
 fn record_at(input: &[u8]) -> [u8; 26] {
-    [
-        byte_at(input, 0),
-        byte_at(input, 1),
-        byte_at(input, 2),
-        byte_at(input, 3),
-        byte_at(input, 4),
-        byte_at(input, 5),
-        byte_at(input, 6),
-        byte_at(input, 7),
-        byte_at(input, 8),
-        byte_at(input, 9),
-        byte_at(input, 10),
-        byte_at(input, 11),
-        byte_at(input, 12),
-        byte_at(input, 13),
-        byte_at(input, 14),
-        byte_at(input, 15),
-        byte_at(input, 16),
-        byte_at(input, 17),
-        byte_at(input, 18),
-        byte_at(input, 19),
-        byte_at(input, 20),
-        byte_at(input, 21),
-        byte_at(input, 22),
-        byte_at(input, 23),
-        byte_at(input, 24),
-        byte_at(input, 25),
-    ]
+    let mut record = [0u8; 26];
+    let mut i: usize = 0;
+    while i < 26 {
+        record[i] = byte_at(input, i);
+        i += 1;
+    }
+    record
 }
 
 // The bytes that a call left.
-fn record_of(b: &[u8; 26]) -> [u8; 26] {
-    [
-        b[0],
-        b[1],
-        b[2],
-        b[3],
-        b[4],
-        b[5],
-        b[6],
-        b[7],
-        b[8],
-        b[9],
-        b[10],
-        b[11],
-        b[12],
-        b[13],
-        b[14],
-        b[15],
-        b[16],
-        b[17],
-        b[18],
-        b[19],
-        b[20],
-        b[21],
-        b[22],
-        b[23],
-        b[24],
-        b[25],
-    ]
+fn record_is(record: &[u8; 26], answer: &[u8]) -> usize {
+    let mut at: usize = 0;
+    let mut i: usize = 0;
+    while i < 26 {
+        at = byte_is(record[i], answer, at);
+        i += 1;
+    }
+    at
 }
 
 fn receive(input: &[u8], answer: &[u8]) -> usize {
     let mut reader = record_at(input);
     let event = fimbrast_receive(&mut reader, byte_at(input, 26));
-    let left = record_of(&reader);
-    event_is(event, answer, same_at(&left, answer, 0))
+    event_is(event, answer, record_is(&reader, answer))
 }
 
 fn state(reader: FlatReader, answer: &[u8]) -> usize {

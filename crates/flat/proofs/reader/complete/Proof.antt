@@ -5,7 +5,7 @@ use Rattle.mtc.specs.Reader.{eventWith}
 use Rattle.mtc.specs.declared.reader.MaybeSequence.the-variants.{Sequence}
 use Rattle.mtc.specs.declared.reader.MtcSequence.{MtcSequence}
 use Rattle.flat.specs.Reader.{flatEvent}
-use Rattle.flat.proofs.Bytes.{ended, reported-in}
+use Rattle.flat.proofs.Bytes.{ended, times-range, reported-in}
 use borrow.Author.Needs.{needs}
 use Rattle.flat.proofs.reader.complete.Statement.{statement}
 use Rattle.flat.proofs.reader.complete.Tie as tie
@@ -79,7 +79,7 @@ flat-event-requires c κs = search needs
 returns : tie.Need-returns
 returns c =
     let q = reported-in _ _ _ _ _ (c .before .before .before .before .before .before .before .before .before .before .before .before .before .pre) (c .before .before .before .before .before .before .before .before .before .before .before .raw-in .ensures .0) (c .before .before .before .before .before .before .before .before .before .direction-at .ensures) (c .before .before .before .before .before .before .before .previous-in .ensures) (c .before .before .before .before .before .before .report .ensures) in
-    (c .flat-event .ensures ∙ ap flatEvent (c .before .event .ensures ∙ ap (λ (s : MtcSequence). eventWith (c .before .before .before .before .before .before .before .before .before .before .before .before .before .args .p) (Sequence s)) q), ended _ _ _ _ (c .before .before .before .before .before .before .before .before .before .before .before .raw-in .ensures .1) q (c .before .before .before .flat-time .ensures) (c .before .before .flat-time2 .ensures))
+    (c .flat-event .ensures ∙ ap flatEvent (c .before .event .ensures ∙ ap (λ (s : MtcSequence). eventWith (c .before .before .before .before .before .before .before .before .before .before .before .before .before .args .p) (Sequence s)) q), (ended _ _ _ _ (c .before .before .before .before .before .before .before .before .before .before .before .raw-in .ensures .1) q (c .before .before .before .flat-time .ensures) (c .before .before .flat-time2 .ensures), times-range _ _ _ (c .before .before .before .before .before .before .before .before .before .before .before .raw-in .ensures .1)))
 
 pub complete-spec : {M : Type 1} → statement M
 complete-spec =

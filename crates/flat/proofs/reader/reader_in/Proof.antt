@@ -1,5 +1,5 @@
 -- `flat::reader::reader_in` meets its contract. Assumes nothing.
-use Rattle.flat.specs.Reader.{nibblesIn, readerIn}
+use Rattle.flat.specs.Reader.{nibblesIn, readerBits}
 use borrow.Author.Needs.{needs}
 use Rattle.flat.proofs.reader.reader_in.Statement.{statement}
 use Rattle.flat.proofs.reader.reader_in.Tie as tie
@@ -59,7 +59,7 @@ time-in-requires : tie.Need-time-in-requires
 time-in-requires c κs = search needs
 
 returns : tie.Need-returns
-unfolding readerIn nibblesIn
+unfolding readerBits nibblesIn
 returns c =
     rw (c .time-in .ensures, c .before .previous-in .ensures, c .before .before .before .before .way-at .ensures, c .before .before .before .before .before .before .piece-at .ensures)
 

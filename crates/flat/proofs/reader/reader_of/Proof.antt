@@ -4,9 +4,6 @@ use borrow.Author.Needs.{needs}
 use Rattle.flat.proofs.reader.reader_of.Statement.{statement}
 use Rattle.flat.proofs.reader.reader_of.Tie as tie
 
-nibbles-in-requires : tie.Need-nibbles-in-requires
-nibbles-in-requires c κs = search needs
-
 piece-at-requires : tie.Need-piece-at-requires
 piece-at-requires c κs = search needs
 
@@ -21,14 +18,12 @@ maybe-time-of-requires-2 c κs = search needs
 
 returns : tie.Need-returns
 unfolding readerOf
-returns c =
-    cc
+returns c = cc
 
 pub reader-of-spec : {M : Type 1} → statement M
 reader-of-spec =
     tie.close
     (tie.spec
-    nibbles-in-requires
     piece-at-requires
     way-at-requires
     maybe-time-of-requires
