@@ -9,10 +9,16 @@ COMPARE = compare/target/release/compare
 C_FLAGS = -std=c11 -Wall -Wextra -Wpedantic -Werror -O2
 ARCHIVE = target/staticlib/libfimbrast.a
 
-.PHONY: test run prove words library bindings c-example compare compare-long bench after-proof
+PART ?= mtc
+
+.PHONY: test part run prove words library bindings c-example compare compare-long bench after-proof
 
 test: prove after-proof
 	@tail -n 1 target/gate.log
+
+# One crate and those below it: proved, and their edits refused. PART=name says which.
+part:
+	@rt must-fail $(PART)
 
 # Says in plain words what becomes of the example strings, good and bad.
 run:

@@ -20,7 +20,7 @@ use mmc::StandardTimeCode;
 use mmc::TimeCodeStatus;
 ghost use mathlib.Core.Path.{_≡_};
 ghost use lib.ListN.{getD};
-ghost use Rattle.mmc.specs.TimeCode.{readStatus, statusByte, readStandard, readShort, standardBytes, shortBytes, standardLeft, shortLeft, shortForm, withShort, subframesForm, statusForm, shortName, fullName};
+ghost use Rattle.codes.specs.TimeCode.{readStatus, statusByte, readStandard, readShort, standardBytes, shortBytes, standardLeft, shortLeft, shortForm, withShort, subframesForm, statusForm, shortName, fullName};
 ghost use Rattle.flat.specs.Refusal.{refusalIn};
 ghost use Rattle.flat.specs.Code.{statusOf, flatStatus, codeOf, flatCode, shortOf, flatShort, flatName};
 

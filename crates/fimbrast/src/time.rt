@@ -13,8 +13,8 @@ use mtc::QuarterFrame;
 use mtc::TimeCodeType;
 ghost use mathlib.Core.Path.{_≡_};
 ghost use Rattle.mtc.specs.QuarterFrame.{fromByte, toByte, pieces};
-ghost use Rattle.mtc.specs.St12.{framesPerSecond, isValid};
-ghost use Rattle.mtc.specs.Time.{newTime, nextValid, frameCount, labelAt, addFrames, typeOf};
+ghost use Rattle.labels.specs.St12.{framesPerSecond, isValid};
+ghost use Rattle.labels.specs.Time.{newTime, nextValid, frameCount, labelAt, addFrames, typeOf};
 ghost use Rattle.flat.specs.Refusal.{refusalIn};
 ghost use Rattle.flat.specs.Time.{timeOf, timeAt, flatTime, frameOf, flatFrame};
 

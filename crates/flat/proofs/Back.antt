@@ -12,20 +12,20 @@ use Rattle.flat.specs.Generator.{directionAt, flatDirection, pieceAt, fl
 use Rattle.flat.specs.Reader.{wayAt, flatWay, maybeTimeOf, flatMaybeTime, nibblesIn, readerOf, flatReader}
 use Rattle.flat.specs.String.{partAt, flatPart, commandOf, flatCommand, fieldOf, flatField}
 use Rattle.flat.specs.Time.{timeOf, flatTime}
-use Rattle.mmc.specs.TimeCode.{readStatus, statusByte}
+use Rattle.codes.specs.TimeCode.{readStatus, statusByte}
 use Rattle.mmc.specs.declared.command.MmcCommand.{MmcCommand}
 use Rattle.mmc.specs.declared.command.MmcCommand.the-variants.{Stop, Play, DeferredPlay, FastForward, Rewind, RecordStrobe, RecordExit, Pause, Reset, Write, LocateField, LocateTarget, Move, Other}
 use Rattle.mmc.specs.declared.field.InfoField.{InfoField}
 use Rattle.mmc.specs.declared.field.InfoField.the-variants as F
 use Rattle.mmc.specs.declared.part.Part.{Part}
-use Rattle.mmc.specs.declared.time_code.FinalByte.{FinalByte}
-use Rattle.mmc.specs.declared.time_code.FinalByte.the-variants.{Subframes, Status}
-use Rattle.mmc.specs.declared.time_code.ShortTimeCode.{ShortTimeCode}
-use Rattle.mmc.specs.declared.time_code.StandardTimeCode.{StandardTimeCode}
-use Rattle.mmc.specs.declared.time_code.TimeCodeStatus.{TimeCodeStatus}
+use Rattle.codes.specs.declared.time_code.FinalByte.{FinalByte}
+use Rattle.codes.specs.declared.time_code.FinalByte.the-variants.{Subframes, Status}
+use Rattle.codes.specs.declared.time_code.ShortTimeCode.{ShortTimeCode}
+use Rattle.codes.specs.declared.time_code.StandardTimeCode.{StandardTimeCode}
+use Rattle.codes.specs.declared.time_code.TimeCodeStatus.{TimeCodeStatus}
 use Rattle.mtc.proofs.Laws.{Sound, Bounds, bounds}
 use Rattle.mtc.specs.Reader.{pieceFits}
-use Rattle.mtc.specs.Time.{bitsOf, typeOf}
+use Rattle.labels.specs.Time.{bitsOf, typeOf}
 use Rattle.mtc.specs.declared.generator.Direction.{Direction}
 use Rattle.mtc.specs.declared.generator.Direction.the-variants.{Forward, Reverse}
 use Rattle.mtc.specs.declared.generator.MaybePiece.{MaybePiece}
@@ -36,9 +36,9 @@ use Rattle.mtc.specs.declared.reader.MaybeDirection.the-variants.{NoDirection, 
 use Rattle.mtc.specs.declared.reader.MaybeTime.{MaybeTime}
 use Rattle.mtc.specs.declared.reader.MaybeTime.the-variants.{NoTime, Time}
 use Rattle.mtc.specs.declared.reader.MtcReader.{MtcReader}
-use Rattle.mtc.specs.declared.time.MtcTime.{MtcTime}
-use Rattle.mtc.specs.declared.time.TimeCodeType.{TimeCodeType}
-use Rattle.mtc.specs.declared.time.TimeCodeType.the-variants.{Fps24, Fps25, Fps30Drop, Fps30}
+use Rattle.labels.specs.declared.time.MtcTime.{MtcTime}
+use Rattle.labels.specs.declared.time.TimeCodeType.{TimeCodeType}
+use Rattle.labels.specs.declared.time.TimeCodeType.the-variants.{Fps24, Fps25, Fps30Drop, Fps30}
 
 -- ---- labels, generators, readers
 

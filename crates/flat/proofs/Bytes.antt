@@ -12,7 +12,7 @@ use lib.Seq.{getD-set-other}
 use Rattle.mtc.proofs.Laws.{Sound, sound-by, Bounds, bounds, byte-sound, next-piece, sequence-of, sends, stops}
 use Rattle.mtc.specs.Generator.{first, after, final, move, known, pieceNext, timeNext, sentAt, nextByte, afterNextByte}
 use Rattle.mtc.specs.QuarterFrame.{pieceOf, valueOf, pieces}
-use Rattle.mtc.specs.Time.{addFrames}
+use Rattle.labels.specs.Time.{addFrames}
 use Rattle.mtc.specs.Reader.{fresh, pieceFits, ordered, numberAfter, readerBy, reportBy, directionOf, stored, completed, eventWith, reported, sequenceOf, rawOf, afterByte, eventOf}
 use Rattle.mtc.specs.declared.generator.Direction.{Direction}
 use Rattle.mtc.specs.declared.generator.MaybePiece.{MaybePiece}
@@ -26,7 +26,7 @@ use Rattle.mtc.specs.declared.reader.MaybeTime.{MaybeTime}
 use Rattle.mtc.specs.declared.reader.MaybeTime.the-variants.{NoTime, Time}
 use Rattle.mtc.specs.declared.reader.MtcReader.{MtcReader}
 use Rattle.mtc.specs.declared.reader.MtcSequence.{MtcSequence}
-use Rattle.mtc.specs.declared.time.MtcTime.{MtcTime}
+use Rattle.labels.specs.declared.time.MtcTime.{MtcTime}
 use Rattle.flat.specs.Generator.{directionAt, pieceAt, flatPiece, isSet, generatorIn, movedTo, sentBy, flatByte}
 use Rattle.flat.specs.Reader.{wayAt, flatWay, flatMaybeTime, flatEvent, nibblesIn, maybeTimeAt, readerBits, excess, inRange, readerIn, bit, bytesOf, usualNumber}
 use Rattle.flat.specs.Time.{timeOf, timeAt, flatTime}

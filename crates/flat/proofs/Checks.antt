@@ -2,9 +2,9 @@
 use mathlib.Core.Path.{_≡_, refl}
 use Rattle.flat.specs.Refusal.{flatStop, refusalIn}
 use Rattle.mmc.specs.Named.{stopOf}
-use Rattle.mmc.specs.TimeCode.{checkedOf}
-use Rattle.mmc.specs.declared.time_code.Checked.{Checked}
-use Rattle.mmc.specs.declared.time_code.Checked.the-variants.{Accepted, Refused}
+use Rattle.codes.specs.TimeCode.{checkedOf}
+use Rattle.codes.specs.declared.time_code.Checked.{Checked}
+use Rattle.codes.specs.declared.time_code.Checked.the-variants.{Accepted, Refused}
 
 pub checked-number : {A : Type 0} (c : Checked) (a : A) → flatStop (stopOf c) ≡ refusalIn (checkedOf c a)
 unfolding flatStop refusalIn

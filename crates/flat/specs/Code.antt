@@ -5,14 +5,14 @@ use Rattle.flat.specs.Time.{timeOf, flatTime, noTime}
 use Rattle.flat.specs.declared.code.FlatCode.{FlatCode}
 use Rattle.flat.specs.declared.code.FlatShort.{FlatShort}
 use Rattle.flat.specs.declared.code.FlatStatus.{FlatStatus}
-use Rattle.mmc.specs.TimeCode.{readStatus, statusByte}
-use Rattle.mmc.specs.declared.time_code.FinalByte.{FinalByte}
-use Rattle.mmc.specs.declared.time_code.FinalByte.the-variants.{Subframes, Status}
-use Rattle.mmc.specs.declared.time_code.MaybeName.{MaybeName}
-use Rattle.mmc.specs.declared.time_code.MaybeName.the-variants.{NoName, Name}
-use Rattle.mmc.specs.declared.time_code.ShortTimeCode.{ShortTimeCode}
-use Rattle.mmc.specs.declared.time_code.StandardTimeCode.{StandardTimeCode}
-use Rattle.mmc.specs.declared.time_code.TimeCodeStatus.{TimeCodeStatus}
+use Rattle.codes.specs.TimeCode.{readStatus, statusByte}
+use Rattle.codes.specs.declared.time_code.FinalByte.{FinalByte}
+use Rattle.codes.specs.declared.time_code.FinalByte.the-variants.{Subframes, Status}
+use Rattle.codes.specs.declared.time_code.MaybeName.{MaybeName}
+use Rattle.codes.specs.declared.time_code.MaybeName.the-variants.{NoName, Name}
+use Rattle.codes.specs.declared.time_code.ShortTimeCode.{ShortTimeCode}
+use Rattle.codes.specs.declared.time_code.StandardTimeCode.{StandardTimeCode}
+use Rattle.codes.specs.declared.time_code.TimeCodeStatus.{TimeCodeStatus}
 
 unfoldable pub statusOf : FlatStatus → TimeCodeStatus
 statusOf s =

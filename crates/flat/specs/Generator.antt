@@ -12,7 +12,7 @@ use Rattle.mtc.specs.declared.generator.Direction.the-variants.{Forward, Revers
 use Rattle.mtc.specs.declared.generator.MaybePiece.{MaybePiece}
 use Rattle.mtc.specs.declared.generator.MaybePiece.the-variants.{NoPiece, Piece}
 use Rattle.mtc.specs.declared.generator.MtcGenerator.{MtcGenerator}
-use Rattle.mtc.specs.declared.time.MtcTime.{MtcTime}
+use Rattle.labels.specs.declared.time.MtcTime.{MtcTime}
 use Rattle.universal.specs.Refusals.{Answer, gives, refused}
 
 -- 0 is forward, any other number reverse.

@@ -4,9 +4,9 @@ use mathlib.Core.List.{List}
 use lib.ListN.{getD}
 use Rattle.flat.specs.declared.time.FlatFrame.{FlatFrame}
 use Rattle.flat.specs.declared.time.FlatTime.{FlatTime}
-use Rattle.mtc.specs.Time.{bitsOf, typeOf}
+use Rattle.labels.specs.Time.{bitsOf, typeOf}
 use Rattle.mtc.specs.declared.quarter_frame.QuarterFrame.{QuarterFrame}
-use Rattle.mtc.specs.declared.time.MtcTime.{MtcTime}
+use Rattle.labels.specs.declared.time.MtcTime.{MtcTime}
 
 -- The label: of the rate only the two low bits are read.
 unfoldable pub timeOf : FlatTime → MtcTime

@@ -4,8 +4,8 @@ use mathlib.Core.Bool.{cond}
 use lib.Dec.{eqb}
 use Rattle.flat.specs.Refusal.{errorOf, flatStop}
 use Rattle.mmc.specs.Write.{Writing, writingOf}
-use Rattle.mmc.specs.declared.time_code.Checked.{Checked}
-use Rattle.mmc.specs.declared.time_code.Checked.the-variants.{Accepted, Refused}
+use Rattle.codes.specs.declared.time_code.Checked.{Checked}
+use Rattle.codes.specs.declared.time_code.Checked.the-variants.{Accepted, Refused}
 use Rattle.mmc.specs.declared.write.Writer.{Writer}
 
 unfoldable pub checkedAt : ℕ → ℕ → Checked

@@ -12,7 +12,7 @@ use mmc::StandardBytes;
 use mmc::StandardTimeCode;
 use mmc::TimeCodeStatus;
 ghost use mathlib.Core.Path.{_≡_};
-ghost use Rattle.mmc.specs.TimeCode.{standardBytes, standardBytesOf, shortBytes, shortBytesOf};
+ghost use Rattle.codes.specs.TimeCode.{standardBytes, standardBytesOf, shortBytes, shortBytesOf};
 ghost use Rattle.flat.specs.Refusal.{refusalIn};
 ghost use Rattle.flat.specs.Code.{statusOf, flatStatus, finalOf, isStatus, flatFinal, codeOf, flatCode, noCode, shortOf, flatShort, noShort, flatName};
 

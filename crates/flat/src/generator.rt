@@ -12,7 +12,7 @@ ghost use mathlib.Core.Path.{_≡_};
 ghost use Prim.Native.Nat.{_≤_};
 ghost use lib.ListN.{length, getD};
 ghost use Rattle.mtc.specs.Generator.{nextByte, afterNextByte, move};
-ghost use Rattle.mtc.specs.Time.{addFrames};
+ghost use Rattle.labels.specs.Time.{addFrames};
 ghost use Rattle.mtc.specs.QuarterFrame.{pieces};
 ghost use Rattle.universal.specs.Refusals.{gives};
 ghost use Rattle.flat.specs.Generator.{directionAt, flatDirection, pieceAt, flatPiece, generatorOf, flatGenerator, generatorIn, movedTo, sentBy, flatByte};

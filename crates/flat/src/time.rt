@@ -5,7 +5,7 @@ use mtc::NewTime;
 use mtc::QuarterFrame;
 use mtc::TimeCodeType;
 ghost use mathlib.Core.Path.{_≡_};
-ghost use Rattle.mtc.specs.Time.{newTimeOf};
+ghost use Rattle.labels.specs.Time.{newTimeOf};
 ghost use Rattle.flat.specs.Refusal.{refusalIn};
 ghost use Rattle.flat.specs.Time.{timeOf, timeAt, flatTime, noTime, frameOf, flatFrame};
 

@@ -1,5 +1,4 @@
 // Demand 3: readers with a past, times at the edges, strings with other commands before the Locate, both directions.
-use crate::labels::label;
 use crate::stream::Listener;
 use crate::stream::edge;
 use crate::stream::follows;
@@ -12,6 +11,7 @@ use crate::strings::write;
 use crate::tally::Tally;
 use crate::tally::case;
 use crate::tally::none;
+use crate::times::label;
 use mtc::Direction;
 use mtc::MtcGenerator;
 use mtc::MtcTime;

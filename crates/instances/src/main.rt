@@ -1,18 +1,21 @@
-// Runs document 01's instances, the published examples and demand 3 through the public calls, and writes a line for each group.
-mod codes;
+// Runs document 01's instances, the practices' published examples and formats, and demand 3 through the public calls, and writes a
+// line for each group.
 mod demand3;
-mod labels;
+mod examples;
+mod formats;
 mod quarter_frames;
 mod stream;
 mod strings;
 mod tally;
+mod times;
 
 use crate::tally::report;
 
 fn main() {
-    report(b"labels", labels::labels());
+    report(b"labels", times::times());
     report(b"quarter frames", quarter_frames::quarter_frames());
-    report(b"strings", codes::codes());
+    report(b"strings", examples::examples());
+    report(b"formats of RP-013", formats::formats());
     report(
         b"demand 3, every list of up to four calls",
         demand3::short_lists(),

@@ -1,11 +1,11 @@
 // Quarter frames, full messages and user bits: document 01's instances and RP-004/008's published examples.
-use crate::labels::label;
-use crate::labels::same;
 use crate::stream::fresh;
 use crate::stream::hears;
 use crate::tally::Tally;
 use crate::tally::case;
 use crate::tally::none;
+use crate::times::label;
+use crate::times::same;
 use mtc::Direction;
 use mtc::FullMessage;
 use mtc::MaybeSequence;

@@ -1,6 +1,6 @@
 // A reader that has heard some calls gets the next twenty-four bytes of a generator: what it answers is held to demand 3.
-use crate::labels::label;
-use crate::labels::same;
+use crate::times::label;
+use crate::times::same;
 use mtc::Direction;
 use mtc::FullMessage;
 use mtc::MaybeSequence;

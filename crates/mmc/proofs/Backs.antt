@@ -9,14 +9,14 @@ use Rattle.mmc.specs.declared.command.MmcCommand.{MmcCommand}
 use Rattle.mmc.specs.declared.command.MmcCommand.the-variants as C
 use Rattle.mmc.specs.declared.field.InfoField.{InfoField}
 use Rattle.mmc.specs.declared.field.InfoField.the-variants as F
-use Rattle.mmc.specs.declared.time_code.StandardTimeCode.{StandardTimeCode}
-use Rattle.mmc.specs.declared.time_code.ShortTimeCode.{ShortTimeCode}
+use Rattle.codes.specs.declared.time_code.StandardTimeCode.{StandardTimeCode}
+use Rattle.codes.specs.declared.time_code.ShortTimeCode.{ShortTimeCode}
 use Rattle.mmc.specs.Command.{locateField, locateTarget, move, readLocate, readMove, readByte, readCommand}
 use Rattle.mmc.specs.Field.{timeCode, short, readByte as fieldByte, readField}
 use Rattle.mmc.specs.Item.{locateFieldItem, locateTargetItem, moveItem, commandItem, timeCodeItem, shortCodeItem, fieldItem}
 use Rattle.mmc.specs.Strings.{commandPair, fieldPair, commandBack, fieldBack}
-use Rattle.mmc.specs.TimeCode.{standardList, shortList, zeroed}
-use Rattle.mmc.proofs.CodeLaws.{read-back, short-read-back}
+use Rattle.codes.specs.TimeCode.{standardList, shortList, zeroed}
+use Rattle.codes.proofs.Laws.{read-back, short-read-back, five-listed, two-listed}
 use Rattle.mmc.proofs.Emitted.{locate-field-checks, locate-target-checks, move-checks, time-code-checks, short-code-checks}
 use Rattle.mmc.proofs.Ranges.{in-range, above-range}
 
@@ -28,8 +28,8 @@ locate-field-back r h = let t = locate-field-checks r h in rw (ne-eqb r 0 (λ e.
 
 locate-target-back : (c : StandardTimeCode) → locateTargetItem c .stop ≡ none
     → readCommand (68 ∷ []) (1 ∷ standardList c) ≡ locateTarget (zeroed c)
-unfolding readCommand readByte readLocate standardList
-locate-target-back c h = ap locateTarget (read-back c (locate-target-checks c h .0))
+unfolding readCommand readByte readLocate
+locate-target-back c h = rw (five-listed c) (ap locateTarget (read-back c (locate-target-checks c h .0)))
 
 move-back : (d s : ℕ) → moveItem d s .stop ≡ none → readCommand (76 ∷ []) (d ∷ s ∷ []) ≡ move d s
 unfolding readCommand readByte readMove
@@ -59,17 +59,18 @@ command-back source (C.Other n d) h = refl
 
 time-code-back : (f : ℕ) (c : StandardTimeCode) → timeCodeItem f c .stop ≡ none
     → readField (f ∷ []) (standardList c) ≡ timeCode f (zeroed c)
-unfolding readField fieldByte standardList
+unfolding readField fieldByte
 time-code-back f c h =
-    let t = time-code-checks f c h in rw (in-range 1 32 f (t .0) (t .1)) (ap (timeCode f) (read-back c (t .2)))
+    let t = time-code-checks f c h in rw (five-listed c, in-range 1 32 f (t .0) (t .1)) (ap (timeCode f) (read-back c (t .2)))
 
 short-code-back : (f : ℕ) (c : ShortTimeCode) → shortCodeItem f c .stop ≡ none
     → readField ((f + 32) ∷ []) (shortList c) ≡ short f c
-unfolding readField fieldByte shortList
+unfolding readField fieldByte
 short-code-back f c h =
     let t = short-code-checks f c h in
     let n : f + 32 - 32 ≡ f = omega arith in
     rw (
+      two-listed c,
       above-range 1 32 (f + 32) (omega arith) (omega arith),
       in-range 33 64 (f + 32) (omega (arith, t .0)) (omega (arith, t .1)),
       n,

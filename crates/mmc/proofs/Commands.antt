@@ -9,7 +9,7 @@ use lib.ListN.{length, getD}
 use Rattle.mmc.specs.declared.command.MmcCommand.the-variants.{LocateField, LocateTarget, Move, Other}
 use Rattle.mmc.specs.declared.part.Part.{Part}
 use Rattle.mmc.specs.Command.{CommandCase, other, readLocate, readMove, readByte, readCommand, located}
-use Rattle.mmc.specs.TimeCode.{readStandard}
+use Rattle.codes.specs.TimeCode.{readStandard}
 
 module _ (d : List ℕ) (n a : Part) where
   -- ---- locate

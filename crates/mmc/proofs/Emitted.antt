@@ -17,21 +17,21 @@ use Rattle.mmc.specs.declared.length.Kind.the-variants.{Commands, Fields
 use Rattle.mmc.specs.declared.length.Length.{Length}
 use Rattle.mmc.specs.declared.length.Length.the-variants.{Fixed, Count}
 use Rattle.mmc.specs.declared.part.Part.{Part}
-use Rattle.mmc.specs.declared.time_code.StandardTimeCode.{StandardTimeCode}
-use Rattle.mmc.specs.declared.time_code.ShortTimeCode.{ShortTimeCode}
-use Rattle.mmc.specs.declared.time_code.FinalByte.{FinalByte}
+use Rattle.codes.specs.declared.time_code.StandardTimeCode.{StandardTimeCode}
+use Rattle.codes.specs.declared.time_code.ShortTimeCode.{ShortTimeCode}
+use Rattle.codes.specs.declared.time_code.FinalByte.{FinalByte}
 use Rattle.mmc.specs.Item.{standardItem, shortItem, otherItem, writeItem, locateFieldItem, isSubframes, locateTargetItem, moveItem, commandItem, formFits, timeCodeItem, shortCodeItem, fieldItem, codeFits}
 use Rattle.mmc.specs.Length.{within, commandLength, fieldLength, lengthOf}
 use Rattle.mmc.specs.Named.{nameFits, lastOf, byRule, namedItem}
 use Rattle.mmc.specs.Part.{isInside, partOf}
 use Rattle.mmc.specs.Strings.{item, counted, itemBytes, joined, dataFits, itemFits, allFit, commandPair, fieldPair, Sound, Given, pairOf, emission, emissions, pairsOf, SoundList}
-use Rattle.mmc.specs.TimeCode.{standardFits, standardList, shortFits, shortList}
+use Rattle.codes.specs.TimeCode.{standardFits, standardList, shortFits, shortList}
 use Rattle.universal.specs.Emission.{Emission, sent, check, _then_}
 use Rattle.universal.specs.Message.{allLow, dataBytes}
 use Rattle.universal.specs.Refusals.{Refusal, refusal}
 use Rattle.universal.proofs.Laws.{all-low-append, all-low-none, all-low-cons, then-sent, then-accepted, then-assoc, data-refused}
-use Rattle.mmc.proofs.Answers.{and-parts}
-use Rattle.mmc.proofs.CodeLaws.{bytes-low, short-bytes-low, five-bytes, two-bytes}
+use Rattle.universal.proofs.Tests.{and-parts}
+use Rattle.codes.proofs.Laws.{bytes-low, short-bytes-low, five-bytes, two-bytes}
 use Rattle.mmc.proofs.Pages.{command-below, command-count, field-five, field-two}
 use Rattle.mmc.proofs.Puts.{fixed-low, count-low, name-sent, name-length}
 

@@ -8,10 +8,10 @@ use lib.Dec.{eqb}
 use lib.ListN.{length, getD}
 use Rattle.mmc.specs.declared.field.InfoField.the-variants.{TimeCode, Short, Other}
 use Rattle.mmc.specs.declared.part.Part.{Part}
-use Rattle.mmc.specs.declared.time_code.StandardTimeCode.{StandardTimeCode}
-use Rattle.mmc.specs.declared.time_code.ShortTimeCode.{ShortTimeCode}
+use Rattle.codes.specs.declared.time_code.StandardTimeCode.{StandardTimeCode}
+use Rattle.codes.specs.declared.time_code.ShortTimeCode.{ShortTimeCode}
 use Rattle.mmc.specs.Field.{readByte, readField, placed}
-use Rattle.mmc.specs.TimeCode.{readStandard, readShort}
+use Rattle.codes.specs.TimeCode.{readStandard, readShort}
 use Rattle.mmc.proofs.Ranges.{in-range, below-range, above-range}
 
 module _ (name d : List ℕ) (n a : Part) where

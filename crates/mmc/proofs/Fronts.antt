@@ -20,7 +20,7 @@ use Rattle.mmc.specs.Part.{part, isInside, partOf}
 use Rattle.mmc.specs.Rp013.{Item}
 use Rattle.mmc.specs.Split.{prefixesAt, measured, splitAt}
 use Rattle.mmc.specs.Strings.{item, ruleOf, counted, itemBytes, dataFits, itemFits, countBytes, Found}
-use Rattle.mmc.proofs.Answers.{and-parts}
+use Rattle.universal.proofs.Tests.{and-parts}
 use Rattle.mmc.proofs.Puts.{name-length}
 use Rattle.mmc.proofs.Splits.{one-at-the-end, two-zeros, too-few, enough, cut-name, fixed-data, no-count, counted-data}
 

@@ -15,21 +15,21 @@ use Rattle.mmc.specs.declared.field.InfoField.the-variants as F
 use Rattle.mmc.specs.declared.length.Kind.{Kind}
 use Rattle.mmc.specs.declared.part.Part.{Part}
 use Rattle.mmc.specs.declared.length.Kind.the-variants.{Commands, Fields}
-use Rattle.mmc.specs.declared.time_code.Checked.{Checked}
-use Rattle.mmc.specs.declared.time_code.Checked.the-variants.{Accepted, Refused}
-use Rattle.mmc.specs.declared.time_code.FinalByte.{FinalByte}
-use Rattle.mmc.specs.declared.time_code.StandardTimeCode.{StandardTimeCode}
-use Rattle.mmc.specs.declared.time_code.ShortTimeCode.{ShortTimeCode}
+use Rattle.codes.specs.declared.time_code.Checked.{Checked}
+use Rattle.codes.specs.declared.time_code.Checked.the-variants.{Accepted, Refused}
+use Rattle.codes.specs.declared.time_code.FinalByte.{FinalByte}
+use Rattle.codes.specs.declared.time_code.StandardTimeCode.{StandardTimeCode}
+use Rattle.codes.specs.declared.time_code.ShortTimeCode.{ShortTimeCode}
 use Rattle.mmc.specs.Item.{checkedItem, standardItem, shortItem, otherItem, writeItem, locateFieldItem, isSubframes, locateTargetItem, moveItem, commandItem, formFits, codeFits, timeCodeItem, shortCodeItem, fieldItem}
 use Rattle.mmc.specs.Length.{within}
 use Rattle.mmc.specs.Named.{Outcome, summed, namedItem}
 use Rattle.mmc.specs.Part.{isInside, partOf}
-use Rattle.mmc.specs.TimeCode.{checkedOf, standardFits, standardList, standardBytes, standardLeft, shortFits, shortList, shortBytes}
+use Rattle.codes.specs.TimeCode.{checkedOf, standardFits, standardList, standardBytes, standardLeft, shortFits, shortList, shortBytes}
 use Rattle.universal.specs.Refusals.{Refusal, Answer, gives, refused, refusal, refusalOf}
 use Rattle.universal.specs.declared.error.SysexError.{SysexError}
 use Rattle.universal.specs.Emission.{Emission, sent, stopped, check, _then_}
 use Rattle.universal.specs.Overlay.{overlay}
-use Rattle.mmc.proofs.CodeLaws.{five-bytes, two-bytes}
+use Rattle.codes.proofs.Laws.{five-bytes, two-bytes, five-listed}
 use Rattle.mmc.proofs.Puts.{Puts, puts, puts-none, named-small}
 use Rattle.mmc.proofs.Ranges.{in-range, below-range, above-range, within-told}
 
@@ -158,14 +158,13 @@ target-written c f k b p h q r =
 -- The bytes that come back are five.
 pub five-told : (c : StandardTimeCode) (b : List ℕ) → b ≡ standardLeft c
     → (getD b 0 0 ∷ getD b 1 0 ∷ getD b 2 0 ∷ getD b 3 0 ∷ getD b 4 0 ∷ []) ≡ b
-unfolding standardList
 five-told c b e = rw e (go (standardFits c))
   where
     five : List ℕ → List ℕ
     five l = getD l 0 0 ∷ getD l 1 0 ∷ getD l 2 0 ∷ getD l 3 0 ∷ getD l 4 0 ∷ []
 
     go : (x : Bool) → five (cond x (standardList c) (0 ∷ 0 ∷ 0 ∷ 0 ∷ 0 ∷ [])) ≡ cond x (standardList c) (0 ∷ 0 ∷ 0 ∷ 0 ∷ 0 ∷ [])
-    go true = refl
+    go true = sym (five-listed c)
     go false = refl
 
 module _ (d s : ℕ) where

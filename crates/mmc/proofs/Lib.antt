@@ -1,25 +1,16 @@
-mod Again
-mod Answers
 mod Backs
-mod Bits
-pub mod CodeLaws
 mod Commands
 mod Emitted
 mod Fields
-mod Forms
 mod Fronts
 mod ItemPuts
 mod Moves
-mod Names
 mod Pages
 mod Puts
 mod Ranges
-mod Reading
 mod Splits
 pub mod StringLaws
 mod Walks
 mod Words
 mod Writers
-mod Writing
 pub mod WritingLaws
-mod Written

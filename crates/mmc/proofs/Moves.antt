@@ -17,7 +17,7 @@ use Rattle.mmc.specs.Length.{lengthOf}
 use Rattle.mmc.specs.Part.{part}
 use Rattle.mmc.specs.Split.{prefixesAt, measured, byLength, splitAt, Located, Next, found, next, answerAs, nextAs}
 use Rattle.universal.specs.Refusals.{Answer, gives, refused, refusal}
-use Rattle.mmc.proofs.Answers.{and-parts}
+use Rattle.universal.proofs.Tests.{and-parts}
 
 -- An item that was found under a test: the test holds.
 under : (b : Bool) (x : Parts) (n d : Part) (e : ℕ) → cond b x Cut ≡ Item n d e → (b ≡ true) × (x ≡ Item n d e)

@@ -18,7 +18,7 @@ use Rattle.mmc.specs.Rp013.{Follows, prefixed, Name, Item, After, IsItem
 use Rattle.mmc.specs.Strings.{ruleOf, counted, itemBytes, joined, dataFits, itemFits, allFit}
 use Rattle.universal.specs.Message.{allLow}
 use Rattle.universal.proofs.Laws.{all-low-append, all-low-byte}
-use Rattle.mmc.proofs.Answers.{and-parts}
+use Rattle.universal.proofs.Tests.{and-parts}
 use Rattle.mmc.proofs.Puts.{name-length}
 use Rattle.mmc.proofs.Ranges.{in-range, below-range, above-range}
 

@@ -31,8 +31,8 @@ use Rattle.mmc.specs.Part.{partOf}
 use Rattle.mmc.specs.Rp013.{Follows, Name, Item, IsItem, Spell, WellFormed, subId1, lastDevice, envelope, Message}
 use Rattle.mmc.specs.Strings.{before, walkFrom, readsOf, nextOf, item, itemAt, places, given, back, itemBytes, joined, itemFits, allFit, locatedAt, readAs, Found, Walk, walk, walkMeans, onTo, Meaning, meaning, meanings, readFrom, commandsRead, commandPair, fieldPair, Sound, Given, pairOf, emission, emissions, pairsOf, SoundList, commandBack, fieldBack}
 use Rattle.mmc.specs.Split.{Located, Next, partsAs}
-use Rattle.mmc.specs.TimeCode.{zeroed}
-use Rattle.mmc.specs.declared.time_code.StandardTimeCode.{StandardTimeCode}
+use Rattle.codes.specs.TimeCode.{zeroed}
+use Rattle.codes.specs.declared.time_code.StandardTimeCode.{StandardTimeCode}
 use Rattle.universal.specs.Emission.{Emission, sent, _then_}
 use Rattle.universal.specs.Message.{allLow, header, opening, message}
 use Rattle.universal.specs.declared.message.MaybeSubId2.the-variants.{NoSubId2}

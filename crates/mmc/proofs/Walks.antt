@@ -18,7 +18,7 @@ use Rattle.mmc.specs.Rp013.{Item}
 use Rattle.mmc.specs.Split.{splitAt, Located, Next, next, nextAs}
 use Rattle.mmc.specs.Strings.{item, ruleOf, counted, itemBytes, joined, dataFits, itemFits, allFit, locatedAt, places, readAs, Found, Walk, before, walkFrom, readsOf, walk, meaning, meanings, readFrom}
 use Rattle.universal.specs.Refusals.{Refusal, refusal, gives}
-use Rattle.mmc.proofs.Answers.{and-parts}
+use Rattle.universal.proofs.Tests.{and-parts}
 use Rattle.mmc.proofs.Fronts.{item-found, Front, cut, whole, front}
 use Rattle.mmc.proofs.Puts.{name-length}
 use Rattle.mmc.proofs.Splits.{next-end, next-cut, next-item}

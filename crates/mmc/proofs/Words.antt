@@ -25,13 +25,13 @@ use Rattle.mmc.specs.Command.{readByte, readCommand, located, nextComman
 use Rattle.mmc.specs.Length.{lengthOf, commandLength, within}
 use Rattle.mmc.specs.Part.{part, partOf, isInside}
 use Rattle.mmc.specs.Split.{Located, Next, prefixesAt, measured, byLength, splitAt, found, next, nextAs, nextPartsOf, partsAs}
-use Rattle.mmc.specs.TimeCode.{readFinal, finalValue, readStandard}
+use Rattle.codes.specs.TimeCode.{readFinal, finalValue, readStandard}
 use Rattle.mmc.specs.Word.{fiveBytes, codeWord, commandWord, answerWord, nextWord, shortWord, plainCommand, plainName}
 use Rattle.mmc.specs.Item.{commandItem}
 use Rattle.universal.specs.Emission.{sent}
 use Rattle.universal.specs.Refusals.{Answer, gives, refused, refusalOf}
 use Rattle.universal.specs.declared.error.SysexError.{SysexError}
-use Rattle.mmc.proofs.Again.{hours-again, six-again, frames-again}
+use Rattle.codes.proofs.Laws.{hours-again, six-again, frames-again, standard-parts}
 use Rattle.mmc.proofs.Commands.{by-byte, long-name}
 use Rattle.mmc.proofs.Ranges.{getD-any}
 use Rattle.mmc.proofs.Splits.{no-zero, fixed-data, no-count, counted-data, too-few, enough, next-end, next-cut, next-item, read-parts, read-found, read-refused}
@@ -42,9 +42,10 @@ five-same p q r s t = rw (p, q, r, s, t)
 -- Each byte without bit 7, and the last as the frames byte tells.
 pub code-five : (hr mn sc fr ff : ℕ)
     → fiveBytes (hr % 128) (mn % 128) (sc % 128) (fr % 128) (finalValue (readFinal fr ff)) ≡ codeWord (readStandard hr mn sc fr ff)
-unfolding codeWord readStandard
+unfolding codeWord
 code-five hr mn sc fr ff =
-    five-same (sym (hours-again false hr)) (sym (six-again false mn)) (sym (six-again false sc)) (sym (frames-again false fr ff)) refl
+    rw (standard-parts hr mn sc fr ff)
+    (five-same (sym (hours-again false hr)) (sym (six-again false mn)) (sym (six-again false sc)) (sym (frames-again false fr ff)) refl)
 
 -- A name that is neither short nor a prefix has a count.
 pub counted-name : (b : ℕ) → 270 ≤ shortWord b → (b ≡ 0 → ⊥) → commandLength b ≡ Count

@@ -10,8 +10,8 @@ use native.Mathlib.Omega.{arith}
 use borrow.Author.Tests.{le-leb, lt-leb, lt-ltb, le-ltb, eq-eqb, ne-eqb, leb-true, leb-false, ltb-true}
 use lib.Dec.{leb, ltb, eqb, lit≤}
 use lib.ListN.{length}
-use Rattle.mmc.specs.declared.time_code.Checked.{Checked}
-use Rattle.mmc.specs.declared.time_code.Checked.the-variants.{Accepted, Refused}
+use Rattle.codes.specs.declared.time_code.Checked.{Checked}
+use Rattle.codes.specs.declared.time_code.Checked.the-variants.{Accepted, Refused}
 use Rattle.universal.specs.declared.error.SysexError.{SysexError}
 use Rattle.mmc.specs.Length.{within}
 use Rattle.mmc.specs.Named.{Outcome, stopOf, summed}

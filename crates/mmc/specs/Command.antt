@@ -11,9 +11,9 @@ use Rattle.mmc.specs.declared.command.CommandAnswer.the-variants as A
 use Rattle.mmc.specs.declared.command.NextCommand.{NextCommand}
 use Rattle.mmc.specs.declared.length.Kind.the-variants.{Commands}
 use Rattle.mmc.specs.declared.part.Part.{Part}
-use Rattle.mmc.specs.declared.time_code.StandardTimeCode.{StandardTimeCode}
+use Rattle.codes.specs.declared.time_code.StandardTimeCode.{StandardTimeCode}
 use Rattle.mmc.specs.Split.{Next, next, nextAs, partsAs}
-use Rattle.mmc.specs.TimeCode.{readStandard}
+use Rattle.codes.specs.TimeCode.{readStandard}
 use Rattle.universal.specs.Refusals.{Answer, gives, refused, refusalOf}
 
 -- The case of a command, without the bytes of its own that a Write or another command has.

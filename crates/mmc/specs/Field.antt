@@ -11,11 +11,11 @@ use Rattle.mmc.specs.declared.field.FieldAnswer.the-variants as A
 use Rattle.mmc.specs.declared.field.NextField.{NextField}
 use Rattle.mmc.specs.declared.length.Kind.the-variants.{Fields}
 use Rattle.mmc.specs.declared.part.Part.{Part}
-use Rattle.mmc.specs.declared.time_code.StandardTimeCode.{StandardTimeCode}
-use Rattle.mmc.specs.declared.time_code.ShortTimeCode.{ShortTimeCode}
+use Rattle.codes.specs.declared.time_code.StandardTimeCode.{StandardTimeCode}
+use Rattle.codes.specs.declared.time_code.ShortTimeCode.{ShortTimeCode}
 use Rattle.mmc.specs.Length.{within}
 use Rattle.mmc.specs.Split.{Next, next, nextAs, partsAs}
-use Rattle.mmc.specs.TimeCode.{readStandard, readShort}
+use Rattle.codes.specs.TimeCode.{readStandard, readShort}
 use Rattle.universal.specs.Refusals.{Answer, gives, refused, refusalOf}
 
 -- The case of a field, without the bytes of its own that another field has.

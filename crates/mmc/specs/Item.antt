@@ -12,16 +12,16 @@ use Rattle.mmc.specs.declared.field.InfoField.the-variants as F
 use Rattle.mmc.specs.declared.length.Kind.{Kind}
 use Rattle.mmc.specs.declared.length.Kind.the-variants.{Commands, Fields}
 use Rattle.mmc.specs.declared.part.Part.{Part}
-use Rattle.mmc.specs.declared.time_code.Checked.{Checked}
-use Rattle.mmc.specs.declared.time_code.Checked.the-variants.{Accepted, Refused}
-use Rattle.mmc.specs.declared.time_code.FinalByte.{FinalByte}
-use Rattle.mmc.specs.declared.time_code.FinalByte.the-variants.{Subframes, Status}
-use Rattle.mmc.specs.declared.time_code.StandardTimeCode.{StandardTimeCode}
-use Rattle.mmc.specs.declared.time_code.ShortTimeCode.{ShortTimeCode}
+use Rattle.codes.specs.declared.time_code.Checked.{Checked}
+use Rattle.codes.specs.declared.time_code.Checked.the-variants.{Accepted, Refused}
+use Rattle.codes.specs.declared.time_code.FinalByte.{FinalByte}
+use Rattle.codes.specs.declared.time_code.FinalByte.the-variants.{Subframes, Status}
+use Rattle.codes.specs.declared.time_code.StandardTimeCode.{StandardTimeCode}
+use Rattle.codes.specs.declared.time_code.ShortTimeCode.{ShortTimeCode}
 use Rattle.mmc.specs.Length.{within}
 use Rattle.mmc.specs.Named.{namedItem}
 use Rattle.mmc.specs.Part.{isInside, partOf}
-use Rattle.mmc.specs.TimeCode.{standardFits, standardList, shortFits, shortList}
+use Rattle.codes.specs.TimeCode.{standardFits, standardList, shortFits, shortList}
 use Rattle.universal.specs.Refusals.{refusalOf}
 use Rattle.universal.specs.Emission.{Emission, sent, check, _then_}
 

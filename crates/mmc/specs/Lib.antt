@@ -6,10 +6,8 @@ pub mod Message
 pub mod Named
 pub mod Part
 pub mod Rp013
-pub mod Rp013Code
 pub mod Split
 pub mod Strings
-pub mod TimeCode
 pub mod Word
 pub mod Write
 pub mod Writings

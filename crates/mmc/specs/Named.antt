@@ -9,8 +9,8 @@ use Rattle.mmc.specs.declared.length.Kind.{Kind}
 use Rattle.mmc.specs.declared.length.Length.{Length}
 use Rattle.mmc.specs.declared.length.Length.the-variants.{Fixed, Count}
 use Rattle.mmc.specs.declared.named.Put.{Put}
-use Rattle.mmc.specs.declared.time_code.Checked.{Checked}
-use Rattle.mmc.specs.declared.time_code.Checked.the-variants.{Accepted, Refused}
+use Rattle.codes.specs.declared.time_code.Checked.{Checked}
+use Rattle.codes.specs.declared.time_code.Checked.the-variants.{Accepted, Refused}
 use Rattle.mmc.specs.Length.{lengthOf}
 use Rattle.universal.specs.Refusals.{Refusal, refusalOf}
 use Rattle.universal.specs.Emission.{Emission, sent, check, _then_}

@@ -23,7 +23,7 @@ use Rattle.mmc.specs.Named.{nameFits, lastOf}
 use Rattle.mmc.specs.Part.{part, partOf}
 use Rattle.mmc.specs.Rp013.{Item}
 use Rattle.mmc.specs.Split.{splitAt, Located, Next, next, nextAs}
-use Rattle.mmc.specs.TimeCode.{standardList, shortList, zeroed}
+use Rattle.codes.specs.TimeCode.{standardList, shortList, zeroed}
 use Rattle.universal.specs.Emission.{Emission, sent, _then_}
 use Rattle.universal.specs.Message.{allLow}
 use Rattle.universal.specs.Refusals.{Refusal, refusal, Answer, gives, refused}

@@ -4,12 +4,12 @@ use mathlib.Core.Bool.{cond}
 use lib.Dec.{eqb}
 use Rattle.mmc.specs.declared.command.MmcCommand.{MmcCommand}
 use Rattle.mmc.specs.declared.command.MmcCommand.the-variants.{Stop, Play, DeferredPlay, FastForward, Rewind, RecordStrobe, RecordExit, Pause, Reset, Write, LocateField, LocateTarget, Move, Other}
-use Rattle.mmc.specs.declared.time_code.StandardTimeCode.{StandardTimeCode}
+use Rattle.codes.specs.declared.time_code.StandardTimeCode.{StandardTimeCode}
 use Rattle.mmc.specs.declared.word.NextWord.{NextWord}
 use Rattle.mmc.specs.Length.{within}
 use Rattle.mmc.specs.Split.{Next}
-use Rattle.mmc.specs.TimeCode.{flag, framesByte, finalValue}
-use Rattle.mtc.specs.Time.{hoursByte}
+use Rattle.codes.specs.TimeCode.{flag, framesByte, finalValue}
+use Rattle.labels.specs.Time.{hoursByte}
 use Rattle.universal.specs.Refusals.{Answer, gives, refused}
 
 -- Five bytes as one number, the first lowest.

@@ -4,7 +4,7 @@ use crate::part::Part;
 use crate::split::NextParts;
 use crate::split::PartsAnswer;
 use crate::split::next_parts;
-use crate::time_code::StandardTimeCode;
+use codes::StandardTimeCode;
 use universal::SysexError;
 ghost use mathlib.Core.Path.{_≡_};
 ghost use Prim.Native.Nat.{_<_, _≤_};

@@ -1,4 +1,4 @@
-// MIDI Machine Control (RP-013): time code fields, command and field strings, read and written.
+// MIDI Machine Control (RP-013): command and field strings, read and written, over the time code fields of `codes`.
 mod command;
 mod field;
 mod item;
@@ -7,10 +7,19 @@ mod message;
 mod named;
 mod part;
 mod split;
-mod time_code;
 mod word;
 mod write;
 
+pub use codes::Checked;
+pub use codes::FinalByte;
+pub use codes::MaybeName;
+pub use codes::ShortBytes;
+pub use codes::ShortTimeCode;
+pub use codes::StandardBytes;
+pub use codes::StandardTimeCode;
+pub use codes::TimeCodeStatus;
+pub use codes::full_name;
+pub use codes::short_name;
 pub use command::CommandAnswer;
 pub use command::MmcCommand;
 pub use command::NextCommand;
@@ -26,16 +35,6 @@ pub use length::field_length;
 pub use message::MmcMessage;
 pub use message::ReadMmcMessage;
 pub use part::Part;
-pub use time_code::Checked;
-pub use time_code::FinalByte;
-pub use time_code::MaybeName;
-pub use time_code::ShortBytes;
-pub use time_code::ShortTimeCode;
-pub use time_code::StandardBytes;
-pub use time_code::StandardTimeCode;
-pub use time_code::TimeCodeStatus;
-pub use time_code::full_name;
-pub use time_code::short_name;
 pub use word::NextWord;
 pub use word::next_word;
 pub use write::Writer;

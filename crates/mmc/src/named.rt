@@ -2,7 +2,7 @@
 use crate::length::Kind;
 use crate::length::Length;
 use crate::length::length_of;
-use crate::time_code::Checked;
+use codes::Checked;
 use universal::SysexError;
 use universal::all_low;
 use universal::put;

@@ -4,7 +4,7 @@ use crate::part::Part;
 use crate::split::NextParts;
 use crate::split::PartsAnswer;
 use crate::split::next_parts;
-use crate::time_code::TimeCodeStatus;
+use codes::TimeCodeStatus;
 use universal::SysexError;
 ghost use mathlib.Core.Path.{_≡_};
 ghost use Prim.Native.Nat.{_≤_, _<_, _+_};
@@ -14,7 +14,7 @@ ghost use Rattle.mmc.specs.declared.command.MmcCommand.the-variants.{Oth
 ghost use Rattle.mmc.specs.Command.{readCommand, readLocate, readMove, located, nextCommand};
 ghost use Rattle.mmc.specs.declared.length.Length.the-variants.{Count};
 ghost use Rattle.mmc.specs.Length.{commandLength};
-ghost use Rattle.mmc.specs.TimeCode.{readFinal, finalValue, readStandard};
+ghost use Rattle.codes.specs.TimeCode.{readFinal, finalValue, readStandard};
 ghost use Rattle.mmc.specs.Word.{codeWord, withBytes, commandWord, nextWord, plainName, shortWord};
 
 // A command or a refusal, and the place to read on from. The lowest byte is the case of `MmcCommand`, 0 to 13 in its order, or

@@ -1,5 +1,5 @@
 -- The generator: what its proofs cite. Assumes nothing.
-use Prim.Native.Nat.{ℕ, _≤_, _<_}
+use Prim.Native.Nat.{ℕ, _+_, _%_, _≤_, _<_}
 use mathlib.Core.Bool.{Bool, true, false, cond}
 use mathlib.Core.Path.{_≡_, _∙_}
 use native.Mathlib.Omega.{arith}
@@ -8,7 +8,7 @@ use lib.Dec.{lit≤}
 use lib.ListN.{getD}
 use Rattle.mtc.specs.QuarterFrame.{pieces}
 use Rattle.mtc.specs.Generator.{known, pieceNext, timeNext, sentAt, nextByteOf, nextByte, afterNextByte}
-use Rattle.mtc.specs.declared.time.MtcTime.{MtcTime}
+use Rattle.labels.specs.declared.time.MtcTime.{MtcTime}
 use Rattle.mtc.specs.declared.generator.Direction.{Direction}
 use Rattle.mtc.specs.declared.generator.Direction.the-variants.{Forward, Reverse}
 use Rattle.mtc.specs.declared.generator.MaybePiece.{MaybePiece}
@@ -69,3 +69,12 @@ sends-known g h = go (g .running)
     go : (b : Bool) → known (cond b next g .last) ≡ cond b next g .last
     go true = rw (le-leb p 7 (next-small (g .direction) (known (g .last))))
     go false = h
+
+-- ---- the piece after one
+
+-- The piece after one, of the last three bits alone.
+pub next-forward : (l : ℕ) → (l % 8 + 1) % 8 ≡ (l + 1) % 8
+next-forward l = omega arith
+
+pub next-reverse : (l : ℕ) → (l % 8 + 7) % 8 ≡ (l + 7) % 8
+next-reverse l = omega arith

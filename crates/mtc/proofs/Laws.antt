@@ -1,14 +1,12 @@
--- The laws that readers and upper crates cite: counts, labels and moves on every input, and what they mean by SMPTE ST 12-1;
--- quarter frames, the full message and user bits, and what they mean by RP-004/008; the stream law. Assumes nothing.
-use Prim.Native.Nat.{ℕ, _+_, _*_, _%_, _≤_, _<_}
+-- The laws that readers and upper crates cite: quarter frames, the full message and user bits, and what they mean by RP-004/008;
+-- the stream law. Assumes nothing.
+use Prim.Native.Nat.{ℕ}
 use mathlib.Core.Path.{_≡_, refl}
-use mathlib.Core.Bool.{false}
 use mathlib.Core.List.{List, [], _∷_, _++_, map}
 use lib.Dec.{T}
-use lib.IntN.{ℤ, pos, _+ℤ_}
-use Rattle.mtc.specs.declared.time.MtcTime.{MtcTime}
-use Rattle.mtc.specs.declared.time.TimeCodeType.{TimeCodeType}
-use Rattle.mtc.specs.declared.time.TimeCodeType.the-variants.{Fps30Drop}
+use Rattle.labels.specs.St12.{isValid}
+use Rattle.labels.specs.Time.{addFrames}
+use Rattle.labels.specs.declared.time.MtcTime.{MtcTime}
 use Rattle.mtc.specs.declared.generator.Direction.{Direction}
 use Rattle.mtc.specs.declared.generator.MtcGenerator.{MtcGenerator}
 use Rattle.mtc.specs.declared.reader.MaybeSequence.the-variants.{Sequence}
@@ -19,105 +17,22 @@ use Rattle.mtc.specs.Generator.{move}
 use Rattle.mtc.specs.QuarterFrame.{pieces}
 use Rattle.mtc.specs.Reader.{fresh, isSound, reported, afterByte, eventOf}
 use Rattle.mtc.specs.Rp004.{InWidths, dataBytes, MovesTo}
-use Rattle.mtc.specs.St12.{label, isSkipped, isValid, LeastAbove, countBefore, labelsOfDay, labelAfter}
-use Rattle.mtc.specs.Time.{dayOf, formula, frameCount, labelAt, addFrames, nextValid}
 use Rattle.mtc.specs.Stream.{Call, afterCall, afterCalls, events, sent, runFrom, inOrder, StreamLaw, SentLaw}
-use Rattle.mtc.proofs.After
-use Rattle.mtc.proofs.Counts
-use Rattle.mtc.proofs.DayCount
 -- A generator's next byte, running and stopped.
 pub use Rattle.mtc.proofs.Generators.{sends, stops}
 -- A sound reader's bounds, what keeps it sound, and what it does with the next piece in its direction.
 pub use Rattle.mtc.proofs.InOrder.{sound-by, Bounds, bounds, next-piece, sequence-of}
 pub use Rattle.mtc.proofs.Sound.{Sound, as-is, byte-sound}
-use Rattle.mtc.proofs.Moving
 -- Full messages and user bits: written bytes are RP-004/008's, a buffer that fits or is short, what is written reads back, and
 -- reading accepts the practice's layouts and no other.
 pub use Rattle.mtc.proofs.Messages.{full-message-bytes, full-message-fits, full-message-short, full-message-back, full-message-layout, full-message-reads, group-bytes, user-bits-bytes, user-bits-fits, user-bits-short, user-bits-back, user-bits-layout, user-bits-reads}
-use Rattle.mtc.proofs.Order
 use Rattle.mtc.proofs.QuarterFrames
 use Rattle.mtc.proofs.QuarterFrames.{Sequences}
 use Rattle.mtc.proofs.Rounds.{silent}
 use Rattle.mtc.proofs.Sending
 use Rattle.mtc.proofs.Streams
-use Rattle.mtc.proofs.Validity
-
--- ---- counts and labels
-
--- The count of the label of n is n modulo the day.
-pub count-of-label : (n : ℕ) (r : TimeCodeType) → frameCount (labelAt n r) ≡ n % dayOf r
-count-of-label = Counts.count-of-label
-
--- The label of a valid label's count is that label.
-pub label-of-count : (t : MtcTime) → T (isValid t) → labelAt (frameCount t) (t .rate) ≡ t
-label-of-count = Counts.label-of-count
-
--- Every label of a count is valid.
-pub label-valid : (n : ℕ) (r : TimeCodeType) → T (isValid (labelAt n r))
-label-valid = Counts.label-valid
-
--- Any label counts by the formula, reduced by the day.
-pub count-by-formula : (t : MtcTime)
-    → frameCount t ≡ formula (t .rate) (t .hours * 60 + t .minutes) (t .seconds) (t .frames) % dayOf (t .rate)
-unfolding frameCount
-count-by-formula t = refl
-
--- The skipped label 00:01:00;00 counts as 00:00:59;28 does.
-pub skipped-counts : frameCount (label Fps30Drop 0 1 0 0) ≡ frameCount (label Fps30Drop 0 0 59 28)
-unfolding frameCount
-skipped-counts = refl
-
--- ---- moves
-
--- Every move ends on a valid label.
-pub moved-valid : (t : MtcTime) (z : ℤ) → T (isValid (addFrames t z))
-moved-valid = Moving.moved-valid
-
--- A move keeps the rate.
-pub moved-rate : (t : MtcTime) (z : ℤ) → addFrames t z .rate ≡ t .rate
-moved-rate = Moving.moved-rate
-
--- Moving by a and then b is moving by a + b.
-pub moved-by-sum : (t : MtcTime) (a b : ℤ) → addFrames (addFrames t a) b ≡ addFrames t (a +ℤ b)
-moved-by-sum = Moving.moved-by-sum
-
--- Moving by 0 keeps a valid label.
-pub moved-by-none : (t : MtcTime) → T (isValid t) → addFrames t (pos 0) ≡ t
-moved-by-none = Moving.moved-by-none
-
--- ---- by ST 12-1
-
--- On valid labels the reference count is ST 12-1's.
-pub count-is-practice : (t : MtcTime) → T (isValid t) → frameCount t ≡ countBefore t
-count-is-practice = DayCount.count-is-practice
-
--- Each day has 2,073,600, 2,160,000, 2,589,408 or 2,592,000 labels.
-pub labels-of-day : (r : TimeCodeType) → labelsOfDay r ≡ dayOf r
-labels-of-day = DayCount.labels-of-day
-
--- Moving by 1 is ST 12-1's label after.
-pub moved-by-one : (t : MtcTime) → T (isValid t) → addFrames t (pos 1) ≡ labelAfter t
-moved-by-one = After.moved-by-one
-
--- A skipped label with hours and minutes in range moves to the least valid label above it.
-pub next-valid-least : (t : MtcTime) → T (isSkipped t) → t .hours ≤ 23 → t .minutes ≤ 59 → LeastAbove t (nextValid t)
-next-valid-least = Order.next-valid-least
-
--- A label that isn't skipped stays.
-pub next-valid-same : (t : MtcTime) → isSkipped t ≡ false → nextValid t ≡ t
-next-valid-same = Order.next-valid-same
-
--- So does a valid label, which is none of the skipped.
-pub next-valid-valid : (t : MtcTime) → T (isValid t) → nextValid t ≡ t
-next-valid-valid t v = Order.next-valid-same t (Validity.valid-facts t v .kept)
-
 -- A valid label's numbers fit their widths.
-pub valid-widths : (t : MtcTime) → T (isValid t) → InWidths t
-valid-widths = Validity.valid-widths
-
--- 00:00:00:00 is a label of every rate.
-pub zero-valid : (r : TimeCodeType) → T (isValid (label r 0 0 0 0))
-zero-valid = Validity.zero-valid
+pub use Rattle.mtc.proofs.Widths.{valid-widths}
 
 -- ---- quarter frames, by RP-004/008
 

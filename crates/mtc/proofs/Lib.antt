@@ -1,25 +1,16 @@
-mod After
-mod Counts
-mod DayCount
-mod Distance
 mod Generators
 mod Groups
 mod InOrder
 pub mod Laws
 mod Messages
-mod Moving
 mod Nibbles
-mod Order
 mod QuarterFrames
-mod Rates
 mod Readers
 mod Reading
 mod Rounds
 mod Sending
 mod Shapes
-mod Short
 mod Sound
 mod Streams
-mod Sums
-mod Validity
+mod Widths
 mod Writing

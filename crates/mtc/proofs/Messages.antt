@@ -14,21 +14,21 @@ use Rattle.universal.specs.Emission.{Emission, sent, answer}
 use Rattle.universal.specs.Message.{allLow, message}
 use Rattle.universal.specs.Refusals.{tooSmall, gives, refused}
 use Rattle.universal.proofs.Laws.{answer-fits, answer-short, all-low-cons, all-low-none, opening-with-sub-id2, message-whole}
-use Rattle.mtc.specs.St12.{isValid}
-use Rattle.mtc.specs.Time.{bitsOf, typeOf, rawTime, hoursByte}
+use Rattle.labels.specs.St12.{isValid}
+use Rattle.labels.specs.Time.{bitsOf, typeOf, rawTime, hoursByte}
 use Rattle.mtc.specs.Rp004Messages.{Groups, yy, hr, fullMessageBytes, userBitsBytes, fourBytes}
 use Rattle.mtc.specs.Kind.{timeCode, isTimeCode, partsOf, dataOf, ReadsOnly}
 use Rattle.mtc.specs.FullMessage.{fullMessage, receivedFull, fullMessageFrom, fullData, fullMessageWritten}
 use Rattle.mtc.specs.UserBits.{userBits, receivedBits, userBitsFrom, allNibbles, userBitsWritten, groupBytes, groupsOf}
 use Rattle.mtc.specs.declared.full_message.FullMessage.{FullMessage}
-use Rattle.mtc.specs.declared.time.MtcTime.{MtcTime}
-use Rattle.mtc.specs.declared.time.TimeCodeType.{TimeCodeType}
-use Rattle.mtc.specs.declared.time.TimeCodeType.the-variants.{Fps24, Fps25, Fps30Drop, Fps30}
+use Rattle.labels.specs.declared.time.MtcTime.{MtcTime}
+use Rattle.labels.specs.declared.time.TimeCodeType.{TimeCodeType}
+use Rattle.labels.specs.declared.time.TimeCodeType.the-variants.{Fps24, Fps25, Fps30Drop, Fps30}
 use Rattle.mtc.specs.declared.user_bits.UserBits.{UserBits}
 use Rattle.mtc.proofs.Groups.{eight, nibble-below, data-low}
-use Rattle.mtc.proofs.Rates.{fps-small}
+use Rattle.labels.proofs.Laws.{fps-small}
 use Rattle.mtc.proofs.Reading.{reads-only}
-use Rattle.mtc.proofs.Validity.{InRange, valid-facts}
+use Rattle.labels.proofs.Laws.{InRange, valid-facts}
 use Rattle.mtc.proofs.Writing.{checks-passed}
 
 holds : (b : Bool) → T b → b ≡ true

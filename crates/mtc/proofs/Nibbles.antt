@@ -1,17 +1,18 @@
 -- Quarter frames: a label's data bytes read as pieces and values, and put together again. Assumes nothing.
-use Prim.Native.Nat.{ℕ, _+_, _*_, _/_, _%_, _≤_, _<_}
+use Prim.Native.Nat.{ℕ, zero, suc, _+_, _*_, _/_, _%_, _≤_, _<_}
 use mathlib.Core.List.{List, [], _∷_, map}
 use mathlib.Core.Path.{_≡_, refl, ap₂}
 use native.Mathlib.Omega.{arith}
 use lib.Dec.{lit≤, lit<}
+use lib.ListN.{getD}
 use Rattle.mtc.specs.Generator.{first}
 use Rattle.mtc.specs.QuarterFrame.{pieceOf, valueOf, pieces}
 use Rattle.mtc.specs.Reader.{rawOf}
 use Rattle.mtc.specs.Stream.{inOrder}
-use Rattle.mtc.specs.Time.{bitsOf, typeOf}
-use Rattle.mtc.specs.declared.time.MtcTime.{MtcTime}
-use Rattle.mtc.specs.declared.time.TimeCodeType.{TimeCodeType}
-use Rattle.mtc.specs.declared.time.TimeCodeType.the-variants.{Fps24, Fps25, Fps30Drop, Fps30}
+use Rattle.labels.specs.Time.{bitsOf, typeOf}
+use Rattle.labels.specs.declared.time.MtcTime.{MtcTime}
+use Rattle.labels.specs.declared.time.TimeCodeType.{TimeCodeType}
+use Rattle.labels.specs.declared.time.TimeCodeType.the-variants.{Fps24, Fps25, Fps30Drop, Fps30}
 use Rattle.mtc.specs.declared.generator.Direction.{Direction}
 use Rattle.mtc.specs.declared.generator.Direction.the-variants.{Forward, Reverse}
 use Rattle.mtc.specs.Rp004.{InWidths}
@@ -154,3 +155,17 @@ raw-values t w =
     let es : (t .seconds % 16 + t .seconds / 16 % 4 * 16) % 64 ≡ t .seconds = omega (arith, w .seconds) in
     let ef : (t .frames % 16 + t .frames / 16 % 2 * 16) % 32 ≡ t .frames = omega (arith, w .frames) in
     rw (eh, er, em, es, ef, type-of-bits (t .rate))
+
+-- ---- one piece of eight
+
+-- Past the eighth of eight there is nothing.
+pub past-eight : (a b c d e f g h : ℕ) → (p : ℕ) → (p ≡ 0 → ⊥) → (p ≡ 1 → ⊥) → (p ≡ 2 → ⊥) → (p ≡ 3 → ⊥) → (p ≡ 4 → ⊥) → (p ≡ 5 → ⊥) → (p ≡ 6 → ⊥) → (p ≡ 7 → ⊥) → 0 ≡ getD (a ∷ b ∷ c ∷ d ∷ e ∷ f ∷ g ∷ h ∷ []) p 0
+past-eight a b c d e f g h zero n0 n1 n2 n3 n4 n5 n6 n7 = absurd (n0 refl)
+past-eight a b c d e f g h (suc zero) n0 n1 n2 n3 n4 n5 n6 n7 = absurd (n1 refl)
+past-eight a b c d e f g h (suc (suc zero)) n0 n1 n2 n3 n4 n5 n6 n7 = absurd (n2 refl)
+past-eight a b c d e f g h (suc (suc (suc zero))) n0 n1 n2 n3 n4 n5 n6 n7 = absurd (n3 refl)
+past-eight a b c d e f g h (suc (suc (suc (suc zero)))) n0 n1 n2 n3 n4 n5 n6 n7 = absurd (n4 refl)
+past-eight a b c d e f g h (suc (suc (suc (suc (suc zero))))) n0 n1 n2 n3 n4 n5 n6 n7 = absurd (n5 refl)
+past-eight a b c d e f g h (suc (suc (suc (suc (suc (suc zero)))))) n0 n1 n2 n3 n4 n5 n6 n7 = absurd (n6 refl)
+past-eight a b c d e f g h (suc (suc (suc (suc (suc (suc (suc zero))))))) n0 n1 n2 n3 n4 n5 n6 n7 = absurd (n7 refl)
+past-eight a b c d e f g h (suc (suc (suc (suc (suc (suc (suc (suc n)))))))) n0 n1 n2 n3 n4 n5 n6 n7 = refl

@@ -11,12 +11,12 @@ use Rattle.mtc.specs.Generator.{move}
 use Rattle.mtc.specs.QuarterFrame.{pieces}
 use Rattle.mtc.specs.Reader.{fresh, sameTime, reported, orderOf, numberOf, sequenceOf, reportOf, afterPiece}
 use Rattle.mtc.specs.Rp004.{typeCode, InWidths, dataBytes, sequence, MovesTo}
-use Rattle.mtc.specs.St12.{isValid, labelAfter}
+use Rattle.labels.specs.St12.{isValid, labelAfter}
 use Rattle.mtc.specs.Stream.{runFrom, sent, events, inOrder}
-use Rattle.mtc.specs.Time.{addFrames, bitsOf, typeOf}
-use Rattle.mtc.specs.declared.time.MtcTime.{MtcTime}
-use Rattle.mtc.specs.declared.time.TimeCodeType.{TimeCodeType}
-use Rattle.mtc.specs.declared.time.TimeCodeType.the-variants.{Fps24, Fps25, Fps30Drop, Fps30}
+use Rattle.labels.specs.Time.{addFrames, bitsOf, typeOf}
+use Rattle.labels.specs.declared.time.MtcTime.{MtcTime}
+use Rattle.labels.specs.declared.time.TimeCodeType.{TimeCodeType}
+use Rattle.labels.specs.declared.time.TimeCodeType.the-variants.{Fps24, Fps25, Fps30Drop, Fps30}
 use Rattle.mtc.specs.declared.generator.Direction.{Direction}
 use Rattle.mtc.specs.declared.generator.Direction.the-variants.{Forward, Reverse}
 use Rattle.mtc.specs.declared.generator.MtcGenerator.{MtcGenerator}
@@ -24,9 +24,9 @@ use Rattle.mtc.specs.declared.reader.MaybeSequence.the-variants.{Sequenc
 use Rattle.mtc.specs.declared.reader.MaybeTime.the-variants.{NoTime}
 use Rattle.mtc.specs.declared.reader.MtcEvent.{MtcEvent}
 use Rattle.mtc.proofs.Nibbles.{Values, numbered, assembled, values, split-pieces, type-of-bits, raw-values}
-use Rattle.mtc.proofs.After.{moved-by-one}
-use Rattle.mtc.proofs.Moving.{moved-valid, moved-by-sum, moved-by-none}
-use Rattle.mtc.proofs.Validity.{valid-widths}
+use Rattle.labels.proofs.Laws.{moved-by-one}
+use Rattle.labels.proofs.Laws.{moved-valid, moved-by-sum, moved-by-none}
+use Rattle.mtc.proofs.Widths.{valid-widths}
 use Rattle.mtc.proofs.Rounds.{run, silent}
 use Rattle.mtc.proofs.Sending.{later, sends-three}
 use Rattle.mtc.proofs.Streams.{reports-run, fresh-sound}

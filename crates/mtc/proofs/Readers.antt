@@ -13,8 +13,8 @@ use lib.ListN.{getD, set}
 use Rattle.mtc.specs.Generator.{first, after, move}
 use Rattle.mtc.specs.QuarterFrame.{fromByte}
 use Rattle.mtc.specs.Reader.{nibblesFit, pieceFits, isSound, taken, fresh, Control, control, found, ordered, outOfOrder, orderOf, starts, numberOf, passed, stored, completed, sequenceOf, readerBy, reportBy, eventWith, rawOf, directionOf, reported, sameTime, jumps, afterPiece, reportOf, afterByte, eventOf}
-use Rattle.mtc.specs.Time.{addFrames, bitsOf}
-use Rattle.mtc.specs.declared.time.MtcTime.{MtcTime}
+use Rattle.labels.specs.Time.{addFrames, bitsOf}
+use Rattle.labels.specs.declared.time.MtcTime.{MtcTime}
 use Rattle.mtc.specs.declared.generator.Direction.{Direction}
 use Rattle.mtc.specs.declared.generator.MaybePiece.{MaybePiece}
 use Rattle.mtc.specs.declared.generator.MaybePiece.the-variants.{NoPiece, Piece}

@@ -17,7 +17,7 @@ use Rattle.universal.specs.declared.error.SysexError.the-variants.{Length}
 use Rattle.mtc.specs.Kind.{timeCode, isSubId2, isTimeCode, readKind, ReadsOnly}
 use Rattle.mtc.specs.FullMessage.{fullMessage, receivedFull, fullMessageFrom}
 use Rattle.mtc.specs.UserBits.{answerWith, readUserBitsOf, noBits, bitsIn, receivedBits, userBitsFrom}
-use Rattle.mtc.specs.declared.time.MtcTime.{MtcTime}
+use Rattle.labels.specs.declared.time.MtcTime.{MtcTime}
 use Rattle.mtc.specs.declared.user_bits.UserBits.{UserBits}
 use Rattle.mtc.specs.declared.user_bits.UserBitsAnswer.the-variants.{NotThis, Refused}
 use Rattle.mtc.specs.declared.user_bits.ReadUserBits.{ReadUserBits}

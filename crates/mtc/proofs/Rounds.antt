@@ -8,7 +8,7 @@ use native.Mathlib.Omega.{arith}
 use lib.ListN.{length, set, replicate}
 use Rattle.mtc.specs.Generator.{first, final}
 use Rattle.mtc.specs.Reader.{offset, reported, orderOf, numberOf, sequenceOf, afterPiece, reportOf}
-use Rattle.mtc.specs.Time.{addFrames}
+use Rattle.labels.specs.Time.{addFrames}
 use Rattle.mtc.specs.declared.generator.Direction.{Direction}
 use Rattle.mtc.specs.declared.generator.Direction.the-variants.{Forward, Reverse}
 use Rattle.mtc.specs.declared.generator.MaybePiece.{MaybePiece}

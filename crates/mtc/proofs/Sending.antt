@@ -6,12 +6,12 @@ use mathlib.Core.Path.{_≡_, refl, _∙_}
 use Rattle.mtc.specs.Generator.{move, nextByte, afterNextByte}
 use Rattle.mtc.specs.QuarterFrame.{pieces}
 use Rattle.mtc.specs.Stream.{runFrom, sent, inOrder, SentLaw}
-use Rattle.mtc.specs.Time.{addFrames}
-use Rattle.mtc.specs.declared.time.MtcTime.{MtcTime}
+use Rattle.labels.specs.Time.{addFrames}
+use Rattle.labels.specs.declared.time.MtcTime.{MtcTime}
 use Rattle.mtc.specs.declared.generator.Direction.{Direction}
 use Rattle.mtc.specs.declared.generator.Direction.the-variants.{Forward, Reverse}
 use Rattle.mtc.specs.declared.generator.MtcGenerator.{MtcGenerator}
-use Rattle.mtc.proofs.Moving.{moved-by-sum}
+use Rattle.labels.proofs.Laws.{moved-by-sum}
 
 -- The time of the sequence after that of a time.
 abbrev pub later : Direction → MtcTime → MtcTime

@@ -7,7 +7,7 @@ use lib.Dec.{T, eqb, le→leb}
 use lib.ListN.{length, length-set}
 use Rattle.mtc.specs.QuarterFrame.{pieceOf, valueOf}
 use Rattle.mtc.specs.Reader.{isSound, taken, control, orderOf, numberOf, passed, stored, completed, informed, afterPiece, reportOf, afterByte, eventOf, afterFullMessage}
-use Rattle.mtc.specs.declared.time.MtcTime.{MtcTime}
+use Rattle.labels.specs.declared.time.MtcTime.{MtcTime}
 use Rattle.mtc.specs.declared.reader.MtcReader.{MtcReader}
 use Rattle.mtc.specs.declared.reader.Order.{Order}
 use Rattle.mtc.proofs.Readers.{fit-set, sound, sound-first, sound-nibbles, taken-sound}

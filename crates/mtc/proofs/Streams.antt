@@ -12,10 +12,10 @@ use Rattle.mtc.specs.Generator.{first, move}
 use Rattle.mtc.specs.QuarterFrame.{pieceOf, pieces}
 use Rattle.mtc.specs.Reader.{fresh, isSound, nibblesFit, offset, sameTime, jumps, reported, reportOf, afterPiece, afterByte, afterFullMessage}
 use Rattle.mtc.specs.Rp004.{InWidths}
-use Rattle.mtc.specs.St12.{isValid}
+use Rattle.labels.specs.St12.{isValid}
 use Rattle.mtc.specs.Stream.{Call, byte, full, runFrom, sent, afterCalls, events, newest, lastSeven, report, frames, shifted, reporting, sevenBefore, StreamLaw}
-use Rattle.mtc.specs.Time.{addFrames, bitsOf}
-use Rattle.mtc.specs.declared.time.MtcTime.{MtcTime}
+use Rattle.labels.specs.Time.{addFrames, bitsOf}
+use Rattle.labels.specs.declared.time.MtcTime.{MtcTime}
 use Rattle.mtc.specs.declared.generator.Direction.{Direction}
 use Rattle.mtc.specs.declared.generator.Direction.the-variants.{Forward, Reverse}
 use Rattle.mtc.specs.declared.generator.MtcGenerator.{MtcGenerator}
@@ -25,8 +25,8 @@ use Rattle.mtc.specs.declared.reader.MaybeTime.{MaybeTime}
 use Rattle.mtc.specs.declared.reader.MaybeTime.the-variants.{Time}
 use Rattle.mtc.specs.declared.reader.MtcEvent.{MtcEvent}
 use Rattle.mtc.specs.declared.reader.MtcReader.{MtcReader}
-use Rattle.mtc.proofs.Moving.{moved-valid, moved-by-sum}
-use Rattle.mtc.proofs.Validity.{valid-widths}
+use Rattle.labels.proofs.Laws.{moved-valid, moved-by-sum}
+use Rattle.mtc.proofs.Widths.{valid-widths}
 use Rattle.mtc.proofs.Nibbles.{opening, numbered, assembled, values, split, split-pieces, raw-values}
 use Rattle.mtc.proofs.Rounds.{run, silent, left, left-ready, round, run-first, Eighth, eighth}
 use Rattle.mtc.proofs.Sending.{later, sequence, sends-three}

@@ -13,8 +13,8 @@ use Rattle.universal.specs.Overlay.{overlay}
 use Rattle.universal.specs.Refusals.{refusal, Answer, refused}
 use Rattle.universal.specs.declared.message.Universal.{Universal}
 use Rattle.universal.proofs.Laws.{overlay-none, answer-refused}
-use Rattle.mtc.specs.St12.{isValid}
-use Rattle.mtc.specs.Time.{hoursByte}
+use Rattle.labels.specs.St12.{isValid}
+use Rattle.labels.specs.Time.{hoursByte}
 use Rattle.mtc.specs.Kind.{timeCode, writeKind}
 use Rattle.mtc.specs.FullMessage.{fullData, fullMessageWritten}
 use Rattle.mtc.specs.UserBits.{allNibbles, userBitsWritten}

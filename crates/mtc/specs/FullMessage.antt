@@ -8,13 +8,13 @@ use lib.ListN.{length, getD}
 use Rattle.universal.specs.Emission.{Emission}
 use Rattle.universal.specs.Refusals.{Answer, gives, refused, refusalOf}
 use Rattle.universal.specs.declared.message.Universal.{Universal}
-use Rattle.mtc.specs.St12.{isValid}
-use Rattle.mtc.specs.Time.{rawTime, hoursByte}
+use Rattle.labels.specs.St12.{isValid}
+use Rattle.labels.specs.Time.{rawTime, hoursByte}
 use Rattle.mtc.specs.Kind.{isTimeCode, readKind, writeKind}
 use Rattle.mtc.specs.declared.full_message.FullMessage.{FullMessage}
 use Rattle.mtc.specs.declared.full_message.ReadFullMessage.{ReadFullMessage}
 use Rattle.mtc.specs.declared.full_message.ReadFullMessage.the-variants.{Message, NotThis, Refused}
-use Rattle.mtc.specs.declared.time.MtcTime.{MtcTime}
+use Rattle.labels.specs.declared.time.MtcTime.{MtcTime}
 
 -- ---- reading
 

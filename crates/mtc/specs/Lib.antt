@@ -5,7 +5,5 @@ pub mod QuarterFrame
 pub mod Reader
 pub mod Rp004
 pub mod Rp004Messages
-pub mod St12
 pub mod Stream
-pub mod Time
 pub mod UserBits

@@ -2,8 +2,8 @@
 -- nothing.
 use Prim.Native.Nat.{ℕ, _+_, _*_, _/_, _%_}
 use mathlib.Core.List.{List, [], _∷_}
-use Rattle.mtc.specs.Time.{bitsOf}
-use Rattle.mtc.specs.declared.time.MtcTime.{MtcTime}
+use Rattle.labels.specs.Time.{bitsOf}
+use Rattle.labels.specs.declared.time.MtcTime.{MtcTime}
 use Rattle.mtc.specs.declared.quarter_frame.QuarterFrame.{QuarterFrame}
 
 -- The piece in bits 4 to 6.

@@ -8,8 +8,8 @@ use lib.IntN.{ℤ, pos, negsuc}
 use lib.ListN.{getD, set, replicate}
 use Rattle.mtc.specs.Generator.{first, after, move}
 use Rattle.mtc.specs.QuarterFrame.{pieceOf, valueOf}
-use Rattle.mtc.specs.Time.{addFrames, rawTime, bitsOf}
-use Rattle.mtc.specs.declared.time.MtcTime.{MtcTime}
+use Rattle.labels.specs.Time.{addFrames, rawTime, bitsOf}
+use Rattle.labels.specs.declared.time.MtcTime.{MtcTime}
 use Rattle.mtc.specs.declared.generator.Direction.{Direction}
 use Rattle.mtc.specs.declared.generator.Direction.the-variants.{Forward, Reverse}
 use Rattle.mtc.specs.declared.generator.MaybePiece.{MaybePiece}

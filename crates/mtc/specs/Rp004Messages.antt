@@ -2,9 +2,9 @@
 -- only the label record is used. Left out: quarter frames, and the MTC cueing messages. Assumes nothing.
 use Prim.Native.Nat.{ℕ, _+_, _*_}
 use mathlib.Core.List.{List, [], _∷_}
-use Rattle.mtc.specs.declared.time.MtcTime.{MtcTime}
-use Rattle.mtc.specs.declared.time.TimeCodeType.{TimeCodeType}
-use Rattle.mtc.specs.declared.time.TimeCodeType.the-variants.{Fps24, Fps25, Fps30Drop, Fps30}
+use Rattle.labels.specs.declared.time.MtcTime.{MtcTime}
+use Rattle.labels.specs.declared.time.TimeCodeType.{TimeCodeType}
+use Rattle.labels.specs.declared.time.TimeCodeType.the-variants.{Fps24, Fps25, Fps30Drop, Fps30}
 
 -- ---- the full message, p. 5
 

@@ -12,9 +12,9 @@ use lib.ListN.{length, take, getD}
 use Rattle.mtc.specs.Generator.{nextByte, afterNextByte, located, withDirection, withRunning}
 use Rattle.mtc.specs.QuarterFrame.{pieceOf, pieces}
 use Rattle.mtc.specs.Reader.{fresh, afterByte, eventOf, afterFullMessage}
-use Rattle.mtc.specs.St12.{isValid}
-use Rattle.mtc.specs.Time.{addFrames}
-use Rattle.mtc.specs.declared.time.MtcTime.{MtcTime}
+use Rattle.labels.specs.St12.{isValid}
+use Rattle.labels.specs.Time.{addFrames}
+use Rattle.labels.specs.declared.time.MtcTime.{MtcTime}
 use Rattle.mtc.specs.declared.generator.Direction.{Direction}
 use Rattle.mtc.specs.declared.generator.Direction.the-variants.{Forward, Reverse}
 use Rattle.mtc.specs.declared.generator.MtcGenerator.{MtcGenerator}

@@ -2,7 +2,7 @@
 use crate::kind::FULL_MESSAGE;
 use crate::kind::is_time_code;
 use crate::kind::time_code;
-use crate::time::MtcTime;
+use labels::MtcTime;
 use universal::SysexError;
 use universal::Universal;
 use universal::Written;

@@ -1,14 +1,14 @@
 // The quarter frame generator: pieces 0 to 7 forward and 7 to 0 in reverse. Each sequence encodes the frame that starts at
 // its piece 0, and the time moves two frames for each sequence (RP-004/008, p. 3).
 use crate::quarter_frame::QuarterFrame;
-use crate::time::MtcTime;
+use labels::MtcTime;
 use universal::SysexError;
 ghost use mathlib.Core.Path.{_≡_};
 ghost use Prim.Native.Nat.{_≤_};
 ghost use lib.ListN.{getD};
 ghost use Rattle.universal.specs.Refusals.{gives};
 ghost use Rattle.mtc.specs.QuarterFrame.{pieces};
-ghost use Rattle.mtc.specs.Time.{addFrames};
+ghost use Rattle.labels.specs.Time.{addFrames};
 ghost use Rattle.mtc.specs.Generator.{first, after, final, move, moved, started, nextByteOf, nextByte, afterNextByte, sentAt, withRunning, withDirection, located};
 
 // The direction of a sequence.

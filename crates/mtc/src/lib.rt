@@ -1,11 +1,10 @@
-// MIDI Time Code (RP-004/RP-008): labels with the time arithmetic of SMPTE ST 12-1, quarter frames with their generator and
-// reader, the full message and user bits.
+// MIDI Time Code (RP-004/RP-008): quarter frames with their generator and reader, the full message and user bits, over the labels
+// of `labels`.
 mod full_message;
 mod generator;
 mod kind;
 mod quarter_frame;
 mod reader;
-mod time;
 mod user_bits;
 
 pub use full_message::FullMessage;
@@ -15,6 +14,9 @@ pub use generator::MaybePiece;
 pub use generator::MtcGenerator;
 pub use generator::NextByte;
 pub use generator::Sent;
+pub use labels::MtcTime;
+pub use labels::NewTime;
+pub use labels::TimeCodeType;
 pub use quarter_frame::QuarterFrame;
 pub use reader::MaybeDirection;
 pub use reader::MaybeSequence;
@@ -25,9 +27,6 @@ pub use reader::MtcSequence;
 pub use reader::Stepped;
 pub use reader::event;
 pub use reader::report;
-pub use time::MtcTime;
-pub use time::NewTime;
-pub use time::TimeCodeType;
 pub use user_bits::ReadUserBits;
 pub use user_bits::UserBits;
 pub use user_bits::UserBitsAnswer;

@@ -1,6 +1,6 @@
 // The data byte of the quarter frame message F1H: 0nnn dddd, piece nnn and value dddd (RP-004/008, p. 1), and the eight
 // data bytes of a label (p. 2).
-use crate::time::MtcTime;
+use labels::MtcTime;
 ghost use mathlib.Core.Path.{_≡_};
 ghost use lib.ListN.{getD};
 ghost use Rattle.mtc.specs.QuarterFrame.{fromByte, toByte, pieces};

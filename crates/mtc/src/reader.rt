@@ -4,12 +4,12 @@ use crate::full_message::FullMessage;
 use crate::generator::Direction;
 use crate::generator::MaybePiece;
 use crate::quarter_frame::QuarterFrame;
-use crate::time::MtcTime;
+use labels::MtcTime;
 ghost use mathlib.Core.Path.{_≡_};
 ghost use Prim.Native.Nat.{_≤_};
 ghost use mathlib.Core.Bool.{cond};
 ghost use lib.Dec.{T, eqb};
-ghost use Rattle.mtc.specs.Time.{addFrames};
+ghost use Rattle.labels.specs.Time.{addFrames};
 ghost use Rattle.mtc.specs.Reader.{fresh, nibblesFit, pieceFits, isSound, taken, control, ordered, found, outOfOrder, orderOf, starts, numberOf, rawOf, offset, directionOf, sameTime, jumps, reported, sequenceOf, completed, taking, passed, stored, eventWith, afterByte, eventOf, afterFullMessage};
 
 // A direction, or none yet.

@@ -2,14 +2,14 @@
 use crate::case::WRONG;
 use crate::case::byte_at;
 use crate::case::number_at;
-use crate::codes::code;
-use crate::labels::label;
 use crate::messages::message;
 use crate::quarter_frames::generated;
 use crate::quarter_frames::heard;
 use crate::quarter_frames::piece;
 use crate::strings::next;
 use crate::tally::add;
+use crate::time_codes::code;
+use crate::times::label;
 use crate::writers::written;
 
 // The input bytes of a call, where they are a fixed number; 65535 for an unknown call.

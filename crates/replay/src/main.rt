@@ -1,13 +1,13 @@
 // Replays the stored sample of the published Rust's answers through the public calls, and writes a line for each call.
 mod calls;
 mod case;
-mod codes;
-mod labels;
 mod line;
 mod messages;
 mod quarter_frames;
 mod strings;
 mod tally;
+mod time_codes;
+mod times;
 mod writers;
 
 use crate::tally::report;

@@ -7,12 +7,12 @@ use lib.Dec.{T}
 use borrow.Author.Tests.{le-leb, lt-leb}
 use Rattle.mmc.specs.declared.command.MmcCommand.{MmcCommand}
 use Rattle.mmc.specs.declared.command.MmcCommand.the-variants.{LocateTarget}
-use Rattle.mmc.specs.declared.time_code.StandardTimeCode.{StandardTimeCode}
-use Rattle.mtc.specs.St12.{isSkipped, isValid, LeastAbove}
-use Rattle.mtc.specs.Time.{nextValid}
+use Rattle.codes.specs.declared.time_code.StandardTimeCode.{StandardTimeCode}
+use Rattle.labels.specs.St12.{isSkipped, isValid, LeastAbove}
+use Rattle.labels.specs.Time.{nextValid}
 use Rattle.mtc.specs.declared.generator.MtcGenerator.{MtcGenerator}
-use Rattle.mtc.specs.declared.time.MtcTime.{MtcTime}
-use Rattle.mtc.proofs.Laws.{next-valid-valid, next-valid-least}
+use Rattle.labels.specs.declared.time.MtcTime.{MtcTime}
+use Rattle.labels.proofs.Laws.{next-valid-valid, next-valid-least}
 use Rattle.universal.specs.Message.{isAddressed}
 use Rattle.universal.specs.Refusals.{gives}
 use Rattle.transport.specs.Transport.{resolved, Outcome, notMine, unchanged, locatedAt, acted, applied}

@@ -14,18 +14,18 @@ use Rattle.mmc.specs.declared.command.MmcCommand.{MmcCommand}
 use Rattle.mmc.specs.declared.command.MmcCommand.the-variants.{LocateTarget, Play}
 use Rattle.mmc.specs.declared.length.Kind.the-variants.{Commands}
 use Rattle.mmc.specs.declared.message.MmcMessage.the-variants as M
-use Rattle.mmc.specs.declared.time_code.StandardTimeCode.{StandardTimeCode}
+use Rattle.codes.specs.declared.time_code.StandardTimeCode.{StandardTimeCode}
 use Rattle.mmc.specs.Message.{messageFrom}
 use Rattle.mmc.specs.Strings.{Given, Walk, emissions, meanings, pairsOf, commandsRead}
-use Rattle.mmc.specs.TimeCode.{writtenLabel, zeroed}
+use Rattle.codes.specs.TimeCode.{writtenLabel, zeroed}
 use Rattle.mmc.specs.Writings.{stringAnswer}
 use Rattle.mmc.proofs.StringLaws.{list-accepted, written-reads-back, locate-play-back, commands-message}
 use Rattle.mmc.proofs.WritingLaws.{WrittenWhole, string-written}
-use Rattle.mtc.specs.St12.{isValid}
+use Rattle.labels.specs.St12.{isValid}
 use Rattle.mtc.specs.Stream.{Call, runFrom}
 use Rattle.mtc.specs.declared.generator.Direction.the-variants.{Forward, Reverse}
 use Rattle.mtc.specs.declared.generator.MtcGenerator.{MtcGenerator}
-use Rattle.mtc.specs.declared.time.MtcTime.{MtcTime}
+use Rattle.labels.specs.declared.time.MtcTime.{MtcTime}
 use Rattle.mtc.proofs.Laws.{stream-law}
 use Rattle.universal.specs.Message.{isAddressed}
 use Rattle.universal.specs.Refusals.{refusal, Answer, gives}

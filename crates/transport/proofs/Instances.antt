@@ -5,8 +5,8 @@ use Prim.Native.Nat.{ℕ, suc}
 use mathlib.Core.Path.{_≡_, refl}
 use mathlib.Core.List.{List, [], _∷_, _++_, map, reverse}
 use lib.IntN.{pos}
-use Rattle.mtc.specs.declared.time.MtcTime.{MtcTime}
-use Rattle.mtc.specs.declared.time.TimeCodeType.the-variants.{Fps30Drop, Fps30, Fps25}
+use Rattle.labels.specs.declared.time.MtcTime.{MtcTime}
+use Rattle.labels.specs.declared.time.TimeCodeType.the-variants.{Fps30Drop, Fps30, Fps25}
 use Rattle.mtc.specs.declared.generator.Direction.the-variants.{Forward}
 use Rattle.mtc.specs.declared.reader.MaybeSequence.{MaybeSequence}
 use Rattle.mtc.specs.declared.reader.MaybeSequence.the-variants.{NoSequence, Sequence}
@@ -14,9 +14,9 @@ use Rattle.mtc.specs.declared.reader.MtcEvent.{MtcEvent}
 use Rattle.mtc.specs.Generator.{nextByte, afterNextByte, started}
 use Rattle.mtc.specs.QuarterFrame.{pieces}
 use Rattle.mtc.specs.Reader.{fresh, nibblesFit, isSound, taken, orderOf, numberOf, sequenceOf, afterPiece, reportOf}
-use Rattle.mtc.specs.St12.{label, isSkipped, isValid}
+use Rattle.labels.specs.St12.{label, isSkipped, isValid}
 use Rattle.mtc.specs.Stream.{sent, byte, afterCalls, events}
-use Rattle.mtc.specs.Time.{frameCount, labelAt, modZ, addFrames, bitsOf}
+use Rattle.labels.specs.Time.{frameCount, labelAt, modZ, addFrames, bitsOf}
 use Rattle.mtc.specs.UserBits.{groupBytes}
 use mathlib.Core.Bool.{false}
 use mathlib.Core.Option.{Option, none, some}
@@ -25,15 +25,15 @@ use Rattle.mmc.specs.declared.command.MmcCommand.{MmcCommand}
 use Rattle.mmc.specs.declared.command.MmcCommand.the-variants.{Stop, Play, DeferredPlay, FastForward, Rewind, RecordStrobe, RecordExit, Pause, Reset, Write, LocateField, LocateTarget, Move, Other}
 use Rattle.mmc.specs.declared.length.Kind.the-variants.{Commands}
 use Rattle.mmc.specs.declared.part.Part.{Part}
-use Rattle.mmc.specs.declared.time_code.FinalByte.the-variants.{Subframes}
-use Rattle.mmc.specs.declared.time_code.StandardTimeCode.{StandardTimeCode}
+use Rattle.codes.specs.declared.time_code.FinalByte.the-variants.{Subframes}
+use Rattle.codes.specs.declared.time_code.StandardTimeCode.{StandardTimeCode}
 use Rattle.mmc.specs.Command.{readCommand, readByte, readLocate, nextCommand}
 use Rattle.mmc.specs.Item.{commandItem, locateTargetItem, locateFieldItem, standardItem}
 use Rattle.mmc.specs.Length.{commandLength, lengthOf}
 use Rattle.mmc.specs.Part.{isInside, partOf}
 use Rattle.mmc.specs.Split.{prefixesAt, measured, splitAt, next}
 use Rattle.mmc.specs.Strings.{Given, given, Walk, walkFrom, readFrom, commandsRead}
-use Rattle.mmc.specs.TimeCode.{standardFits, standardList}
+use Rattle.codes.specs.TimeCode.{standardFits, standardList}
 use Rattle.mmc.specs.Write as W
 use Rattle.mmc.specs.Write.{sound, openedCommands, begun, ready, admitted, closedMessage, wholeMessage}
 use Rattle.mmc.specs.Writings.{afterItems, stringState, stringAnswer, stringLeft}

@@ -10,16 +10,16 @@ use lib.ListN.{length}
 use Rattle.mmc.specs.declared.command.MmcCommand.{MmcCommand}
 use Rattle.mmc.specs.declared.command.MmcCommand.the-variants.{Stop, Play, DeferredPlay, FastForward, Rewind, RecordStrobe, RecordExit, Pause, Reset, Write, LocateField, LocateTarget, Move, Other}
 use Rattle.mmc.specs.declared.length.Kind.the-variants.{Commands}
-use Rattle.mmc.specs.declared.time_code.StandardTimeCode.{StandardTimeCode}
+use Rattle.codes.specs.declared.time_code.StandardTimeCode.{StandardTimeCode}
 use Rattle.mmc.specs.Command.{nextCommand}
 use Rattle.mmc.specs.Strings.{Walk, before, walk, walkFrom, walkMeans, onTo, nextOf, readsOf, commandsRead}
 use Rattle.mmc.proofs.StringLaws.{walk-none, walk-more, read-from, read-joined, read-after, meanings-none}
-use Rattle.mtc.specs.St12.{isValid}
+use Rattle.labels.specs.St12.{isValid}
 use Rattle.mtc.specs.Stream.{runFrom}
-use Rattle.mtc.specs.Time.{nextValid}
+use Rattle.labels.specs.Time.{nextValid}
 use Rattle.mtc.specs.declared.generator.Direction.the-variants.{Forward}
 use Rattle.mtc.specs.declared.generator.MtcGenerator.{MtcGenerator}
-use Rattle.mtc.specs.declared.time.MtcTime.{MtcTime}
+use Rattle.labels.specs.declared.time.MtcTime.{MtcTime}
 use Rattle.universal.specs.Message.{isAddressed}
 use Rattle.universal.specs.Refusals.{Refusal, refusal, Answer, gives, refused}
 use Rattle.transport.specs.Transport.{notMine, Outcome, resolved, unchanged, locatedAt, acted, applied}

@@ -16,17 +16,17 @@ use Rattle.mmc.specs.declared.command.MmcCommand.the-variants.{LocateTarget, Pl
 use Rattle.mmc.specs.declared.length.Kind.the-variants.{Commands}
 use Rattle.mmc.specs.declared.message.MmcMessage.{MmcMessage}
 use Rattle.mmc.specs.declared.message.MmcMessage.the-variants as M
-use Rattle.mmc.specs.declared.time_code.StandardTimeCode.{StandardTimeCode}
+use Rattle.codes.specs.declared.time_code.StandardTimeCode.{StandardTimeCode}
 use Rattle.mmc.specs.Command.{nextCommand}
 use Rattle.mmc.specs.Message.{messageFrom}
 use Rattle.mmc.specs.Strings.{Given, given, Walk, walk, readsOf, commandsRead}
 use Rattle.mmc.specs.Writings.{stringAnswer, stringLeft}
 use Rattle.mtc.specs.Reader.{fresh}
-use Rattle.mtc.specs.St12.{isValid}
+use Rattle.labels.specs.St12.{isValid}
 use Rattle.mtc.specs.Stream.{Call, Answers, runFrom, sent, afterCalls, events}
 use Rattle.mtc.specs.declared.generator.Direction.the-variants.{Forward, Reverse}
 use Rattle.mtc.specs.declared.generator.MtcGenerator.{MtcGenerator}
-use Rattle.mtc.specs.declared.time.MtcTime.{MtcTime}
+use Rattle.labels.specs.declared.time.MtcTime.{MtcTime}
 use Rattle.universal.specs.Message.{header, isAddressed}
 use Rattle.universal.specs.Refusals.{Refusal, refusal, Answer, gives, refused}
 use Rattle.universal.specs.declared.message.MaybeSubId2.the-variants.{NoSubId2}

@@ -11,13 +11,13 @@ use Rattle.transport.specs.declared.transport.TransportAnswer.{Transport
 use Rattle.transport.specs.declared.transport.TransportAnswer.the-variants as A
 use Rattle.mmc.specs.declared.command.MmcCommand.{MmcCommand}
 use Rattle.mmc.specs.declared.command.MmcCommand.the-variants.{Stop, Play, DeferredPlay, FastForward, Rewind, RecordStrobe, RecordExit, Pause, Reset, Write, LocateField, LocateTarget, Move, Other}
-use Rattle.mmc.specs.declared.time_code.StandardTimeCode.{StandardTimeCode}
+use Rattle.codes.specs.declared.time_code.StandardTimeCode.{StandardTimeCode}
 use Rattle.mtc.specs.Generator.{withRunning, withDirection, located}
-use Rattle.mtc.specs.St12.{isValid}
-use Rattle.mtc.specs.Time.{nextValid}
+use Rattle.labels.specs.St12.{isValid}
+use Rattle.labels.specs.Time.{nextValid}
 use Rattle.mtc.specs.declared.generator.Direction.the-variants.{Forward}
 use Rattle.mtc.specs.declared.generator.MtcGenerator.{MtcGenerator}
-use Rattle.mtc.specs.declared.time.MtcTime.{MtcTime}
+use Rattle.labels.specs.declared.time.MtcTime.{MtcTime}
 use Rattle.universal.specs.Message.{isAddressed}
 use Rattle.universal.specs.Refusals.{Answer, gives, refused, refusal, refusalOf}
 

@@ -4,7 +4,7 @@ use Rattle.instances.proofs.quarter_frames.late.Statement.{statement}
 use Rattle.instances.proofs.quarter_frames.late.Tie as tie
 use Rattle.instances.proofs.quarter_frames.late.Reads as reads
 use Rattle.instances.proofs.quarter_frames.late.Lts as lts
-use Rattle.instances.proofs.labels.label.Reads as label-reads
+use Rattle.instances.proofs.times.label.Reads as label-reads
 use Rattle.instances.proofs.stream.fresh.Reads as fresh-reads
 use Rattle.instances.proofs.stream.hears.Reads as hears-reads
 use Rattle.mtc.proofs.generator.MtcGenerator.new.Reads as new-reads

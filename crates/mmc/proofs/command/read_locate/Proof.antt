@@ -5,7 +5,7 @@ use Rattle.mmc.proofs.Commands.{locate-short, locate-no-register, locat
 use mathlib.Core.Path.{_∙_, ap}
 use Rattle.mmc.specs.declared.command.MmcCommand.{MmcCommand}
 use Rattle.mmc.specs.declared.command.MmcCommand.the-variants.{LocateTarget}
-use Rattle.mmc.specs.declared.time_code.StandardTimeCode.{StandardTimeCode}
+use Rattle.codes.specs.declared.time_code.StandardTimeCode.{StandardTimeCode}
 
 returns : tie.Need-returns
 returns c = locate-short _ _ _ (c .if1 .taken)

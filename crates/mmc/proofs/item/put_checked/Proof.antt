@@ -3,7 +3,7 @@ use Rattle.mmc.proofs.item.put_checked.Statement.{statement}
 use Rattle.mmc.proofs.item.put_checked.Tie as tie
 use Rattle.mmc.proofs.Puts.{puts}
 use mathlib.Core.Path.{sym, ap, refl}
-use Rattle.mmc.specs.declared.time_code.Checked.{Checked}
+use Rattle.codes.specs.declared.time_code.Checked.{Checked}
 use Rattle.mmc.specs.Item.{checkedItem}
 use Rattle.universal.proofs.Laws.{overlay-none}
 

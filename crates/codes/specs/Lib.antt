@@ -1,0 +1,2 @@
+pub mod Rp013Code
+pub mod TimeCode

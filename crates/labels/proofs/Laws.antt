@@ -1,0 +1,95 @@
+-- The laws of labels that readers and upper crates cite: counts, labels and moves on every input, and what they mean by SMPTE
+-- ST 12-1. Assumes nothing.
+use Prim.Native.Nat.{ℕ, _*_, _+_, _%_, _≤_}
+use mathlib.Core.Path.{_≡_, refl}
+use mathlib.Core.Bool.{false}
+use lib.Dec.{T}
+use lib.IntN.{ℤ, pos, _+ℤ_}
+use Rattle.labels.specs.declared.time.MtcTime.{MtcTime}
+use Rattle.labels.specs.declared.time.TimeCodeType.{TimeCodeType}
+use Rattle.labels.specs.declared.time.TimeCodeType.the-variants.{Fps30Drop}
+use Rattle.labels.specs.St12.{label, isSkipped, isValid, LeastAbove, countBefore, labelsOfDay, labelAfter}
+use Rattle.labels.specs.Time.{dayOf, formula, frameCount, labelAt, addFrames, nextValid}
+use Rattle.labels.proofs.After
+use Rattle.labels.proofs.Counts
+use Rattle.labels.proofs.DayCount
+use Rattle.labels.proofs.Moving
+use Rattle.labels.proofs.Order
+-- A rate has at most 30 frames.
+pub use Rattle.labels.proofs.Rates.{fps-small}
+use Rattle.labels.proofs.Validity
+-- A valid label's numbers are in their ranges, and fit the widths in which they are sent.
+pub use Rattle.labels.proofs.Validity.{InRange, valid-facts, Widths, valid-widths}
+
+-- ---- counts and labels
+
+-- The count of the label of n is n modulo the day.
+pub count-of-label : (n : ℕ) (r : TimeCodeType) → frameCount (labelAt n r) ≡ n % dayOf r
+count-of-label = Counts.count-of-label
+
+-- The label of a valid label's count is that label.
+pub label-of-count : (t : MtcTime) → T (isValid t) → labelAt (frameCount t) (t .rate) ≡ t
+label-of-count = Counts.label-of-count
+
+-- Every label of a count is valid.
+pub label-valid : (n : ℕ) (r : TimeCodeType) → T (isValid (labelAt n r))
+label-valid = Counts.label-valid
+
+-- Any label counts by the formula, reduced by the day.
+pub count-by-formula : (t : MtcTime)
+    → frameCount t ≡ formula (t .rate) (t .hours * 60 + t .minutes) (t .seconds) (t .frames) % dayOf (t .rate)
+unfolding frameCount
+count-by-formula t = refl
+
+-- The skipped label 00:01:00;00 counts as 00:00:59;28 does.
+pub skipped-counts : frameCount (label Fps30Drop 0 1 0 0) ≡ frameCount (label Fps30Drop 0 0 59 28)
+unfolding frameCount
+skipped-counts = refl
+
+-- ---- moves
+
+-- Every move ends on a valid label.
+pub moved-valid : (t : MtcTime) (z : ℤ) → T (isValid (addFrames t z))
+moved-valid = Moving.moved-valid
+
+-- A move keeps the rate.
+pub moved-rate : (t : MtcTime) (z : ℤ) → addFrames t z .rate ≡ t .rate
+moved-rate = Moving.moved-rate
+
+-- Moving by a and then b is moving by a + b.
+pub moved-by-sum : (t : MtcTime) (a b : ℤ) → addFrames (addFrames t a) b ≡ addFrames t (a +ℤ b)
+moved-by-sum = Moving.moved-by-sum
+
+-- Moving by 0 keeps a valid label.
+pub moved-by-none : (t : MtcTime) → T (isValid t) → addFrames t (pos 0) ≡ t
+moved-by-none = Moving.moved-by-none
+
+-- ---- by ST 12-1
+
+-- On valid labels the reference count is ST 12-1's.
+pub count-is-practice : (t : MtcTime) → T (isValid t) → frameCount t ≡ countBefore t
+count-is-practice = DayCount.count-is-practice
+
+-- Each day has 2,073,600, 2,160,000, 2,589,408 or 2,592,000 labels.
+pub labels-of-day : (r : TimeCodeType) → labelsOfDay r ≡ dayOf r
+labels-of-day = DayCount.labels-of-day
+
+-- Moving by 1 is ST 12-1's label after.
+pub moved-by-one : (t : MtcTime) → T (isValid t) → addFrames t (pos 1) ≡ labelAfter t
+moved-by-one = After.moved-by-one
+
+-- A skipped label with hours and minutes in range moves to the least valid label above it.
+pub next-valid-least : (t : MtcTime) → T (isSkipped t) → t .hours ≤ 23 → t .minutes ≤ 59 → LeastAbove t (nextValid t)
+next-valid-least = Order.next-valid-least
+
+-- A label that isn't skipped stays.
+pub next-valid-same : (t : MtcTime) → isSkipped t ≡ false → nextValid t ≡ t
+next-valid-same = Order.next-valid-same
+
+-- So does a valid label, which is none of the skipped.
+pub next-valid-valid : (t : MtcTime) → T (isValid t) → nextValid t ≡ t
+next-valid-valid t v = Order.next-valid-same t (Validity.valid-facts t v .kept)
+
+-- 00:00:00:00 is a label of every rate.
+pub zero-valid : (r : TimeCodeType) → T (isValid (label r 0 0 0 0))
+zero-valid = Validity.zero-valid

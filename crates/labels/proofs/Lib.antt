@@ -1,0 +1,11 @@
+mod After
+mod Counts
+mod DayCount
+mod Distance
+pub mod Laws
+mod Moving
+mod Order
+mod Rates
+mod Short
+mod Sums
+mod Validity

@@ -1,0 +1,2 @@
+pub mod St12
+pub mod Time
