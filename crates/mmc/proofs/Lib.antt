@@ -18,6 +18,7 @@ mod Reading
 mod Splits
 pub mod StringLaws
 mod Walks
+mod WordPuts
 mod Words
 mod Writers
 mod Writing

@@ -4,6 +4,7 @@ pub mod Item
 pub mod Length
 pub mod Message
 pub mod Named
+pub mod Numbers
 pub mod Part
 pub mod Rp013
 pub mod Rp013Code
@@ -11,5 +12,6 @@ pub mod Split
 pub mod Strings
 pub mod TimeCode
 pub mod Word
+pub mod Words
 pub mod Write
 pub mod Writings

@@ -2,7 +2,8 @@
 -- quarter frames, the full message and user bits, and what they mean by RP-004/008; the stream law. Assumes nothing.
 use Prim.Native.Nat.{ℕ, _+_, _*_, _%_, _≤_, _<_}
 use mathlib.Core.Path.{_≡_, refl}
-use mathlib.Core.Bool.{false}
+use mathlib.Core.Bool.{true, false}
+use mathlib.Core.Logic.{_⊎_}
 use mathlib.Core.List.{List, [], _∷_, _++_, map}
 use lib.Dec.{T}
 use lib.IntN.{ℤ, pos, _+ℤ_}
@@ -19,7 +20,7 @@ use Rattle.mtc.specs.Generator.{move}
 use Rattle.mtc.specs.QuarterFrame.{pieces}
 use Rattle.mtc.specs.Reader.{fresh, isSound, reported, afterByte, eventOf}
 use Rattle.mtc.specs.Rp004.{InWidths, dataBytes, MovesTo}
-use Rattle.mtc.specs.St12.{label, isSkipped, isValid, LeastAbove, countBefore, labelsOfDay, labelAfter}
+use Rattle.mtc.specs.St12.{label, framesPerSecond, isDropFrame, isSkipped, isValid, LeastAbove, countBefore, labelsOfDay, labelAfter}
 use Rattle.mtc.specs.Time.{dayOf, formula, frameCount, labelAt, addFrames, nextValid}
 use Rattle.mtc.specs.Stream.{Call, afterCall, afterCalls, events, sent, runFrom, inOrder, StreamLaw, SentLaw}
 use Rattle.mtc.proofs.After
@@ -114,6 +115,11 @@ next-valid-valid t v = Order.next-valid-same t (Validity.valid-facts t v .kept)
 -- A valid label's numbers fit their widths.
 pub valid-widths : (t : MtcTime) → T (isValid t) → InWidths t
 valid-widths = Validity.valid-widths
+
+-- A label of numbers in their ranges is valid, at 30 drop-frame in a minute that skips none or past the two that are skipped.
+pub in-range-valid : (r : TimeCodeType) (h m s f : ℕ) → h ≤ 23 → m ≤ 59 → s ≤ 59 → f < framesPerSecond r
+    → (isDropFrame r ≡ true → (m % 10 ≡ 0) ⊎ (2 ≤ s * 30 + f)) → T (isValid (label r h m s f))
+in-range-valid = Validity.in-range-valid
 
 -- 00:00:00:00 is a label of every rate.
 pub zero-valid : (r : TimeCodeType) → T (isValid (label r 0 0 0 0))
