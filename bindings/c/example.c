@@ -5,6 +5,7 @@
  *     gcc -std=c11 -Wall -Wextra -Wpedantic -O2 example.c -L ../../target/staticlib -lfimbrast
  */
 #include <stdio.h>
+#include <string.h>
 
 #include "fimbrast.h"
 
@@ -29,6 +30,15 @@ static fimbrast_written write_string(uint8_t *out, size_t length)
     writer = fimbrast_put_command(writer, out, length, NULL, 0, locate);
     writer = fimbrast_put_command(writer, out, length, NULL, 0, play);
     return fimbrast_close_message(writer, out, length);
+}
+
+/* The same in one call. A Locate's word has its hours in the second byte and its rate in the highest but one. */
+static fimbrast_written write_words(uint8_t *out, size_t length)
+{
+    const uint64_t hour = 1, rate = 1;
+    const uint64_t words[] = {FIMBRAST_LOCATE_TARGET | hour << 8 | rate << 48, FIMBRAST_PLAY};
+
+    return fimbrast_write_words(out, length, ALL_DEVICES, words, sizeof words / sizeof words[0]);
 }
 
 /* Reads the commands of a message's data, and gives the refusal that ends them. */
@@ -63,6 +73,11 @@ int main(void)
         printf(" %02X", (unsigned)out[i]);
     }
     putchar('\n');
+
+    uint8_t again[16];
+    const fimbrast_written whole = write_words(again, sizeof again);
+    printf("in one call: %s\n",
+           whole.length == written.length && memcmp(again, out, written.length) == 0 ? "the same" : "something else");
 
     /* The data lies between the four opening bytes and F7H. */
     const uint8_t *body = out + 4;

@@ -363,6 +363,11 @@ fimbrast_writer fimbrast_put_field(fimbrast_writer writer, uint8_t *out, size_t 
                                    size_t source_length, fimbrast_field field);
 fimbrast_written fimbrast_close_message(fimbrast_writer writer, uint8_t *out, size_t out_length);
 fimbrast_written fimbrast_close_fields(fimbrast_writer writer, const uint8_t *out, size_t out_length);
+/* A whole command message in one call: opened, given a command for each word, closed. A word has the kind in its lowest byte:
+ * FIMBRAST_STOP to FIMBRAST_RESET, or FIMBRAST_LOCATE_TARGET with six bytes above it, the lowest first: hours, minutes, seconds,
+ * frames, the last byte, and marks. Of the marks bits 0 and 1 are the rate, bit 2 is color_frame, 3 blank, 4 negative, 5 status.
+ * Any other kind is taken as FIMBRAST_RESET. */
+fimbrast_written fimbrast_write_words(uint8_t *out, size_t out_length, uint8_t device_id, const uint64_t *words, size_t length);
 
 /* ---- transport */
 

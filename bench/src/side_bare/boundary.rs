@@ -3,19 +3,15 @@
 use std::hint::black_box;
 
 use super::ffi::{
-    fimbrast_add_frames, fimbrast_close_message, fimbrast_feed, fimbrast_from_frame_count,
-    fimbrast_mmc_message_read, fimbrast_next_byte, fimbrast_next_word, fimbrast_open_commands,
-    fimbrast_put_command, fimbrast_put_locate, fimbrast_put_plain, fimbrast_receive,
-    fimbrast_to_frame_count,
+    fimbrast_add_frames, fimbrast_feed, fimbrast_from_frame_count, fimbrast_mmc_message_read,
+    fimbrast_next_byte, fimbrast_next_word, fimbrast_receive, fimbrast_to_frame_count,
+    fimbrast_write_words,
 };
 pub use super::ffi::{fimbrast_generator_new, fimbrast_reader_new};
-pub use super::ffi::{Code, Command, Event, Generator, Reader, Time, Universal, Written};
+pub use super::ffi::{Event, Generator, Reader, Time, Universal, Written};
 
 /// The lowest byte of `next_word`'s number at the end: the refusal 9.
 const END: u8 = 128 + 9;
-/// The last kind that is a name alone.
-const RESET: u8 = 8;
-const LOCATE_TARGET: u8 = 11;
 
 #[inline(never)]
 pub fn receive(reader: &mut Reader, byte: u8) -> Event {
@@ -53,20 +49,10 @@ pub fn add_frames(time: Time, delta: i32) -> Time {
 }
 
 #[inline(never)]
-pub fn write(out: &mut [u8], device_id: u8, commands: &[Command]) -> Written {
+pub fn write(out: &mut [u8], device_id: u8, words: &[u64]) -> Written {
     let (to, room) = (out.as_mut_ptr(), out.len());
-    // SAFETY: `to` and `room` are a live slice that is borrowed alone, and the source is empty.
-    unsafe {
-        let mut writer = fimbrast_open_commands(to, room, device_id);
-        for command in commands {
-            writer = match command.kind {
-                0..=RESET => fimbrast_put_plain(writer, to, room, command.kind),
-                LOCATE_TARGET => fimbrast_put_locate(writer, to, room, command.code),
-                _ => fimbrast_put_command(writer, to, room, [].as_ptr(), 0, *command),
-            };
-        }
-        fimbrast_close_message(writer, to, room)
-    }
+    // SAFETY: `to` and `room` are a live slice that is borrowed alone, and `words` is a live slice.
+    unsafe { fimbrast_write_words(to, room, device_id, words.as_ptr(), words.len()) }
 }
 
 /// A whole message of commands, item by item: how many.

@@ -2,13 +2,13 @@
 
 use std::hint::black_box;
 
-use super::boundary::{self, Code, Command, Time, Universal};
+use super::boundary::{self, Time, Universal};
 use crate::case::Case;
 use crate::inputs::{self, BODIES, BODY, LIST, LOCATE_PLAY, ROOM, ROUND};
 
 const FORWARD: u8 = 0;
 const DROP_FRAME: u8 = 2;
-const PLAY: u8 = 1;
+const PLAY: u64 = 1;
 const LOCATE_TARGET: u8 = 11;
 
 /// The header of a message of commands, for all devices.
@@ -112,19 +112,8 @@ fn add_frames() -> Case {
 }
 
 fn write() -> Case {
-    let locate = Command {
-        kind: LOCATE_TARGET,
-        code: Code {
-            time: drop_frame([1, 37, 52, 16]),
-            ..Code::default()
-        },
-        ..Command::default()
-    };
-    let play = Command {
-        kind: PLAY,
-        ..Command::default()
-    };
-    let list = [locate, play];
+    let locate = u64::from_le_bytes([LOCATE_TARGET, 1, 37, 52, 16, 0, DROP_FRAME, 0]);
+    let list = [locate, PLAY];
     let mut out = [0; ROOM];
     Case::new("write", move |_| {
         let room = black_box(&mut out);

@@ -1,8 +1,5 @@
 //! The records and calls of `fimbrast.h` that are measured.
 
-/// A writer, in one number.
-pub type Writer = u64;
-
 /// Declares records with the layout of C.
 macro_rules! records {
     ($($name:ident { $($field:ident: $type:ty),* $(,)? })*) => {
@@ -39,9 +36,6 @@ records! {
     Universal { real_time: bool, device_id: u8, sub_id1: u8, has_sub_id2: bool, sub_id2: u8 }
     Written { refusal: u8, length: usize }
     MmcMessage { answer: u8, responses: bool, device_id: u8 }
-    Code { time: Time, color_frame: bool, blank: bool, negative: bool, status: bool, last: u8 }
-    Part { start: usize, length: usize }
-    Command { kind: u8, first: u8, second: u8, code: Code, name: Part, data: Part }
     NextWord { word: u64, place: usize }
 }
 
@@ -60,21 +54,11 @@ unsafe extern "C" {
         length: usize,
     ) -> MmcMessage;
     pub fn fimbrast_next_word(body: *const u8, length: usize, place: usize) -> NextWord;
-    pub fn fimbrast_open_commands(out: *mut u8, out_length: usize, device_id: u8) -> Writer;
-    pub fn fimbrast_put_command(
-        writer: Writer,
+    pub fn fimbrast_write_words(
         out: *mut u8,
         out_length: usize,
-        source: *const u8,
-        source_length: usize,
-        command: Command,
-    ) -> Writer;
-    pub fn fimbrast_put_plain(writer: Writer, out: *mut u8, out_length: usize, kind: u8) -> Writer;
-    pub fn fimbrast_put_locate(
-        writer: Writer,
-        out: *mut u8,
-        out_length: usize,
-        code: Code,
-    ) -> Writer;
-    pub fn fimbrast_close_message(writer: Writer, out: *mut u8, out_length: usize) -> Written;
+        device_id: u8,
+        words: *const u64,
+        length: usize,
+    ) -> Written;
 }

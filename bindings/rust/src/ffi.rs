@@ -4,6 +4,8 @@
 //! it. What comes back, or is left in a record, is proved: a `bool` is 0 or 1, a rate 0 to 3, and a report's direction 0 or 1. So
 //! labels and reports come as the crate's own types. A call on lent bytes has a wrapper here that takes a slice.
 
+use core::mem::MaybeUninit;
+
 use crate::mtc::{Direction, MtcTime};
 
 /// An answer that is no refusal: another kind of message, or a message for another device.
@@ -35,6 +37,12 @@ pub(crate) const CUT: u8 = REFUSED + 2;
 pub(crate) const TIME_CODE: u8 = 0;
 pub(crate) const SHORT: u8 = 1;
 pub(crate) const OTHER_FIELD: u8 = 2;
+
+/// The most words of one message: each command has a byte or more, and a message 48.
+const WORDS: usize = 48;
+
+/// No command's word.
+pub(crate) const NO_WORD: u64 = u64::MAX;
 
 /// A writer: its position, items and refusal in one number.
 pub(crate) type Writer = u64;
@@ -239,6 +247,13 @@ unsafe extern "C" {
         source_length: usize,
         field: Field,
     ) -> Writer;
+    fn fimbrast_write_words(
+        out: *mut u8,
+        out_length: usize,
+        device_id: u8,
+        words: *const u64,
+        length: usize,
+    ) -> Written;
     fn fimbrast_close_message(writer: Writer, out: *mut u8, out_length: usize) -> Written;
     fn fimbrast_close_fields(writer: Writer, out: *const u8, out_length: usize) -> Written;
 
@@ -370,6 +385,38 @@ pub(crate) fn put_field(writer: Writer, out: &mut [u8], source: &[u8], field: Fi
             field,
         )
     }
+}
+
+/// A whole message of the commands that have these words; `None`, and nothing done, where one is [`NO_WORD`] or there are more
+/// than 48.
+#[inline]
+pub(crate) fn write_words<I>(out: &mut [u8], device_id: u8, words: I) -> Option<Written>
+where
+    I: ExactSizeIterator<Item = u64>,
+{
+    let length = words.len();
+    if length > WORDS {
+        return None;
+    }
+    let mut room = [const { MaybeUninit::<u64>::uninit() }; WORDS];
+    let mut filled = 0;
+    for word in words {
+        if word == NO_WORD {
+            return None;
+        }
+        room.get_mut(filled)?.write(word);
+        filled += 1;
+    }
+    // SAFETY: `out` is a live slice, borrowed alone, and the first `filled` words of `room` were written.
+    Some(unsafe {
+        fimbrast_write_words(
+            out.as_mut_ptr(),
+            out.len(),
+            device_id,
+            room.as_ptr().cast(),
+            filled,
+        )
+    })
 }
 
 pub(crate) fn close_message(writer: Writer, out: &mut [u8]) -> Written {

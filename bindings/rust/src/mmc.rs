@@ -146,7 +146,9 @@ impl FinalByte {
 }
 
 /// The Standard Time Code `hr mn sc fr {ff|st}` (pp. 8, 9).
+// The fields stand in this order, so that a word is made of few loads.
 #[derive(Debug, Clone, Copy, PartialEq, Eq, Hash)]
+#[repr(C)]
 pub struct StandardTimeCode {
     /// The time with the type of the hours byte; a reader gives the raw counts.
     pub time: MtcTime,
@@ -202,6 +204,22 @@ impl StandardTimeCode {
             status,
             last,
         }
+    }
+
+    /// The word of a Locate to it: above the case its counts, its subframes and its rate. A code with a mark or a status goes by
+    /// the writer.
+    #[inline]
+    fn word(&self) -> u64 {
+        let FinalByte::Subframes(last) = self.final_byte else {
+            return ffi::NO_WORD;
+        };
+        if self.color_frame | self.blank | self.negative {
+            return ffi::NO_WORD;
+        }
+        let time = &self.time;
+        let counts = u32::from_le_bytes([time.hours, time.minutes, time.seconds, time.frames]);
+        let rate = u64::from(time.rate.into_bits());
+        u64::from(counts) << 8 | u64::from(last) << 40 | rate << 48 | u64::from(ffi::LOCATE_TARGET)
     }
 
     /// The time code of a Locate that was read: its five bytes above the case (pp. 8, 9).
@@ -411,6 +429,16 @@ impl<'a> MmcCommand<'a> {
             },
             refusal => return Some(Err(SysexError::of(refusal & !ffi::REFUSED, 0))),
         }))
+    }
+
+    /// The command as one number: the case of a name alone, or a Locate's time above it.
+    #[inline]
+    fn word(&self) -> u64 {
+        match (self.kind(), self) {
+            (kind @ ffi::STOP..=ffi::RESET, _) => u64::from(kind),
+            (_, Self::LocateTarget(target)) => target.word(),
+            _ => ffi::NO_WORD,
+        }
     }
 
     fn put(&self, writer: ffi::Writer, out: &mut [u8]) -> ffi::Writer {
@@ -769,6 +797,20 @@ impl<'a> MmcMessage<'a> {
 /// # Ok::<(), SysexError>(())
 /// ```
 pub fn write_commands(
+    out: &mut [u8],
+    device_id: u8,
+    commands: &[MmcCommand<'_>],
+) -> Result<usize, SysexError> {
+    match ffi::write_words(out, device_id, commands.iter().map(MmcCommand::word)) {
+        Some(answer) => written(answer),
+        None => write_one_by_one(out, device_id, commands),
+    }
+}
+
+/// Commands of which one has no word.
+#[cold]
+#[inline(never)]
+fn write_one_by_one(
     out: &mut [u8],
     device_id: u8,
     commands: &[MmcCommand<'_>],

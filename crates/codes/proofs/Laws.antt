@@ -1,6 +1,6 @@
 -- The laws of time code fields: reading and writing by the pages of RP-013, the round trips, which bits are lost, and what
 -- the strings need of the bytes. A law of five bytes has one of two beside it, with `short` before its name. Assumes nothing.
-use Prim.Native.Nat.{ℕ, _%_, _≤_, _<_}
+use Prim.Native.Nat.{ℕ, _+_, _%_, _≤_, _<_}
 use mathlib.Core.Path.{_≡_, refl, ap, _∙_}
 use mathlib.Core.Bool.{Bool, true, false, cond, _&&_, _||_}
 use mathlib.Core.Logic.{_↔_}
@@ -16,10 +16,10 @@ use Rattle.codes.specs.declared.time_code.ShortTimeCode.{ShortTimeCode}
 use Rattle.codes.specs.declared.time_code.MaybeName.the-variants.{Name}
 use Rattle.codes.specs.Rp013Code as page
 use Rattle.codes.specs.Rp013Code.{Reads, ReadsShort, ShortNamed}
-use Rattle.codes.specs.TimeCode.{bit, finalFits, finalSubframes, finalStatus, readFinal, readStandard, writtenLabel, standardFits, standardList, standardBytes, readShort, shortFits, shortList, shortBytes, shortForm, withShort, readFive, readTwo, zeroed, cleared, standardAgain, shortAgain, shortName, fullName}
+use Rattle.codes.specs.TimeCode.{bit, flag, finalFits, finalValue, framesByte, finalSubframes, finalStatus, readFinal, readStandard, writtenLabel, standardFits, standardList, standardBytes, readShort, shortFits, shortList, shortBytes, shortForm, withShort, readFive, readTwo, zeroed, cleared, standardAgain, shortAgain, shortName, fullName}
 use Rattle.labels.proofs.Laws.{zero-valid}
 use Rattle.labels.specs.St12.{isValid, label}
-use Rattle.labels.specs.Time.{rawTime}
+use Rattle.labels.specs.Time.{rawTime, hoursByte}
 use Rattle.universal.specs.Message.{allLow}
 use Rattle.universal.specs.Refusals.{gives, refused, refusal}
 use Rattle.codes.proofs.Again
@@ -184,6 +184,22 @@ five-listed c = refl
 pub two-listed : (c : ShortTimeCode) → shortList c ≡ getD (shortList c) 0 0 ∷ getD (shortList c) 1 0 ∷ []
 unfolding shortList
 two-listed c = refl
+
+-- When a code may be written, and as which bytes, part by part.
+pub fits-parts : (c : StandardTimeCode) → standardFits c ≡ finalFits (c .«final_byte») && isValid (writtenLabel c)
+unfolding standardFits
+fits-parts c = refl
+
+pub list-parts : (c : StandardTimeCode)
+    → standardList c
+    ≡ hoursByte (writtenLabel c)
+    ∷ (flag 64 (c .«color_frame») + writtenLabel c .minutes)
+    ∷ (flag 64 (c .blank) + writtenLabel c .seconds)
+    ∷ framesByte (c .«final_byte») (c .negative) (writtenLabel c .frames)
+    ∷ finalValue (c .«final_byte»)
+    ∷ []
+unfolding standardList
+list-parts c = refl
 
 -- What five bytes are read as, part by part.
 pub standard-parts : (hr mn sc fr ff : ℕ)

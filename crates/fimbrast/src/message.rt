@@ -10,11 +10,11 @@ use flat::message::flat_full_message;
 use flat::message::flat_mmc_message;
 use flat::message::flat_user_bits;
 use flat::message::universal_of;
-use flat::refusal::FlatWritten;
-use flat::refusal::flat_written;
 use flat::time::FlatTime;
 use flat::time::time_of;
 use mmc::MmcMessage;
+use mmc::WrittenNumbers;
+use mmc::written_numbers;
 use mtc::FullMessage;
 use mtc::UserBits;
 use universal::Universal;
@@ -25,8 +25,8 @@ ghost use Rattle.universal.specs.Message.{isAddressed, hasSubId2, message};
 ghost use Rattle.universal.specs.Overlay.{overlay};
 ghost use Rattle.mtc.specs.FullMessage.{fullMessage, fullMessageFrom, fullMessageWritten};
 ghost use Rattle.mtc.specs.UserBits.{userBitsFrom, userBitsWritten, groupBytes};
+ghost use Rattle.mmc.specs.Numbers.{writtenNumbers};
 ghost use Rattle.mmc.specs.Message.{messageFrom};
-ghost use Rattle.flat.specs.Refusal.{flatWritten};
 ghost use Rattle.flat.specs.Time.{timeOf};
 ghost use Rattle.flat.specs.Message.{universalOf, bitsOf, flatFullMessage, flatUserBits, flatMmcMessage};
 
@@ -52,11 +52,11 @@ pub extern "C" fn fimbrast_universal_write(
     header: FlatUniversal,
     data: &[u8],
     out: &mut [u8],
-) -> FlatWritten
-    ensures { λ r. ⌜ r ≡ flatWritten (answer (message (universalOf header) (now («data» .entry))) (length (now (out .entry)))) ⌝ }
+) -> WrittenNumbers
+    ensures { λ r. ⌜ r ≡ writtenNumbers (answer (message (universalOf header) (now («data» .entry))) (length (now (out .entry)))) ⌝ }
     ensures { λ _. ⌜ now (out .exit) ≡ overlay (now (out .entry)) 0 (message (universalOf header) (now («data» .entry)) .bytes) ⌝ }
 {
-    flat_written(universal_of(header).write(data, out))
+    written_numbers(universal_of(header).write(data, out))
 }
 
 // `FullMessage::from_universal`.
@@ -73,15 +73,15 @@ pub extern "C" fn fimbrast_full_message_write(
     device_id: u8,
     time: FlatTime,
     out: &mut [u8],
-) -> FlatWritten
-    ensures { λ r. ⌜ r ≡ flatWritten (answer (fullMessageWritten (fullMessage «device_id» (timeOf time))) (length (now (out .entry)))) ⌝ }
+) -> WrittenNumbers
+    ensures { λ r. ⌜ r ≡ writtenNumbers (answer (fullMessageWritten (fullMessage «device_id» (timeOf time))) (length (now (out .entry)))) ⌝ }
     ensures { λ _. ⌜ now (out .exit) ≡ overlay (now (out .entry)) 0 (fullMessageWritten (fullMessage «device_id» (timeOf time)) .bytes) ⌝ }
 {
     let message = FullMessage {
         device_id,
         time: time_of(time),
     };
-    flat_written(message.write(out))
+    written_numbers(message.write(out))
 }
 
 // `UserBits::from_universal`.
@@ -94,11 +94,11 @@ pub extern "C" fn fimbrast_user_bits_read(header: FlatUniversal, data: &[u8]) ->
 
 // `UserBits::write`.
 #[no_mangle]
-pub extern "C" fn fimbrast_user_bits_write(bits: FlatUserBits, out: &mut [u8]) -> FlatWritten
-    ensures { λ r. ⌜ r ≡ flatWritten (answer (userBitsWritten (bitsOf bits)) (length (now (out .entry)))) ⌝ }
+pub extern "C" fn fimbrast_user_bits_write(bits: FlatUserBits, out: &mut [u8]) -> WrittenNumbers
+    ensures { λ r. ⌜ r ≡ writtenNumbers (answer (userBitsWritten (bitsOf bits)) (length (now (out .entry)))) ⌝ }
     ensures { λ _. ⌜ now (out .exit) ≡ overlay (now (out .entry)) 0 (userBitsWritten (bitsOf bits) .bytes) ⌝ }
 {
-    flat_written(bits_of(bits).write(out))
+    written_numbers(bits_of(bits).write(out))
 }
 
 // `UserBits::to_bytes`.

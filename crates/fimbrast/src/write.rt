@@ -1,8 +1,6 @@
 // Writing a string: opened, given its items one at a time, and closed.
 use flat::code::FlatCode;
 use flat::code::code_of;
-use flat::refusal::FlatWritten;
-use flat::refusal::flat_written;
 use flat::string::FlatCommand;
 use flat::string::FlatField;
 use flat::string::command_of;
@@ -10,16 +8,21 @@ use flat::string::field_of;
 use flat::write::FlatWriter;
 use flat::write::flat_writer;
 use flat::write::writer_of;
+use mmc::WrittenNumbers;
+use mmc::written_numbers;
 ghost use mathlib.Core.Path.{_≡_};
 ghost use mathlib.Core.List.{[]};
 ghost use lib.ListN.{length};
 ghost use Rattle.universal.specs.Overlay.{overlay};
+ghost use Rattle.mmc.specs.Numbers.{writtenNumbers};
 ghost use Rattle.mmc.specs.declared.command.MmcCommand.the-variants.{LocateTarget};
 ghost use Rattle.mmc.specs.Word.{plainCommand};
 ghost use Rattle.mmc.specs.Item.{commandItem, fieldItem};
+ghost use Rattle.mmc.specs.Words.{wordItems};
 ghost use Rattle.mmc.specs.Write.{openedCommands, openedResponses, openedFields, begun, admitted, given, closedMessage, wholeMessage, wholeFields};
+ghost use Rattle.mmc.specs.Writings.{stringAnswer, stringLeft};
+ghost use Rattle.mmc.specs.declared.length.Kind.the-variants.{Commands};
 ghost use Rattle.flat.specs.Code.{codeOf};
-ghost use Rattle.flat.specs.Refusal.{flatWritten};
 ghost use Rattle.flat.specs.String.{commandOf, fieldOf};
 ghost use Rattle.flat.specs.Write.{writingAt, flatWriter};
 
@@ -109,17 +112,31 @@ pub extern "C" fn fimbrast_put_field(
 
 // `write_commands` and `write_responses` close.
 #[no_mangle]
-pub extern "C" fn fimbrast_close_message(writer: FlatWriter, out: &mut [u8]) -> FlatWritten
-    ensures { λ r. ⌜ r ≡ flatWritten (wholeMessage (writingAt writer) (length (now (out .entry)))) ⌝ }
+pub extern "C" fn fimbrast_close_message(writer: FlatWriter, out: &mut [u8]) -> WrittenNumbers
+    ensures { λ r. ⌜ r ≡ writtenNumbers (wholeMessage (writingAt writer) (length (now (out .entry)))) ⌝ }
     ensures { λ _. ⌜ now (out .exit) ≡ overlay (now (out .entry)) (writingAt writer .at) (closedMessage (writingAt writer) .bytes) ⌝ }
 {
-    flat_written(writer_of(writer).close_message(out))
+    written_numbers(writer_of(writer).close_message(out))
 }
 
 // `write_info_fields` closes.
 #[no_mangle]
-pub extern "C" fn fimbrast_close_fields(writer: FlatWriter, out: &[u8]) -> FlatWritten
-    ensures { λ r. ⌜ r ≡ flatWritten (wholeFields (writingAt writer) (length (now (out .entry)))) ⌝ }
+pub extern "C" fn fimbrast_close_fields(writer: FlatWriter, out: &[u8]) -> WrittenNumbers
+    ensures { λ r. ⌜ r ≡ writtenNumbers (wholeFields (writingAt writer) (length (now (out .entry)))) ⌝ }
 {
-    flat_written(writer_of(writer).close_fields(out))
+    written_numbers(writer_of(writer).close_fields(out))
+}
+
+// `write_commands` in one call, for commands that are words: a name alone by its kind, or 11 with the time code of a Locate above
+// it. A kind above 8 other than 11 is taken as 8.
+#[no_mangle]
+pub extern "C" fn fimbrast_write_words(
+    out: &mut [u8],
+    device_id: u8,
+    words: &[u64],
+) -> WrittenNumbers
+    ensures { λ r. ⌜ r ≡ writtenNumbers (stringAnswer Commands «device_id» (wordItems (now (words .entry))) (now (out .entry))) ⌝ }
+    ensures { λ _. ⌜ now (out .exit) ≡ stringLeft Commands «device_id» (wordItems (now (words .entry))) (now (out .entry)) ⌝ }
+{
+    mmc::write_words(out, device_id, words)
 }

@@ -1,27 +1,11 @@
 -- Refusals as numbers: 0 is none, 1 to 10 are document 01's. Assumes nothing.
 use Prim.Native.Nat.{ℕ}
 use mathlib.Core.Bool.{cond}
-use mathlib.Core.List.{List, [], _∷_}
 use mathlib.Core.Option.{Option, none, some}
 use lib.Dec.{eqb}
-use Rattle.flat.specs.declared.refusal.FlatWritten.{FlatWritten}
 use Rattle.universal.specs.Refusals.{Refusal, Answer, gives, refused}
 use Rattle.universal.specs.declared.error.SysexError.{SysexError}
 use Rattle.universal.specs.declared.error.SysexError.the-variants.{DataByte, Length, OutOfRange, BufferTooSmall, Device, Source, Target, Stopped, End, ItemLimit}
-
--- The first of a refusal's values, or 0.
-abbrev pub firstOf : List ℕ → ℕ
-firstOf [] = 0
-firstOf (n ∷ ns) = n
-
--- The needed length, which only refusal 4 gives.
-unfoldable pub neededOf : Refusal → ℕ
-neededOf r = firstOf (r .values)
-
--- Refusal 0 and the length, or the refusal and its needed length.
-unfoldable pub flatWritten : Answer ℕ → FlatWritten
-flatWritten (gives n) = record { refusal = 0; length = n }
-flatWritten (refused r) = record { refusal = r .number; length = neededOf r }
 
 -- The number of an answer's refusal, 0 where it has none.
 unfoldable pub refusalIn : {A : Type 0} → Answer A → ℕ

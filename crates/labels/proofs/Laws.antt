@@ -1,14 +1,15 @@
 -- The laws of labels that readers and upper crates cite: counts, labels and moves on every input, and what they mean by SMPTE
 -- ST 12-1. Assumes nothing.
-use Prim.Native.Nat.{ℕ, _*_, _+_, _%_, _≤_}
+use Prim.Native.Nat.{ℕ, _*_, _+_, _%_, _≤_, _<_}
 use mathlib.Core.Path.{_≡_, refl}
-use mathlib.Core.Bool.{false}
+use mathlib.Core.Bool.{true, false}
+use mathlib.Core.Logic.{_⊎_}
 use lib.Dec.{T}
 use lib.IntN.{ℤ, pos, _+ℤ_}
 use Rattle.labels.specs.declared.time.MtcTime.{MtcTime}
 use Rattle.labels.specs.declared.time.TimeCodeType.{TimeCodeType}
 use Rattle.labels.specs.declared.time.TimeCodeType.the-variants.{Fps30Drop}
-use Rattle.labels.specs.St12.{label, isSkipped, isValid, LeastAbove, countBefore, labelsOfDay, labelAfter}
+use Rattle.labels.specs.St12.{label, framesPerSecond, isDropFrame, isSkipped, isValid, LeastAbove, countBefore, labelsOfDay, labelAfter}
 use Rattle.labels.specs.Time.{dayOf, formula, frameCount, labelAt, addFrames, nextValid}
 use Rattle.labels.proofs.After
 use Rattle.labels.proofs.Counts
@@ -89,6 +90,11 @@ next-valid-same = Order.next-valid-same
 -- So does a valid label, which is none of the skipped.
 pub next-valid-valid : (t : MtcTime) → T (isValid t) → nextValid t ≡ t
 next-valid-valid t v = Order.next-valid-same t (Validity.valid-facts t v .kept)
+
+-- A label of numbers in their ranges is valid, at 30 drop-frame in a minute that skips none or past the two that are skipped.
+pub in-range-valid : (r : TimeCodeType) (h m s f : ℕ) → h ≤ 23 → m ≤ 59 → s ≤ 59 → f < framesPerSecond r
+    → (isDropFrame r ≡ true → (m % 10 ≡ 0) ⊎ (2 ≤ s * 30 + f)) → T (isValid (label r h m s f))
+in-range-valid = Validity.in-range-valid
 
 -- 00:00:00:00 is a label of every rate.
 pub zero-valid : (r : TimeCodeType) → T (isValid (label r 0 0 0 0))

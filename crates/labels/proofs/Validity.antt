@@ -9,7 +9,7 @@ use lib.Dec.{T, leb, ltb, eqb, le→leb, lt→ltb}
 use Rattle.labels.specs.declared.time.MtcTime.{MtcTime}
 use Rattle.labels.specs.declared.time.TimeCodeType.{TimeCodeType}
 use Rattle.labels.specs.declared.time.TimeCodeType.the-variants.{Fps24, Fps25, Fps30Drop, Fps30}
-use Rattle.labels.specs.St12.{label, framesPerSecond, isSkipped, isValid}
+use Rattle.labels.specs.St12.{label, framesPerSecond, isDropFrame, isSkipped, isValid}
 use Rattle.labels.proofs.Rates.{fps-small}
 
 -- ---- tests joined
@@ -92,6 +92,19 @@ facts-valid t k =
     (and-both (leb (t .minutes) 59) _ (le→leb _ _ (k .minutes))
     (and-both (leb (t .seconds) 59) _ (le→leb _ _ (k .seconds))
     (and-both (ltb (t .frames) (framesPerSecond (t .rate))) _ (lt→ltb _ _ (k .frames)) (no-not _ (k .kept)))))
+
+-- Numbers in their ranges, which drop-frame keeps.
+pub in-range-valid : (r : TimeCodeType) (h m s f : ℕ) → h ≤ 23 → m ≤ 59 → s ≤ 59 → f < framesPerSecond r
+    → (isDropFrame r ≡ true → Kept m s f) → T (isValid (label r h m s f))
+unfolding isSkipped
+in-range-valid r h m s f hh hm hs hf k =
+    facts-valid (label r h m s f) (record { hours = hh; minutes = hm; seconds = hs; frames = hf; kept = kept r k })
+  where
+    kept : (q : TimeCodeType) → (isDropFrame q ≡ true → Kept m s f) → isSkipped (label q h m s f) ≡ false
+    kept Fps24 k = refl
+    kept Fps25 k = refl
+    kept Fps30Drop k = kept-skipped h m s f (k refl)
+    kept Fps30 k = refl
 
 -- The widths in which RP-004/008 and RP-013 send a label's numbers: five bits of frames and hours, six of seconds and minutes.
 pub record Widths (t : MtcTime) : Type 0 where

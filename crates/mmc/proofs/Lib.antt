@@ -11,6 +11,7 @@ mod Ranges
 mod Splits
 pub mod StringLaws
 mod Walks
+mod WordPuts
 mod Words
 mod Writers
 pub mod WritingLaws

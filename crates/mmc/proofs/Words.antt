@@ -1,5 +1,5 @@
 -- Commands as numbers: the bytes of a time code that is read, and a name that is a whole command. Assumes nothing.
-use Prim.Native.Nat.{ℕ, suc, _+_, _-_, _*_, _%_, _≤_, _<_}
+use Prim.Native.Nat.{ℕ, zero, suc, _+_, _-_, _*_, _%_, _≤_, _<_}
 use mathlib.Core.Path.{_≡_, refl, sym, ap, ap₂, _∙_}
 use mathlib.Core.Bool.{Bool, true, false, cond, _&&_, true≢false}
 use mathlib.Core.List.{List, [], _∷_}
@@ -329,3 +329,26 @@ plain-item n k e = rw e (go (eqb n 0) (eqb n 1) (eqb n 2) (eqb n 3) (eqb n 4) (e
     go false false false false false false true w = refl
     go false false false false false false false true = refl
     go false false false false false false false false = refl
+
+-- ---- the name of a case
+
+-- The first seven names are one more than the case.
+pub low-name : (n : ℕ) → n < 7 → n + 1 ≡ plainName n
+unfolding plainName
+low-name zero h = refl
+low-name (suc zero) h = refl
+low-name (suc (suc zero)) h = refl
+low-name (suc (suc (suc zero))) h = refl
+low-name (suc (suc (suc (suc zero)))) h = refl
+low-name (suc (suc (suc (suc (suc zero))))) h = refl
+low-name (suc (suc (suc (suc (suc (suc zero)))))) h = refl
+low-name (suc (suc (suc (suc (suc (suc (suc n))))))) h = absurd (omega arith)
+
+pub pause-name : (n : ℕ) → n ≡ 7 → 9 ≡ plainName n
+unfolding plainName
+pause-name n e = rw e
+
+pub reset-name : (n : ℕ) → 7 ≤ n → (n ≡ 7 → ⊥) → 13 ≡ plainName n
+unfolding plainName
+reset-name n h k =
+    rw (ne-eqb n 0 (λ e. omega arith), ne-eqb n 1 (λ e. omega arith), ne-eqb n 2 (λ e. omega arith), ne-eqb n 3 (λ e. omega arith), ne-eqb n 4 (λ e. omega arith), ne-eqb n 5 (λ e. omega arith), ne-eqb n 6 (λ e. omega arith), ne-eqb n 7 k)

@@ -4,10 +4,12 @@ pub mod Item
 pub mod Length
 pub mod Message
 pub mod Named
+pub mod Numbers
 pub mod Part
 pub mod Rp013
 pub mod Split
 pub mod Strings
 pub mod Word
+pub mod Words
 pub mod Write
 pub mod Writings

@@ -21,13 +21,13 @@ use fimbrast::write::fimbrast_open_fields;
 use fimbrast::write::fimbrast_open_responses;
 use fimbrast::write::fimbrast_put_command;
 use fimbrast::write::fimbrast_put_field;
-use flat::refusal::FlatWritten;
 use flat::write::FlatWriter;
+use mmc::WrittenNumbers;
 ghost use Prim.Native.Nat.{_<_};
 
 // An answer that no call gives.
-fn not_written() -> FlatWritten {
-    FlatWritten {
+fn not_written() -> WrittenNumbers {
+    WrittenNumbers {
         refusal: 255,
         length: 0,
     }
@@ -66,24 +66,24 @@ fn after(input: &[u8], at: usize, count: u8, size: usize) -> &[u8]
     rest(input, at + count as usize * 24)
 }
 
-fn write_commands(input: &[u8], out: &mut [u8]) -> FlatWritten {
+fn write_commands(input: &[u8], out: &mut [u8]) -> WrittenNumbers {
     let opened = fimbrast_open_commands(out, byte_at(input, 0));
     let given = put_items(opened, 21, input, 4, out);
     fimbrast_close_message(given, out)
 }
 
-fn write_responses(input: &[u8], out: &mut [u8]) -> FlatWritten {
+fn write_responses(input: &[u8], out: &mut [u8]) -> WrittenNumbers {
     let opened = fimbrast_open_responses(out, byte_at(input, 0));
     let given = put_items(opened, 24, input, 4, out);
     fimbrast_close_message(given, out)
 }
 
-fn write_fields(input: &[u8], out: &mut [u8]) -> FlatWritten {
+fn write_fields(input: &[u8], out: &mut [u8]) -> WrittenNumbers {
     let given = put_items(fimbrast_open_fields(), 24, input, 3, out);
     fimbrast_close_fields(given, out)
 }
 
-fn write(call: u8, input: &[u8], out: &mut [u8]) -> FlatWritten {
+fn write(call: u8, input: &[u8], out: &mut [u8]) -> WrittenNumbers {
     match call {
         0x42 => fimbrast_universal_write(header_at(input), rest(input, 8), out),
         0x44 => fimbrast_full_message_write(byte_at(input, 0), time_at(input, 1), out),

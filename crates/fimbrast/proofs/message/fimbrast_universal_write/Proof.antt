@@ -9,8 +9,8 @@ universal-of-requires c κs = search needs
 write-requires : tie.Need-write-requires
 write-requires c κs = search needs
 
-flat-written-requires : tie.Need-flat-written-requires
-flat-written-requires c κs = search needs
+written-numbers-requires : tie.Need-written-numbers-requires
+written-numbers-requires c κs = search needs
 
 same-length : tie.Need-same-length
 same-length c = search needs
@@ -21,4 +21,4 @@ returns c = (cc, cc)
 pub fimbrast-universal-write-spec : {M : Type 1} → statement M
 fimbrast-universal-write-spec =
     tie.close
-    (tie.spec universal-of-requires write-requires flat-written-requires same-length returns)
+    (tie.spec universal-of-requires write-requires written-numbers-requires same-length returns)

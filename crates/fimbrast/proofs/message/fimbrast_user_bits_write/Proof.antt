@@ -9,8 +9,8 @@ bits-of-requires c κs = search needs
 write-requires : tie.Need-write-requires
 write-requires c κs = search needs
 
-flat-written-requires : tie.Need-flat-written-requires
-flat-written-requires c κs = search needs
+written-numbers-requires : tie.Need-written-numbers-requires
+written-numbers-requires c κs = search needs
 
 same-length : tie.Need-same-length
 same-length c = search needs
@@ -20,4 +20,4 @@ returns c = (cc, cc)
 
 pub fimbrast-user-bits-write-spec : {M : Type 1} → statement M
 fimbrast-user-bits-write-spec =
-    tie.close (tie.spec bits-of-requires write-requires flat-written-requires same-length returns)
+    tie.close (tie.spec bits-of-requires write-requires written-numbers-requires same-length returns)

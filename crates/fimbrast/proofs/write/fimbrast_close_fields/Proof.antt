@@ -9,12 +9,12 @@ writer-of-requires c κs = search needs
 close-fields-requires : tie.Need-close-fields-requires
 close-fields-requires c κs = search needs
 
-flat-written-requires : tie.Need-flat-written-requires
-flat-written-requires c κs = search needs
+written-numbers-requires : tie.Need-written-numbers-requires
+written-numbers-requires c κs = search needs
 
 returns : tie.Need-returns
 returns c = cc
 
 pub fimbrast-close-fields-spec : {M : Type 1} → statement M
 fimbrast-close-fields-spec =
-    tie.close (tie.spec writer-of-requires close-fields-requires flat-written-requires returns)
+    tie.close (tie.spec writer-of-requires close-fields-requires written-numbers-requires returns)

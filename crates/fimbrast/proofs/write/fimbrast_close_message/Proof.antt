@@ -9,8 +9,8 @@ writer-of-requires c κs = search needs
 close-message-requires : tie.Need-close-message-requires
 close-message-requires c κs = search needs
 
-flat-written-requires : tie.Need-flat-written-requires
-flat-written-requires c κs = search needs
+written-numbers-requires : tie.Need-written-numbers-requires
+written-numbers-requires c κs = search needs
 
 same-length : tie.Need-same-length
 same-length c = search needs
@@ -21,4 +21,4 @@ returns c = (cc, cc)
 pub fimbrast-close-message-spec : {M : Type 1} → statement M
 fimbrast-close-message-spec =
     tie.close
-    (tie.spec writer-of-requires close-message-requires flat-written-requires same-length returns)
+    (tie.spec writer-of-requires close-message-requires written-numbers-requires same-length returns)

@@ -1,8 +1,8 @@
--- `flat::refusal::flat_written` meets its contract. Assumes nothing.
-use Rattle.flat.specs.Refusal.{flatWritten}
+-- `mmc::numbers::written_numbers` meets its contract. Assumes nothing.
+use Rattle.mmc.specs.Numbers.{writtenNumbers}
 use borrow.Author.Needs.{needs}
-use Rattle.flat.proofs.refusal.flat_written.Statement.{statement}
-use Rattle.flat.proofs.refusal.flat_written.Tie as tie
+use Rattle.mmc.proofs.numbers.written_numbers.Statement.{statement}
+use Rattle.mmc.proofs.numbers.written_numbers.Tie as tie
 
 enum-known-written : tie.Need-enum-known-written
 enum-known-written c = search needs
@@ -17,15 +17,15 @@ needed-requires : tie.Need-needed-requires
 needed-requires c κs = search needs
 
 returns : tie.Need-returns
-unfolding flatWritten
+unfolding writtenNumbers
 returns c = cc
 
 returns-2 : tie.Need-returns-2
-unfolding flatWritten
+unfolding writtenNumbers
 returns-2 c = cc
 
-pub flat-written-spec : {M : Type 1} → statement M
-flat-written-spec =
+pub written-numbers-spec : {M : Type 1} → statement M
+written-numbers-spec =
     tie.close
     (tie.spec
     enum-known-written

@@ -1,8 +1,8 @@
--- `flat::refusal::needed` meets its contract. Assumes nothing.
-use Rattle.flat.specs.Refusal.{neededOf}
+-- `mmc::numbers::needed` meets its contract. Assumes nothing.
+use Rattle.mmc.specs.Numbers.{neededOf}
 use borrow.Author.Needs.{needs}
-use Rattle.flat.proofs.refusal.needed.Statement.{statement}
-use Rattle.flat.proofs.refusal.needed.Tie as tie
+use Rattle.mmc.proofs.numbers.needed.Statement.{statement}
+use Rattle.mmc.proofs.numbers.needed.Tie as tie
 
 enum-told : tie.Need-enum-told
 enum-told c = search needs

@@ -1,0 +1,308 @@
+// A whole command message from words, in one call: names alone, and Locates to a time. A usual word goes out with only the
+// position kept; from an unusual one on the writer does it.
+use crate::numbers::WrittenNumbers;
+use crate::numbers::written_numbers;
+use crate::word::plain_name;
+use crate::write::Writer;
+use codes::Checked;
+use codes::FinalByte;
+use codes::StandardTimeCode;
+use codes::TimeCodeStatus;
+use labels::MtcTime;
+use labels::TimeCodeType;
+use universal::SysexError;
+use universal::put;
+ghost use mathlib.Core.Path.{_≡_};
+ghost use mathlib.Core.Bool.{true, cond};
+ghost use mathlib.Core.List.{_∷_, []};
+ghost use Prim.Native.Nat.{_+_, _%_, _≤_};
+ghost use lib.ListN.{length, drop};
+ghost use Rattle.universal.specs.Overlay.{overlay};
+ghost use Rattle.mmc.specs.declared.length.Kind.the-variants.{Commands};
+ghost use Rattle.codes.specs.declared.time_code.FinalByte.the-variants.{Subframes, Status};
+ghost use Rattle.codes.specs.TimeCode.{readStatus};
+ghost use Rattle.mmc.specs.Item.{commandItem};
+ghost use Rattle.mmc.specs.Numbers.{writtenNumbers};
+ghost use Rattle.mmc.specs.Write.{writingOf, given, admitted, closedMessage, wholeMessage};
+ghost use Rattle.mmc.specs.Writings.{stringAnswer, stringLeft};
+ghost use Rattle.mmc.specs.Words.{markedCode, wordCode, wordCommand, wordItems, afterWords, closedOut, going, eightBytes, PutWhole, Usual};
+
+// The case of a Locate to a time.
+const LOCATE_TARGET: u64 = 11;
+// The most commands of a message, each a byte or more.
+const MOST_COMMANDS: usize = 48;
+// The bytes before a Locate's time code: 44H, 06H, 01H.
+const LOCATE_START: u64 = 0x01_0644;
+
+// The last byte of a time code, a status or subframes.
+fn last_of(status: bool, last: u8) -> FinalByte
+    ensures { λ r. ⌜ r ≡ cond status (Status (readStatus last)) (Subframes last) ⌝ }
+{
+    if status {
+        return FinalByte::Status(TimeCodeStatus::from_byte(last));
+    }
+    FinalByte::Subframes(last)
+}
+
+// A time code by its counts, its last byte and its marks.
+fn marked_code(
+    hours: u8,
+    minutes: u8,
+    seconds: u8,
+    frames: u8,
+    last: u8,
+    marks: u8,
+) -> StandardTimeCode
+    ensures { λ r. ⌜ r ≡ markedCode hours minutes seconds frames last marks ⌝ }
+{
+    let rate = TimeCodeType::from_bits(marks);
+    StandardTimeCode {
+        time: MtcTime {
+            hours,
+            minutes,
+            seconds,
+            frames,
+            rate,
+        },
+        color_frame: marks / 4 % 2 == 1,
+        blank: marks / 8 % 2 == 1,
+        negative: marks / 16 % 2 == 1,
+        final_byte: last_of(marks / 32 % 2 == 1, last),
+    }
+}
+
+// The time code of a word.
+fn word_code(word: u64) -> StandardTimeCode
+    ensures { λ r. ⌜ r ≡ wordCode word ⌝ }
+{
+    marked_code(
+        (word / 0x100 % 256) as u8,
+        (word / 0x1_0000 % 256) as u8,
+        (word / 0x100_0000 % 256) as u8,
+        (word / 0x1_0000_0000 % 256) as u8,
+        (word / 0x100_0000_0000 % 256) as u8,
+        (word / 0x1_0000_0000_0000 % 256) as u8,
+    )
+}
+
+// A word's command, by the writer.
+fn put_word(out: &mut [u8], writer: Writer, word: u64) -> Writer
+    ensures { λ r. ⌜ writingOf r ≡ given (writingOf writer) (commandItem [] (wordCommand word)) ⌝ }
+    ensures { λ _. ⌜ now (out .exit) ≡ overlay (now (out .entry)) (writer .at) (admitted (writingOf writer) (commandItem [] (wordCommand word)) .bytes) ⌝ }
+{
+    let case = word % 256;
+    if case == LOCATE_TARGET {
+        let wrote = writer.put_locate(out, word_code(word));
+        return wrote.writer;
+    }
+    let wrote = writer.put_plain(out, case as u8);
+    wrote.writer
+}
+
+// The words from one on, by the writer, and the close.
+fn put_rest(out: &mut [u8], writer: Writer, words: &[u64], from: usize) -> WrittenNumbers
+    ensures { λ r. ⌜ r ≡ writtenNumbers (wholeMessage (afterWords (writingOf writer) (now (out .entry)) (drop from (now (words .entry))) .writing) (length (now (out .entry)))) ⌝ }
+    ensures { λ _. ⌜ now (out .exit) ≡ closedOut (afterWords (writingOf writer) (now (out .entry)) (drop from (now (words .entry)))) ⌝ }
+{
+    let mut w = writer;
+    let mut i = from;
+    while i < words.len() {
+        w = put_word(out, w, words[i]);
+        i += 1;
+    }
+    written_numbers(w.close_message(out))
+}
+
+// True only for a time code that is written as its counts are.
+fn is_usual(hours: u8, minutes: u8, seconds: u8, frames: u8, last: u8, marks: u8) -> bool
+    ensures { λ r. ⌜ (r ≡ true → Usual hours minutes seconds frames last marks) ⌝ }
+{
+    if marks > 3 {
+        return false;
+    }
+    if hours > 23 {
+        return false;
+    }
+    if minutes > 59 {
+        return false;
+    }
+    if seconds > 59 {
+        return false;
+    }
+    if last > 99 {
+        return false;
+    }
+    if marks < 2 {
+        return frames < 24 + marks;
+    }
+    if frames > 29 {
+        return false;
+    }
+    if seconds > 0 {
+        return true;
+    }
+    if frames > 1 {
+        return true;
+    }
+    if marks == 3 {
+        return true;
+    }
+    minutes % 10 == 0
+}
+
+// The bytes of a number, the lowest first, as far as they fit.
+fn put_eight(out: &mut [u8], at: usize, x: u64)
+    requires { ⌜ at ≤ 40000 ⌝ }
+    ensures { λ _. ⌜ now (out .exit) ≡ overlay (now (out .entry)) at (eightBytes x) ⌝ }
+{
+    put(out, at, (x % 256) as u8);
+    put(out, at + 1, (x / 0x100 % 256) as u8);
+    put(out, at + 2, (x / 0x1_0000 % 256) as u8);
+    put(out, at + 3, (x / 0x100_0000 % 256) as u8);
+    put(out, at + 4, (x / 0x1_0000_0000 % 256) as u8);
+    put(out, at + 5, (x / 0x100_0000_0000 % 256) as u8);
+    put(out, at + 6, (x / 0x1_0000_0000_0000 % 256) as u8);
+    put(out, at + 7, (x / 0x100_0000_0000_0000 % 256) as u8);
+}
+
+// The same. Where all of them fit, no byte is checked for room.
+fn put_number(out: &mut [u8], at: usize, x: u64)
+    requires { ⌜ at ≤ 40000 ⌝ }
+    ensures { λ _. ⌜ now (out .exit) ≡ overlay (now (out .entry)) at (eightBytes x) ⌝ }
+{
+    if at + 8 <= out.len() {
+        put_eight(out, at, x);
+        return;
+    }
+    put_eight(out, at, x);
+}
+
+// A Locate to a usual time, and the position after it; any other is left, and the position stays.
+fn put_locate(out: &mut [u8], at: usize, word: u64) -> usize
+    requires { ⌜ (at ≤ 40000) × (word % 256 ≡ 11) ⌝ }
+    ensures { λ r. ⌜ r ≤ at + 8 ⌝ }
+    ensures { λ r. ⌜ PutWhole word at (now (out .entry)) r (now (out .exit)) ⌝ }
+{
+    let marks = word / 0x1_0000_0000_0000 % 256;
+    let hours = (word / 0x100 % 256) as u8;
+    let minutes = (word / 0x1_0000 % 256) as u8;
+    let seconds = (word / 0x100_0000 % 256) as u8;
+    let frames = (word / 0x1_0000_0000 % 256) as u8;
+    let last = (word / 0x100_0000_0000 % 256) as u8;
+    if !is_usual(hours, minutes, seconds, frames, last, marks as u8) {
+        return at;
+    }
+    let five = word / 0x100 % 0x100_0000_0000 + marks * 32;
+    put_number(out, at, five * 0x100_0000 + LOCATE_START);
+    at + 8
+}
+
+// A usual word, and the position after it; any other is left, and the position stays.
+fn put_whole(out: &mut [u8], at: usize, word: u64) -> usize
+    requires { ⌜ at ≤ 40000 ⌝ }
+    ensures { λ r. ⌜ r ≤ at + 8 ⌝ }
+    ensures { λ r. ⌜ PutWhole word at (now (out .entry)) r (now (out .exit)) ⌝ }
+{
+    let case = word % 256;
+    if case == LOCATE_TARGET {
+        return put_locate(out, at, word);
+    }
+    put(out, at, plain_name(case as u8));
+    at + 1
+}
+
+// The words of a message that was opened, and the close.
+fn put_words(out: &mut [u8], words: &[u64]) -> WrittenNumbers
+    requires { ⌜ length (now words) ≤ 48 ⌝ }
+    ensures { λ r. ⌜ r ≡ writtenNumbers (wholeMessage (afterWords (going 4 0) (now (out .entry)) (now (words .entry)) .writing) (length (now (out .entry)))) ⌝ }
+    ensures { λ _. ⌜ now (out .exit) ≡ closedOut (afterWords (going 4 0) (now (out .entry)) (now (words .entry))) ⌝ }
+{
+    let mut at = 4;
+    let mut i = 0;
+    while i < words.len() {
+        let next = put_whole(out, at, words[i]);
+        if next == at {
+            let writer = Writer {
+                at,
+                items: i,
+                checked: Checked::Accepted,
+            };
+            return put_rest(out, writer, words, i);
+        }
+        at = next;
+        i += 1;
+    }
+    close_at(out, at)
+}
+
+// The close at a position: 2 for a body outside 1 to 48 bytes, else F7H, and 4 where it does not fit.
+fn close_at(out: &mut [u8], at: usize) -> WrittenNumbers
+    requires { ⌜ at ≤ 40000 ⌝ }
+    ensures { λ r. ⌜ r ≡ writtenNumbers (wholeMessage (going at 0) (length (now (out .entry)))) ⌝ }
+    ensures { λ _. ⌜ now (out .exit) ≡ overlay (now (out .entry)) at (closedMessage (going at 0) .bytes) ⌝ }
+{
+    if at < 5 {
+        return WrittenNumbers {
+            refusal: 2,
+            length: 0,
+        };
+    }
+    if at > 52 {
+        return WrittenNumbers {
+            refusal: 2,
+            length: 0,
+        };
+    }
+    put(out, at, 0xF7);
+    let length = at + 1;
+    if at < out.len() {
+        return WrittenNumbers { refusal: 0, length };
+    }
+    WrittenNumbers { refusal: 4, length }
+}
+
+// F0H, 7FH, the device, 06H.
+fn put_start(out: &mut [u8], device_id: u8)
+    ensures { λ _. ⌜ now (out .exit) ≡ overlay (now (out .entry)) 0 (240 ∷ 127 ∷ «device_id» ∷ 6 ∷ []) ⌝ }
+{
+    put(out, 0, 0xF0);
+    put(out, 1, 0x7F);
+    put(out, 2, device_id);
+    put(out, 3, 0x06);
+}
+
+// The same. Where all of them fit, no byte is checked for room.
+fn put_opening(out: &mut [u8], device_id: u8)
+    ensures { λ _. ⌜ now (out .exit) ≡ overlay (now (out .entry)) 0 (240 ∷ 127 ∷ «device_id» ∷ 6 ∷ []) ⌝ }
+{
+    if 4 <= out.len() {
+        put_start(out, device_id);
+        return;
+    }
+    put_start(out, device_id);
+}
+
+// Writes a whole command message: opened, given the commands of the words, and closed.
+pub fn write_words(out: &mut [u8], device_id: u8, words: &[u64]) -> WrittenNumbers
+    ensures { λ r. ⌜ r ≡ writtenNumbers (stringAnswer Commands «device_id» (wordItems (now (words .entry))) (now (out .entry))) ⌝ }
+    ensures { λ _. ⌜ now (out .exit) ≡ stringLeft Commands «device_id» (wordItems (now (words .entry))) (now (out .entry)) ⌝ }
+{
+    if device_id > 0x7F {
+        let writer = Writer {
+            at: 0,
+            items: 0,
+            checked: Checked::Refused(SysexError::Device),
+        };
+        return put_rest(out, writer, words, 0);
+    }
+    put_opening(out, device_id);
+    if words.len() > MOST_COMMANDS {
+        let writer = Writer {
+            at: 4,
+            items: 0,
+            checked: Checked::Accepted,
+        };
+        return put_rest(out, writer, words, 0);
+    }
+    put_words(out, words)
+}
