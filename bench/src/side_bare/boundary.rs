@@ -16,6 +16,8 @@ const END: u8 = 128 + 9;
 /// The last kind that is a name alone.
 const RESET: u8 = 8;
 const LOCATE_TARGET: u8 = 11;
+/// An event's number from here on has a report.
+const REPORT: u64 = 512;
 
 #[inline(never)]
 pub fn receive(reader: &mut Reader, byte: u8) -> Event {
@@ -97,7 +99,7 @@ pub fn receive_all(reader: &mut Reader, bytes: &[u8]) -> usize {
     let mut reports = 0;
     for byte in bytes {
         let event = fimbrast_receive(reader, *byte);
-        reports += usize::from(event.report.present);
+        reports += usize::from(event >= REPORT);
     }
     reports
 }

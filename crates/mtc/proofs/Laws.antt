@@ -19,7 +19,7 @@ use Rattle.mtc.specs.Generator.{move}
 use Rattle.mtc.specs.QuarterFrame.{pieces}
 use Rattle.mtc.specs.Reader.{fresh, isSound, reported, afterByte, eventOf}
 use Rattle.mtc.specs.Rp004.{InWidths, dataBytes, MovesTo}
-use Rattle.mtc.specs.St12.{label, isSkipped, isValid, LeastAbove, countBefore, labelsOfDay, labelAfter}
+use Rattle.mtc.specs.St12.{label, framesPerSecond, isSkipped, isValid, LeastAbove, countBefore, labelsOfDay, labelAfter}
 use Rattle.mtc.specs.Time.{dayOf, formula, frameCount, labelAt, addFrames, nextValid}
 use Rattle.mtc.specs.Stream.{Call, afterCall, afterCalls, events, sent, runFrom, inOrder, StreamLaw, SentLaw}
 use Rattle.mtc.proofs.After
@@ -39,6 +39,7 @@ use Rattle.mtc.proofs.QuarterFrames
 use Rattle.mtc.proofs.QuarterFrames.{Sequences}
 use Rattle.mtc.proofs.Rounds.{silent}
 use Rattle.mtc.proofs.Sending
+use Rattle.mtc.proofs.Short
 use Rattle.mtc.proofs.Streams
 use Rattle.mtc.proofs.Validity
 
@@ -84,6 +85,11 @@ moved-by-sum = Moving.moved-by-sum
 -- Moving by 0 keeps a valid label.
 pub moved-by-none : (t : MtcTime) → T (isValid t) → addFrames t (pos 0) ≡ t
 moved-by-none = Moving.moved-by-none
+
+-- Two frames later in the same second is a sum.
+pub two-later : (r : TimeCodeType) (h m s f : ℕ) → h ≤ 23 → m ≤ 59 → s ≤ 59 → f + 2 < framesPerSecond r
+    → label r h m s (f + 2) ≡ addFrames (label r h m s f) (pos 2)
+two-later = Short.two-later
 
 -- ---- by ST 12-1
 
