@@ -95,8 +95,12 @@ fimbrast_time fimbrast_generator_time(fimbrast_generator generator);
 
 /* ---- reader */
 
-/* A last piece above 7 is none; direction 0 is forward, 1 reverse, any other none. A record with a count or first piece
- * above 7 or a nibble above 15, which no call leaves, is taken as fresh. */
+/* A reader in four words. Any words are a reader that calls can leave; fimbrast_reader_parts says which. */
+typedef struct {
+    uint32_t words[4];
+} fimbrast_reader;
+
+/* A reader field by field, with FIMBRAST_NONE for no last piece and no direction. */
 typedef struct {
     uint8_t nibbles[8];
     uint8_t count;
@@ -107,7 +111,18 @@ typedef struct {
     bool running;
     fimbrast_maybe_time previous;
     fimbrast_maybe_time time;
-} fimbrast_reader;
+} fimbrast_reader_fields;
+
+/* A report as one number, which comes back in a register; 0 is no report. From the lowest bit: 1, the direction, the
+ * discontinuity, two bits of the rate, two zeros, the raw label and the current one, 24 bits each: six of the frames, six of
+ * the seconds, six of the minutes, six of the hours. fimbrast_report_parts takes it apart. */
+typedef uint64_t fimbrast_report;
+
+/* What a data byte gives, as one number: the piece, the boundary, and the report of the sequence that it ends. */
+typedef uint64_t fimbrast_event;
+#define FIMBRAST_EVENT_PIECE(event) ((uint8_t)((event) & 0xFF))
+#define FIMBRAST_EVENT_BOUNDARY(event) (((event) & 0x100) != 0)
+#define FIMBRAST_EVENT_REPORT(event) ((event) >> 9)
 
 typedef struct {
     fimbrast_time raw;
@@ -122,28 +137,24 @@ typedef struct {
     fimbrast_sequence sequence;
 } fimbrast_maybe_sequence;
 
-typedef struct {
-    uint8_t piece;
-    bool boundary;
-    fimbrast_maybe_sequence report;
-} fimbrast_event;
-
 /* Of a list of data bytes: how many sequences it reported, how many of those with a discontinuity, and the last report. */
 typedef struct {
     size_t reports;
     size_t discontinuities;
-    fimbrast_maybe_sequence last;
+    fimbrast_report last;
 } fimbrast_fed;
 
 fimbrast_reader fimbrast_reader_new(void);
 fimbrast_event fimbrast_receive(fimbrast_reader *reader, uint8_t byte);
 /* The bytes must not overlap the reader. */
 fimbrast_fed fimbrast_feed(fimbrast_reader *reader, const uint8_t *bytes, size_t length);
+fimbrast_maybe_sequence fimbrast_report_parts(fimbrast_report report);
 fimbrast_reader fimbrast_reader_full_message(fimbrast_reader reader, fimbrast_time time);
 bool fimbrast_is_locked(fimbrast_reader reader);
 bool fimbrast_is_running(fimbrast_reader reader);
 uint8_t fimbrast_reader_direction(fimbrast_reader reader);
 fimbrast_maybe_time fimbrast_reader_time(fimbrast_reader reader);
+fimbrast_reader_fields fimbrast_reader_parts(fimbrast_reader reader);
 
 /* ---- messages: the split parts of a Universal message but its data */
 

@@ -12,6 +12,8 @@ pub use super::ffi::{Event, Generator, Reader, Time, Universal, Written};
 
 /// The lowest byte of `next_word`'s number at the end: the refusal 9.
 const END: u8 = 128 + 9;
+/// An event's number from here on has a report.
+const REPORT: u64 = 512;
 
 #[inline(never)]
 pub fn receive(reader: &mut Reader, byte: u8) -> Event {
@@ -83,7 +85,7 @@ pub fn receive_all(reader: &mut Reader, bytes: &[u8]) -> usize {
     let mut reports = 0;
     for byte in bytes {
         let event = fimbrast_receive(reader, *byte);
-        reports += usize::from(event.report.present);
+        reports += usize::from(event >= REPORT);
     }
     reports
 }

@@ -51,19 +51,18 @@ fn number(time: Time) -> u64 {
     u64::from(time.frames) + u64::from(time.seconds) * 32 + u64::from(time.hours) * 4096
 }
 
+/// The same of the current label in an event, which is all zeros without a report.
+fn current(event: u64) -> u64 {
+    (event >> 40) % 32 + (event >> 46) % 64 * 32 + (event >> 58) * 4096
+}
+
 fn receive() -> Case {
     let bytes: Box<[u8; ROUND]> = inputs::stream(ROUND).try_into().expect("a whole round");
     let mut reader = boundary::fimbrast_reader_new();
     Case::new("receive", move |turn| {
         let byte = black_box(bytes[turn % ROUND]);
         let event = black_box(boundary::receive(black_box(&mut reader), byte));
-        let report = event.report;
-        u64::from(event.piece)
-            + if report.present {
-                number(report.sequence.current)
-            } else {
-                0
-            }
+        event % 8 + current(event)
     })
 }
 

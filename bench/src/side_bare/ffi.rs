@@ -1,5 +1,8 @@
 //! The records and calls of `fimbrast.h` that are measured.
 
+/// What a data byte gives, in one number.
+pub type Event = u64;
+
 /// Declares records with the layout of C.
 macro_rules! records {
     ($($name:ident { $($field:ident: $type:ty),* $(,)? })*) => {
@@ -15,24 +18,10 @@ macro_rules! records {
 
 records! {
     Time { hours: u8, minutes: u8, seconds: u8, frames: u8, rate: u8 }
-    MaybeTime { present: bool, time: Time }
     Generator { time: Time, direction: u8, last: u8, running: bool }
     Next { refusal: u8, byte: u8 }
-    Reader {
-        nibbles: [u8; 8],
-        count: u8,
-        first: u8,
-        last: u8,
-        direction: u8,
-        locked: bool,
-        running: bool,
-        previous: MaybeTime,
-        time: MaybeTime,
-    }
-    Sequence { raw: Time, current: Time, direction: u8, discontinuity: bool }
-    MaybeSequence { present: bool, sequence: Sequence }
-    Event { piece: u8, boundary: bool, report: MaybeSequence }
-    Fed { reports: usize, discontinuities: usize, last: MaybeSequence }
+    Reader { words: [u32; 4] }
+    Fed { reports: usize, discontinuities: usize, last: u64 }
     Universal { real_time: bool, device_id: u8, sub_id1: u8, has_sub_id2: bool, sub_id2: u8 }
     Written { refusal: u8, length: usize }
     MmcMessage { answer: u8, responses: bool, device_id: u8 }

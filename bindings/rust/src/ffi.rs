@@ -1,12 +1,12 @@
 //! The library's records and calls, as `fimbrast.h` declares them. The rest of the crate has no unsafe code.
 //!
 //! A call on values, or on a record behind a reference, is declared safe: it is total, keeps nothing, and any record may be given to
-//! it. What comes back, or is left in a record, is proved: a `bool` is 0 or 1, a rate 0 to 3, and a report's direction 0 or 1. So
-//! labels and reports come as the crate's own types. A call on lent bytes has a wrapper here that takes a slice.
+//! it. What comes back is proved: a `bool` is 0 or 1, and a rate 0 to 3. So labels come as the crate's own types. A call on lent
+//! bytes has a wrapper here that takes a slice.
 
 use core::mem::MaybeUninit;
 
-use crate::mtc::{Direction, MtcTime};
+use crate::mtc::MtcTime;
 
 /// An answer that is no refusal: another kind of message, or a message for another device.
 pub(crate) const NOT_THIS: u8 = 255;
@@ -70,7 +70,8 @@ records! {
     EightBytes { bytes: [u8; 8] }
     Generator { time: Time, direction: u8, last: u8, running: bool }
     Next { refusal: u8, byte: u8 }
-    Reader {
+    Reader { words: [u32; 4] }
+    ReaderFields {
         nibbles: [u8; 8],
         count: u8,
         first: u8,
@@ -81,10 +82,11 @@ records! {
         previous: MaybeTime,
         time: MaybeTime,
     }
-    Sequence { raw: MtcTime, current: MtcTime, direction: Direction, discontinuity: bool }
+    #[cfg(test)]
+    Sequence { raw: Time, current: Time, direction: u8, discontinuity: bool }
+    #[cfg(test)]
     MaybeSequence { present: bool, sequence: Sequence }
-    Event { piece: u8, boundary: bool, report: MaybeSequence }
-    Fed { reports: usize, discontinuities: usize, last: MaybeSequence }
+    Fed { reports: usize, discontinuities: usize, last: u64 }
     Universal { real_time: bool, device_id: u8, sub_id1: u8, has_sub_id2: bool, sub_id2: u8 }
     Written { refusal: u8, length: usize }
     FullMessage { answer: u8, device_id: u8, time: Time }
@@ -180,13 +182,16 @@ unsafe extern "C" {
     pub(crate) safe fn fimbrast_generator_time(generator: Generator) -> Time;
 
     pub(crate) safe fn fimbrast_reader_new() -> Reader;
-    pub(crate) safe fn fimbrast_receive(reader: &mut Reader, byte: u8) -> Event;
+    pub(crate) safe fn fimbrast_receive(reader: &mut Reader, byte: u8) -> u64;
     fn fimbrast_feed(reader: &mut Reader, bytes: *const u8, length: usize) -> Fed;
+    #[cfg(test)]
+    pub(crate) safe fn fimbrast_report_parts(report: u64) -> MaybeSequence;
     pub(crate) safe fn fimbrast_reader_full_message(reader: Reader, time: Time) -> Reader;
     pub(crate) safe fn fimbrast_is_locked(reader: Reader) -> bool;
     pub(crate) safe fn fimbrast_is_running(reader: Reader) -> bool;
     pub(crate) safe fn fimbrast_reader_direction(reader: Reader) -> u8;
     pub(crate) safe fn fimbrast_reader_time(reader: Reader) -> MaybeTime;
+    pub(crate) safe fn fimbrast_reader_parts(reader: Reader) -> ReaderFields;
 
     pub(crate) safe fn fimbrast_addressed(device_id: u8, own: u8) -> bool;
     pub(crate) safe fn fimbrast_has_sub_id2(real_time: bool, sub_id1: u8) -> bool;

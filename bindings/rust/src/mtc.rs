@@ -162,6 +162,18 @@ impl MtcTime {
         }
     }
 
+    /// The label of a report: six bits each of frames, seconds, minutes and hours, from below.
+    #[inline]
+    const fn of_sixes(label: u64, rate: TimeCodeType) -> Self {
+        Self {
+            hours: (label >> 18 & 63) as u8,
+            minutes: (label >> 12 & 63) as u8,
+            seconds: (label >> 6 & 63) as u8,
+            frames: (label & 63) as u8,
+            rate,
+        }
+    }
+
     const fn maybe(time: ffi::MaybeTime) -> Option<Self> {
         if time.present {
             Some(Self::of(time.time))
@@ -406,16 +418,18 @@ pub struct MtcSequence {
 }
 
 impl MtcSequence {
-    const fn maybe(report: ffi::MaybeSequence) -> Option<Self> {
-        if !report.present {
+    /// The report of a number, which is 0 for none.
+    #[inline]
+    const fn maybe(report: u64) -> Option<Self> {
+        if report == 0 {
             return None;
         }
-        let s = report.sequence;
+        let rate = TimeCodeType::of((report >> 3 & 3) as u8);
         Some(Self {
-            raw: s.raw,
-            current: s.current,
-            direction: s.direction,
-            discontinuity: s.discontinuity,
+            raw: MtcTime::of_sixes(report >> 7, rate),
+            current: MtcTime::of_sixes(report >> 31, rate),
+            direction: Direction::of((report >> 1 & 1) as u8),
+            discontinuity: report & 4 != 0,
         })
     }
 }
@@ -432,6 +446,23 @@ pub struct MtcEvent {
     pub sequence: Option<MtcSequence>,
 }
 
+impl MtcEvent {
+    /// In an event's number, above the piece.
+    const BOUNDARY: u64 = 1 << 8;
+    /// An event's number from here on has a report.
+    const REPORT: u64 = 1 << 9;
+
+    /// One byte in eight has a report; the others do not wait for it.
+    #[inline(never)]
+    const fn reporting(event: u64) -> Self {
+        Self {
+            piece: event as u8,
+            boundary: event & Self::BOUNDARY != 0,
+            sequence: MtcSequence::maybe(event / Self::REPORT),
+        }
+    }
+}
+
 /// What a list of data bytes gives.
 #[derive(Debug, Clone, Copy, PartialEq, Eq, Hash)]
 pub struct Fed {
@@ -443,7 +474,7 @@ pub struct Fed {
     pub last: Option<MtcSequence>,
 }
 
-/// The Quarter Frame reader. 26 bytes.
+/// The Quarter Frame reader. 16 bytes.
 ///
 /// ```
 /// use fimbrast::mtc::{Direction, MtcReader, MtcTime, TimeCodeType};
@@ -485,15 +516,14 @@ impl MtcReader {
     #[inline]
     pub fn receive(&mut self, byte: u8) -> MtcEvent {
         let event = ffi::fimbrast_receive(&mut self.record, byte);
-        let mut answer = MtcEvent {
-            piece: event.piece,
-            boundary: event.boundary,
-            sequence: None,
-        };
-        if event.report.present {
-            answer.sequence = MtcSequence::maybe(event.report);
+        if event >= MtcEvent::REPORT {
+            return MtcEvent::reporting(event);
         }
-        answer
+        MtcEvent {
+            piece: event as u8,
+            boundary: event & MtcEvent::BOUNDARY != 0,
+            sequence: None,
+        }
     }
 
     /// Takes a list of data bytes, each as [`MtcReader::receive`] does.
@@ -541,27 +571,17 @@ impl MtcReader {
     }
 
     fn view(&self) -> view::MtcReader {
-        let ffi::Reader {
-            nibbles,
-            count,
-            first,
-            last,
-            direction,
-            locked,
-            running,
-            previous,
-            time,
-        } = self.record;
+        let parts = ffi::fimbrast_reader_parts(self.record);
         view::MtcReader {
-            nibbles,
-            count,
-            first,
-            last: piece(last),
-            direction: Direction::maybe(direction),
-            locked,
-            running,
-            previous: MtcTime::maybe(previous),
-            time: MtcTime::maybe(time),
+            nibbles: parts.nibbles,
+            count: parts.count,
+            first: parts.first,
+            last: piece(parts.last),
+            direction: Direction::maybe(parts.direction),
+            locked: parts.locked,
+            running: parts.running,
+            previous: MtcTime::maybe(parts.previous),
+            time: MtcTime::maybe(parts.time),
         }
     }
 }

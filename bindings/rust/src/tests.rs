@@ -110,10 +110,10 @@ fn layout_is_the_headers() {
         "eight_bytes" EightBytes { bytes }
         "generator" Generator { time, direction, last, running }
         "next" Next { refusal, byte }
-        "reader" Reader { nibbles, count, first, last, direction, locked, running, previous, time }
+        "reader" Reader { words }
+        "reader_fields" ReaderFields { nibbles, count, first, last, direction, locked, running, previous, time }
         "sequence" Sequence { raw, current, direction, discontinuity }
         "maybe_sequence" MaybeSequence { present, sequence }
-        "event" Event { piece, boundary, report }
         "fed" Fed { reports, discontinuities, last }
         "universal" Universal { real_time, device_id, sub_id1, has_sub_id2, sub_id2 }
         "written" Written { refusal, length }
@@ -139,7 +139,7 @@ fn layout_is_the_headers() {
         "run" Run { generator, commands, refused, stop }
     }
     assert_eq!(text, include_str!("../../c/layout.out"));
-    assert_eq!(size_of::<MtcReader>(), 26);
+    assert_eq!(size_of::<MtcReader>(), 16);
 }
 
 #[test]
@@ -313,6 +313,37 @@ fn reader() {
         (LABEL, LABEL.add_frames(-1))
     );
     assert_eq!(reverse.direction, Direction::Reverse);
+}
+
+#[test]
+fn reports_are_the_librarys() {
+    for (direction, rate) in [Direction::Forward, Direction::Reverse]
+        .into_iter()
+        .flat_map(|d| RATES.map(|r| (d, r)))
+    {
+        let time = MtcTime::new(23, 59, 58, 20, rate).unwrap();
+        let mut g = MtcGenerator::new(time, direction);
+        let mut r = MtcReader::new();
+        let mut record = ffi::fimbrast_reader_new();
+        for turn in 0..400 {
+            if turn % 90 == 0 {
+                g.locate(time.add_frames(turn));
+            }
+            let byte = g.next_byte().unwrap();
+            let sequence = r.receive(byte).sequence;
+            let event = ffi::fimbrast_receive(&mut record, byte);
+            let report = ffi::fimbrast_report_parts(event >> 9);
+            assert_eq!(sequence.is_some(), report.present);
+            let Some(s) = sequence else { continue };
+            let parts = ffi::Sequence {
+                raw: s.raw.flat(),
+                current: s.current.flat(),
+                direction: s.direction as u8,
+                discontinuity: s.discontinuity,
+            };
+            assert_eq!(parts, report.sequence);
+        }
+    }
 }
 
 #[test]

@@ -1,5 +1,5 @@
 -- A list of quarter frames, byte by byte, and what its counts mean. Assumes nothing.
-use Prim.Native.Nat.{ℕ, suc, _+_, _≤_, _<_}
+use Prim.Native.Nat.{ℕ, suc, _+_, _/_, _≤_, _<_}
 use mathlib.Core.Path.{_≡_, refl, sym, subst, ap, ap₂, _∙_}
 use mathlib.Core.Bool.{Bool, true, false, cond}
 use mathlib.Core.List.{List, [], _∷_, map}
@@ -9,11 +9,12 @@ use native.Mathlib.Omega.{arith}
 use lib.Dec.{lit≤}
 use lib.ListN.{length, drop, getD, drop-of-length-le}
 use lib.Seq.{drop-cons}
-use Rattle.flat.specs.Reader.{flatSequence, flatMaybeSequence, flatEvent, readerIn}
-use Rattle.flat.specs.declared.reader.FlatEvent.{FlatEvent}
+use Rattle.flat.proofs.Laws.{report-of, none-reported, some-reported, jump-reported}
+use Rattle.flat.specs.Reader.{flatReport, flatEvent, readerIn}
 use Rattle.fimbrast.specs.Feed.{Fed, unfed, counted, fedBy, fedAll, fed, flatFed, flatCounted, one, jump, later, total, lastOf, Feeds}
 use Rattle.fimbrast.specs.declared.feed.FlatFed.{FlatFed}
 use Rattle.mtc.proofs.Laws.{calls-none, calls-more, events-more}
+use Rattle.mtc.specs.QuarterFrame.{pieceOf}
 use Rattle.mtc.specs.Reader.{afterByte, eventOf}
 use Rattle.mtc.specs.Stream.{byte, afterCalls, events}
 use Rattle.mtc.specs.declared.reader.MaybeSequence.{MaybeSequence}
@@ -75,12 +76,12 @@ module _ (f : Fed) (r : MtcReader) where
   counted-last NoSequence = refl
   counted-last (Sequence s) = refl
 
-flat-counted : (f : Fed) (r : MtcReader) (s : MaybeSequence) → flatCounted (flatFed f) (flatMaybeSequence s) ≡ flatFed (counted f r s)
-unfolding flatCounted flatFed counted flatMaybeSequence flatSequence
-flat-counted f r NoSequence = refl
-flat-counted f r (Sequence s) = refl
+flat-counted : (f : Fed) (r : MtcReader) (s : MaybeSequence) → flatCounted (flatFed f) (flatReport s) ≡ flatFed (counted f r s)
+unfolding flatCounted flatFed counted
+flat-counted f r NoSequence = rw none-reported
+flat-counted f r (Sequence s) = rw (some-reported s, jump-reported s)
 
--- After i bytes: the counts and the reader's bytes stand for a state from which the rest gives what all bytes give.
+-- After i bytes: the counts and the reader's words stand for a state from which the rest gives what all bytes give.
 pub record After (r₀ : MtcReader) (bs rs : List ℕ) (f : FlatFed) (i : ℕ) : Type 0 where
   pub state : Fed
   pub flat : f ≡ flatFed state
@@ -101,16 +102,17 @@ before-all bs rs f e =
       rest = refl;
     }
 
-pub after-one : (r₀ : MtcReader) (bs rs qs : List ℕ) (f g : FlatFed) (i : ℕ) (e : FlatEvent) → After r₀ bs rs f i → i < length bs
+pub after-one : (r₀ : MtcReader) (bs rs qs : List ℕ) (f g : FlatFed) (i e : ℕ) → After r₀ bs rs f i → i < length bs
     → (e ≡ flatEvent (eventOf (readerIn rs) (getD bs i 0))) × (readerIn qs ≡ afterByte (readerIn rs) (getD bs i 0))
-    → g ≡ flatCounted f (e .report) → After r₀ bs qs g (i + 1)
-unfolding fedBy flatFed flatEvent
+    → g ≡ flatCounted f (e / 512) → After r₀ bs qs g (i + 1)
+unfolding fedBy flatFed
 after-one r₀ bs rs qs f g i e a h q eg =
     let b : ℕ = getD bs i 0 in
     let s : Fed = a .state in
     let t : Fed = fedBy s b in
-    let said : e .report ≡ flatMaybeSequence (eventOf (s .reader) b .sequence)
-    = ap (λ (x : FlatEvent). x .report) (q .0) ∙ ap (λ (r : MtcReader). flatMaybeSequence (eventOf r b .sequence)) (a .reader) in
+    let said : e / 512 ≡ flatReport (eventOf (s .reader) b .sequence)
+    = ap (λ (x : ℕ). x / 512) (q .0) ∙ report-of (pieceOf b) (eventOf (readerIn rs) b .sequence) (omega arith)
+    ∙ ap (λ (r : MtcReader). flatReport (eventOf r b .sequence)) (a .reader) in
     let same : g ≡ flatFed t
     = eg ∙ ap₂ flatCounted (a .flat) said ∙ flat-counted s (afterByte (s .reader) b) (eventOf (s .reader) b .sequence) in
     let n : t .reports ≤ s .reports + 1 = fed-reports s b in

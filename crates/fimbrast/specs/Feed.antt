@@ -1,11 +1,11 @@
 -- What a list of quarter frames leaves in a reader, and what it reports: as the code counts it, and what the counts mean. Assumes
 -- nothing.
-use Prim.Native.Nat.{ℕ, _+_}
+use Prim.Native.Nat.{ℕ, _+_, _/_, _%_}
 use mathlib.Core.Bool.{Bool, cond}
 use mathlib.Core.List.{List, [], _∷_, map}
 use mathlib.Core.Path.{_≡_}
-use Rattle.flat.specs.Reader.{flatMaybeSequence}
-use Rattle.flat.specs.declared.reader.FlatMaybeSequence.{FlatMaybeSequence}
+use Rattle.flat.specs.Generator.{isSet}
+use Rattle.flat.specs.Reader.{flatReport}
 use Rattle.fimbrast.specs.declared.feed.FlatFed.{FlatFed}
 use Rattle.mtc.specs.Reader.{afterByte, eventOf}
 use Rattle.mtc.specs.Stream.{byte, afterCalls, events}
@@ -48,20 +48,19 @@ fedAll f (b ∷ bs) = fedAll (fedBy f b) bs
 unfoldable pub fed : MtcReader → List ℕ → Fed
 fed r bs = fedAll (unfed r) bs
 
--- The counts and the last report in numbers; the reader is left in its bytes.
+-- The counts and the last report in numbers; the reader is left in its words.
 unfoldable pub flatFed : Fed → FlatFed
 flatFed f =
     record {
       reports = f .reports;
       discontinuities = f .discontinuities;
-      last = flatMaybeSequence (f .last);
+      last = flatReport (f .last);
     }
 
--- A report in numbers, counted.
-unfoldable pub flatCounted : FlatFed → FlatMaybeSequence → FlatFed
+-- A report as a number, counted; its third bit is the discontinuity.
+unfoldable pub flatCounted : FlatFed → ℕ → FlatFed
 flatCounted f s =
-    cond (s .present)
-    (record { reports = f .reports + 1; discontinuities = f .discontinuities + cond (s .sequence .discontinuity) 1 0; last = s }) f
+    cond (isSet s) (record { reports = f .reports + 1; discontinuities = f .discontinuities + s / 4 % 2; last = s }) f
 
 -- ---- what it means
 

@@ -1,32 +1,38 @@
 // The quarter frame reader.
-use flat::reader::FlatEvent;
+use flat::reader::FlatMaybeSequence;
 use flat::reader::FlatMaybeTime;
 use flat::reader::FlatReader;
+use flat::reader::FlatReaderFields;
+use flat::reader::direction;
 use flat::reader::flat_maybe_time;
-use flat::reader::flat_reader;
 use flat::reader::flat_way;
-use flat::reader::reader_of;
+use flat::reader::fresh;
+use flat::reader::informed;
+use flat::reader::is_locked;
+use flat::reader::is_running;
+use flat::reader::reader_fields;
+use flat::reader::reader_in;
 use flat::reader::receive;
+use flat::reader::report_at;
+use flat::reader::time;
 use flat::time::FlatTime;
 use flat::time::time_of;
-use mtc::FullMessage;
-use mtc::MtcReader;
 ghost use mathlib.Core.Path.{_≡_};
-ghost use Rattle.mtc.specs.Reader.{fresh, taken, afterByte, eventOf, afterFullMessage};
+ghost use Rattle.mtc.specs.Reader.{fresh, afterByte, eventOf, afterFullMessage};
 ghost use Rattle.flat.specs.Time.{timeOf};
-ghost use Rattle.flat.specs.Reader.{flatWay, flatMaybeTime, readerOf, flatReader, readerIn, flatEvent};
+ghost use Rattle.flat.specs.Reader.{flatWay, flatMaybeTime, readerIn, readerFields, flatEvent, reportAt, flatMaybeSequence};
 
 // `MtcReader::new`.
 #[no_mangle]
 pub extern "C" fn fimbrast_reader_new() -> FlatReader
-    ensures { λ r. ⌜ r ≡ flatReader fresh ⌝ }
+    ensures { λ r. ⌜ readerIn (r .words) ≡ fresh ⌝ }
 {
-    flat_reader(MtcReader::new())
+    FlatReader { words: fresh() }
 }
 
-// `MtcReader::receive`, on the record's bytes.
+// `MtcReader::receive`, on the record's words. The event comes as one number.
 #[no_mangle]
-pub extern "C" fn fimbrast_receive(reader: &mut [u8; 26], byte: u8) -> FlatEvent
+pub extern "C" fn fimbrast_receive(reader: &mut [u32; 4], byte: u8) -> u64
     ensures { λ r. ⌜ (r ≡ flatEvent (eventOf (readerIn (now (reader .entry))) byte)) × (readerIn (now (reader .exit)) ≡ afterByte (readerIn (now (reader .entry))) byte) ⌝ }
 {
     receive(reader, byte)
@@ -35,43 +41,63 @@ pub extern "C" fn fimbrast_receive(reader: &mut [u8; 26], byte: u8) -> FlatEvent
 // `MtcReader::full_message`, with the message's time.
 #[no_mangle]
 pub extern "C" fn fimbrast_reader_full_message(reader: FlatReader, time: FlatTime) -> FlatReader
-    ensures { λ r. ⌜ r ≡ flatReader (afterFullMessage (readerOf reader) (timeOf time)) ⌝ }
+    ensures { λ r. ⌜ readerIn (r .words) ≡ afterFullMessage (readerIn (reader .words)) (timeOf time) ⌝ }
 {
-    let message = FullMessage {
-        device_id: 0x7F,
-        time: time_of(time),
-    };
-    flat_reader(reader_of(reader).informed(message))
+    let words = reader.words;
+    FlatReader {
+        words: informed(words, time_of(time)),
+    }
 }
 
 // `MtcReader::is_locked`.
 #[no_mangle]
 pub extern "C" fn fimbrast_is_locked(reader: FlatReader) -> bool
-    ensures { λ r. ⌜ r ≡ taken (readerOf reader) .locked ⌝ }
+    ensures { λ r. ⌜ r ≡ readerIn (reader .words) .locked ⌝ }
 {
-    reader_of(reader).is_locked()
+    let words = reader.words;
+    is_locked(words)
 }
 
 // `MtcReader::is_running`.
 #[no_mangle]
 pub extern "C" fn fimbrast_is_running(reader: FlatReader) -> bool
-    ensures { λ r. ⌜ r ≡ taken (readerOf reader) .running ⌝ }
+    ensures { λ r. ⌜ r ≡ readerIn (reader .words) .running ⌝ }
 {
-    reader_of(reader).is_running()
+    let words = reader.words;
+    is_running(words)
 }
 
 // `MtcReader::direction`: 0 forward, 1 reverse, 255 none.
 #[no_mangle]
 pub extern "C" fn fimbrast_reader_direction(reader: FlatReader) -> u8
-    ensures { λ r. ⌜ r ≡ flatWay (taken (readerOf reader) .direction) ⌝ }
+    ensures { λ r. ⌜ r ≡ flatWay (readerIn (reader .words) .direction) ⌝ }
 {
-    flat_way(reader_of(reader).direction())
+    let words = reader.words;
+    flat_way(direction(words))
 }
 
 // `MtcReader::time`.
 #[no_mangle]
 pub extern "C" fn fimbrast_reader_time(reader: FlatReader) -> FlatMaybeTime
-    ensures { λ r. ⌜ r ≡ flatMaybeTime (taken (readerOf reader) .time) ⌝ }
+    ensures { λ r. ⌜ r ≡ flatMaybeTime (readerIn (reader .words) .time) ⌝ }
 {
-    flat_maybe_time(reader_of(reader).time())
+    let words = reader.words;
+    flat_maybe_time(time(words))
+}
+
+// The reader field by field.
+#[no_mangle]
+pub extern "C" fn fimbrast_reader_parts(reader: FlatReader) -> FlatReaderFields
+    ensures { λ r. ⌜ r ≡ readerFields (readerIn (reader .words)) ⌝ }
+{
+    let words = reader.words;
+    reader_fields(reader_in(words))
+}
+
+// The report of a number, which is none where its lowest bit is 0.
+#[no_mangle]
+pub extern "C" fn fimbrast_report_parts(report: u64) -> FlatMaybeSequence
+    ensures { λ r. ⌜ r ≡ flatMaybeSequence (reportAt report) ⌝ }
+{
+    report_at(report)
 }

@@ -18,6 +18,7 @@ use Rattle.labels.proofs.Moving
 use Rattle.labels.proofs.Order
 -- A rate has at most 30 frames.
 pub use Rattle.labels.proofs.Rates.{fps-small}
+use Rattle.labels.proofs.Short
 use Rattle.labels.proofs.Validity
 -- A valid label's numbers are in their ranges, and fit the widths in which they are sent.
 pub use Rattle.labels.proofs.Validity.{InRange, valid-facts, Widths, valid-widths}
@@ -64,6 +65,11 @@ moved-by-sum = Moving.moved-by-sum
 -- Moving by 0 keeps a valid label.
 pub moved-by-none : (t : MtcTime) → T (isValid t) → addFrames t (pos 0) ≡ t
 moved-by-none = Moving.moved-by-none
+
+-- Two frames later in the same second is a sum.
+pub two-later : (r : TimeCodeType) (h m s f : ℕ) → h ≤ 23 → m ≤ 59 → s ≤ 59 → f + 2 < framesPerSecond r
+    → label r h m s (f + 2) ≡ addFrames (label r h m s f) (pos 2)
+two-later = Short.two-later
 
 -- ---- by ST 12-1
 

@@ -19,16 +19,23 @@ use fimbrast::reader::fimbrast_is_running;
 use fimbrast::reader::fimbrast_reader_direction;
 use fimbrast::reader::fimbrast_reader_full_message;
 use fimbrast::reader::fimbrast_reader_new;
+use fimbrast::reader::fimbrast_reader_parts;
 use fimbrast::reader::fimbrast_reader_time;
 use fimbrast::reader::fimbrast_receive;
+use fimbrast::reader::fimbrast_report_parts;
 use fimbrast::time::fimbrast_pieces;
 use fimbrast::time::fimbrast_quarter_frame_byte;
 use fimbrast::time::fimbrast_quarter_frame_read;
 use flat::generator::FlatGenerator;
-use flat::reader::FlatEvent;
+use flat::generator::piece_at;
 use flat::reader::FlatMaybeTime;
 use flat::reader::FlatReader;
+use flat::reader::way_at;
+use flat::reader::words_of;
 use flat::time::FlatFrame;
+use flat::time::time_of;
+use mtc::MaybeTime;
+use mtc::MtcReader;
 ghost use Prim.Native.Nat.{_<_};
 
 fn read_frame(byte: u8, answer: &[u8]) -> usize {
@@ -110,27 +117,30 @@ pub(crate) fn generated(call: u8, input: &[u8], answer: &[u8]) -> usize {
     }
 }
 
-fn maybe_time_at(input: &[u8], at: usize) -> FlatMaybeTime
+fn maybe_time_at(input: &[u8], at: usize) -> MaybeTime
     requires { ⌜ at < 65535 ⌝ }
 {
-    FlatMaybeTime {
-        present: flag_at(input, at),
-        time: time_at(input, at + 1),
+    if flag_at(input, at) {
+        return MaybeTime::Time(time_of(time_at(input, at + 1)));
     }
+    MaybeTime::NoTime
 }
 
 fn reader_at(input: &[u8]) -> FlatReader {
     let nibbles = eight_at(input, 0);
-    FlatReader {
+    let reader = MtcReader {
         nibbles,
         count: byte_at(input, 8),
         first: byte_at(input, 9),
-        last: byte_at(input, 10),
-        direction: byte_at(input, 11),
+        last: piece_at(byte_at(input, 10)),
+        direction: way_at(byte_at(input, 11)),
         locked: flag_at(input, 12),
         running: flag_at(input, 13),
         previous: maybe_time_at(input, 14),
         time: maybe_time_at(input, 20),
+    };
+    FlatReader {
+        words: words_of(reader),
     }
 }
 
@@ -139,7 +149,8 @@ fn maybe_time_is(maybe: FlatMaybeTime, answer: &[u8], at: usize) -> usize {
     time_is(time, answer, byte_is(maybe.present as u8, answer, at))
 }
 
-fn reader_is(reader: FlatReader, answer: &[u8]) -> usize {
+fn reader_is(record: FlatReader, answer: &[u8]) -> usize {
+    let reader = fimbrast_reader_parts(record);
     let nibbles = reader.nibbles;
     let previous = reader.previous;
     let time = reader.time;
@@ -157,44 +168,33 @@ fn reader_is(reader: FlatReader, answer: &[u8]) -> usize {
     maybe_time_is(time, answer, at)
 }
 
-fn event_is(event: FlatEvent, answer: &[u8], from: usize) -> usize {
-    let report = event.report;
+fn event_is(event: u64, answer: &[u8], from: usize) -> usize {
+    let report = fimbrast_report_parts(event / 512);
     let sequence = report.sequence;
     let raw = sequence.raw;
     let current = sequence.current;
-    let at = two_are(event.piece, event.boundary as u8, answer, from);
+    let piece = (event % 256) as u8;
+    let boundary = (event / 256 % 2) as u8;
+    let at = two_are(piece, boundary, answer, from);
     let at = byte_is(report.present as u8, answer, at);
     let at = time_is(raw, answer, at);
     let at = time_is(current, answer, at);
     two_are(sequence.direction, sequence.discontinuity as u8, answer, at)
 }
 
-// The first 26 bytes of the input.
-fn record_at(input: &[u8]) -> [u8; 26] {
-    let mut record = [0u8; 26];
-    let mut i: usize = 0;
-    while i < 26 {
-        record[i] = byte_at(input, i);
-        i += 1;
-    }
-    record
-}
-
-// The bytes that a call left.
-fn record_is(record: &[u8; 26], answer: &[u8]) -> usize {
-    let mut at: usize = 0;
-    let mut i: usize = 0;
-    while i < 26 {
-        at = byte_is(record[i], answer, at);
-        i += 1;
-    }
-    at
+// The words that a call left.
+fn four_of(w: &[u32; 4]) -> [u32; 4] {
+    [w[0], w[1], w[2], w[3]]
 }
 
 fn receive(input: &[u8], answer: &[u8]) -> usize {
-    let mut reader = record_at(input);
-    let event = fimbrast_receive(&mut reader, byte_at(input, 26));
-    event_is(event, answer, record_is(&reader, answer))
+    let record = reader_at(input);
+    let mut words = record.words;
+    let event = fimbrast_receive(&mut words, byte_at(input, 26));
+    let left = FlatReader {
+        words: four_of(&words),
+    };
+    event_is(event, answer, reader_is(left, answer))
 }
 
 fn state(reader: FlatReader, answer: &[u8]) -> usize {

@@ -1,5 +1,5 @@
 -- `fimbrast::feed::counted` meets its contract. Assumes nothing.
-use borrow.Author.Tests.{not-true, not-false}
+use borrow.Author.Tests.{eq-eqb, ne-eqb}
 use Rattle.fimbrast.specs.Feed.{flatCounted}
 use borrow.Author.Needs.{needs}
 use Rattle.fimbrast.proofs.feed.counted.Statement.{statement}
@@ -7,22 +7,17 @@ use Rattle.fimbrast.proofs.feed.counted.Tie as tie
 
 returns : tie.Need-returns
 unfolding flatCounted
-returns c =
-    rw (not-true (c .before .before .args .report .present) (c .if1 .taken))
+returns c = rw (eq-eqb _ _ (c .if1 .taken))
 
-add-t5 : tie.Need-add-t5
-add-t5 c = search needs
+add-t4 : tie.Need-add-t4
+add-t4 c = search needs
 
-one-if-requires : tie.Need-one-if-requires
-one-if-requires c κs = search needs
-
-add-t7 : tie.Need-add-t7
-add-t7 c = search needs
+add-t8 : tie.Need-add-t8
+add-t8 c = search needs
 
 returns-2 : tie.Need-returns-2
 unfolding flatCounted
-returns-2 c =
-    rw (not-false (c .before .before .before .before .before .before .args .report .present) (c .before .before .before .before .if1 .left), c .before .one-if .ensures .0)
+returns-2 c = rw (ne-eqb _ _ (c .before .before .if1 .left))
 
 pub counted-spec : {M : Type 1} → statement M
-counted-spec = tie.close (tie.spec returns add-t5 one-if-requires add-t7 returns-2)
+counted-spec = tie.close (tie.spec returns add-t4 add-t8 returns-2)

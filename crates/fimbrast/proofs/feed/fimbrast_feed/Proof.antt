@@ -1,9 +1,10 @@
--- `fimbrast::feed::fimbrast_feed` meets its contract. The loop's invariant: the counts and the reader's bytes are those of the first
+-- `fimbrast::feed::fimbrast_feed` meets its contract. The loop's invariant: the counts and the reader's words are those of the first
 -- `i` bytes. The measure is how many are left. Assumes nothing.
 use Prim.Native.Nat.{_≤_, _-_}
 use native.Mathlib.Omega.{arith}
 use borrow.Author.Needs.{needs}
 use lib.ListN.{length}
+use Rattle.flat.proofs.Laws.{none-reported}
 use Rattle.flat.specs.Reader.{readerIn}
 use Rattle.fimbrast.specs.Feed.{flatFed}
 use Rattle.fimbrast.proofs.Feeding.{After, before-all, after-one, after-all}
@@ -16,12 +17,9 @@ Inv-loop reader₀ bytes f₀ i₀ reader f i = (i ≤ length bytes) × After (r
 abbrev μ-loop : tie.MeasureT-loop
 μ-loop reader₀ bytes f₀ i₀ reader f i = length bytes - i
 
-flat-maybe-sequence-requires : tie.Need-flat-maybe-sequence-requires Inv-loop μ-loop
-flat-maybe-sequence-requires c κs = search needs
-
 loop-holds : tie.Need-loop-holds Inv-loop μ-loop
 unfolding flatFed
-loop-holds c = (search needs, before-all _ _ _ (rw (c .flat-maybe-sequence .ensures)))
+loop-holds c = (search needs, before-all _ _ _ (rw none-reported))
 
 shared-slice-read-receive : tie.Need-shared-slice-read-receive Inv-loop μ-loop
 shared-slice-read-receive c = omega arith
@@ -30,7 +28,7 @@ receive-requires : tie.Need-receive-requires Inv-loop μ-loop
 receive-requires c κs = search needs
 
 counted-requires : tie.Need-counted-requires Inv-loop μ-loop
-counted-requires c κs = (omega (arith, c .before .before .before .before .before .loop .inv .1 .reports), omega (arith, c .before .before .before .before .before .loop .inv .1 .discontinuities))
+counted-requires c κs = (omega (arith, c .before .before .before .before .loop .inv .1 .reports), omega (arith, c .before .before .before .before .loop .inv .1 .discontinuities))
 
 add-i : tie.Need-add-i Inv-loop μ-loop
 add-i c = omega arith
@@ -39,7 +37,7 @@ loop-less : tie.Need-loop-less Inv-loop μ-loop
 loop-less c = omega arith
 
 loop-again : tie.Need-loop-again Inv-loop μ-loop
-loop-again c = (omega arith, after-one _ _ _ _ _ _ _ _ (c .before .before .before .before .before .before .loop .inv .1) (c .before .before .before .before .before .loop-test .taken) (c .before .before .receive .ensures) (c .counted .ensures))
+loop-again c = (omega arith, after-one _ _ _ _ _ _ _ _ (c .before .before .before .before .before .loop .inv .1) (c .before .before .before .before .loop-test .taken) (c .before .receive .ensures) (c .counted .ensures))
 
 returns : tie.Need-returns Inv-loop μ-loop
 returns c = after-all _ _ _ _ _ (c .before .loop .inv .1) (c .loop-test .left)
@@ -50,7 +48,6 @@ fimbrast-feed-spec =
     (tie.spec
     Inv-loop
     μ-loop
-    flat-maybe-sequence-requires
     loop-holds
     shared-slice-read-receive
     receive-requires

@@ -3,9 +3,6 @@ use borrow.Author.Needs.{needs}
 use Rattle.fimbrast.proofs.reader.fimbrast_reader_direction.Statement.{statement}
 use Rattle.fimbrast.proofs.reader.fimbrast_reader_direction.Tie as tie
 
-reader-of-requires : tie.Need-reader-of-requires
-reader-of-requires c κs = search needs
-
 direction-requires : tie.Need-direction-requires
 direction-requires c κs = search needs
 
@@ -16,5 +13,4 @@ returns : tie.Need-returns
 returns c = cc
 
 pub fimbrast-reader-direction-spec : {M : Type 1} → statement M
-fimbrast-reader-direction-spec =
-    tie.close (tie.spec reader-of-requires direction-requires flat-way-requires returns)
+fimbrast-reader-direction-spec = tie.close (tie.spec direction-requires flat-way-requires returns)

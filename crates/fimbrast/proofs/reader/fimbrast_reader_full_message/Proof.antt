@@ -6,19 +6,11 @@ use Rattle.fimbrast.proofs.reader.fimbrast_reader_full_message.Tie as t
 time-of-requires : tie.Need-time-of-requires
 time-of-requires c κs = search needs
 
-reader-of-requires : tie.Need-reader-of-requires
-reader-of-requires c κs = search needs
-
 informed-requires : tie.Need-informed-requires
 informed-requires c κs = search needs
-
-flat-reader-requires : tie.Need-flat-reader-requires
-flat-reader-requires c κs = search needs
 
 returns : tie.Need-returns
 returns c = cc
 
 pub fimbrast-reader-full-message-spec : {M : Type 1} → statement M
-fimbrast-reader-full-message-spec =
-    tie.close
-    (tie.spec time-of-requires reader-of-requires informed-requires flat-reader-requires returns)
+fimbrast-reader-full-message-spec = tie.close (tie.spec time-of-requires informed-requires returns)

@@ -3,9 +3,6 @@ use borrow.Author.Needs.{needs}
 use Rattle.fimbrast.proofs.reader.fimbrast_reader_time.Statement.{statement}
 use Rattle.fimbrast.proofs.reader.fimbrast_reader_time.Tie as tie
 
-reader-of-requires : tie.Need-reader-of-requires
-reader-of-requires c κs = search needs
-
 time-requires : tie.Need-time-requires
 time-requires c κs = search needs
 
@@ -16,5 +13,4 @@ returns : tie.Need-returns
 returns c = cc
 
 pub fimbrast-reader-time-spec : {M : Type 1} → statement M
-fimbrast-reader-time-spec =
-    tie.close (tie.spec reader-of-requires time-requires flat-maybe-time-requires returns)
+fimbrast-reader-time-spec = tie.close (tie.spec time-requires flat-maybe-time-requires returns)

@@ -1,23 +1,33 @@
 -- `flat::reader::complete` meets its contract. Assumes nothing.
-use native.Mathlib.Omega.{arith}
 use mathlib.Core.Path.{refl, sym, ap, _∙_}
 use Rattle.mtc.specs.Reader.{eventWith}
 use Rattle.mtc.specs.declared.reader.MaybeSequence.the-variants.{Sequence}
 use Rattle.mtc.specs.declared.reader.MtcSequence.{MtcSequence}
 use Rattle.flat.specs.Reader.{flatEvent}
-use Rattle.flat.proofs.Bytes.{ended, times-range, reported-in}
+use Rattle.flat.proofs.Words.{reports}
 use borrow.Author.Needs.{needs}
 use Rattle.flat.proofs.reader.complete.Statement.{statement}
 use Rattle.flat.proofs.reader.complete.Tie as tie
 
+element-copy-out-raw-in : tie.Need-element-copy-out-raw-in
+element-copy-out-raw-in c = search needs
+
 raw-in-requires : tie.Need-raw-in-requires
 raw-in-requires c κs = search needs
 
-element-copy-out-direction-at : tie.Need-element-copy-out-direction-at
-element-copy-out-direction-at c = search needs
+is-steady-requires : tie.Need-is-steady-requires
+is-steady-requires c κs = search needs
 
-direction-at-requires : tie.Need-direction-at-requires
-direction-at-requires c κs = search needs
+steady-requires : tie.Need-steady-requires
+steady-requires c κs = c .before .before .is-steady .ensures .0 (c .before .if1 .taken) .0
+
+keep-requires : tie.Need-keep-requires
+keep-requires c κs = (c .before .before .before .before .before .before .before .pre, c .before .before .before .is-steady .ensures .1)
+
+returns : tie.Need-returns
+returns c =
+    let q = reports _ (c .before .before .before .before .before .before .before .before .pre) _ _ _ (c .before .before .before .before .before .before .raw-in .ensures) refl (c .before .steady .ensures ∙ sym (c .before .before .before .before .is-steady .ensures .0 (c .before .before .before .if1 .taken) .1)) in
+    (c .keep .ensures .0 ∙ ap (λ (s : MtcSequence). flatEvent (eventWith 7 (Sequence s))) q, c .keep .ensures .1 q)
 
 previous-in-requires : tie.Need-previous-in-requires
 previous-in-requires c κs = search needs
@@ -25,86 +35,25 @@ previous-in-requires c κs = search needs
 report-requires : tie.Need-report-requires
 report-requires c κs = search needs
 
-flat-time-requires : tie.Need-flat-time-requires
-flat-time-requires c κs = search needs
+keep-requires-2 : tie.Need-keep-requires-2
+keep-requires-2 c κs = (c .before .before .before .before .before .before .before .before .before .pre, c .before .before .before .before .before .is-steady .ensures .1)
 
-flat-time-requires-2 : tie.Need-flat-time-requires-2
-flat-time-requires-2 c κs = search needs
-
-element-write-r : tie.Need-element-write-r
-element-write-r c = search needs
-
-element-write-r-2 : tie.Need-element-write-r-2
-element-write-r-2 c = search needs
-
-element-write-r-3 : tie.Need-element-write-r-3
-element-write-r-3 c = search needs
-
-element-write-r-4 : tie.Need-element-write-r-4
-element-write-r-4 c = search needs
-
-element-write-r-5 : tie.Need-element-write-r-5
-element-write-r-5 c = search needs
-
-element-write-r-6 : tie.Need-element-write-r-6
-element-write-r-6 c = search needs
-
-element-write-r-7 : tie.Need-element-write-r-7
-element-write-r-7 c = search needs
-
-element-write-r-8 : tie.Need-element-write-r-8
-element-write-r-8 c = search needs
-
-element-write-r-9 : tie.Need-element-write-r-9
-element-write-r-9 c = search needs
-
-element-write-r-10 : tie.Need-element-write-r-10
-element-write-r-10 c = search needs
-
-element-write-r-11 : tie.Need-element-write-r-11
-element-write-r-11 c = search needs
-
-element-write-r-12 : tie.Need-element-write-r-12
-element-write-r-12 c = search needs
-
-element-write-r-13 : tie.Need-element-write-r-13
-element-write-r-13 c = search needs
-
-event-requires : tie.Need-event-requires
-event-requires c κs = search needs
-
-flat-event-requires : tie.Need-flat-event-requires
-flat-event-requires c κs = search needs
-
-returns : tie.Need-returns
-returns c =
-    let q = reported-in _ _ _ _ _ (c .before .before .before .before .before .before .before .before .before .before .before .before .before .pre) (c .before .before .before .before .before .before .before .before .before .before .before .raw-in .ensures .0) (c .before .before .before .before .before .before .before .before .before .direction-at .ensures) (c .before .before .before .before .before .before .before .previous-in .ensures) (c .before .before .before .before .before .before .report .ensures) in
-    (c .flat-event .ensures ∙ ap flatEvent (c .before .event .ensures ∙ ap (λ (s : MtcSequence). eventWith (c .before .before .before .before .before .before .before .before .before .before .before .before .before .args .p) (Sequence s)) q), (ended _ _ _ _ (c .before .before .before .before .before .before .before .before .before .before .before .raw-in .ensures .1) q (c .before .before .before .flat-time .ensures) (c .before .before .flat-time2 .ensures), times-range _ _ _ (c .before .before .before .before .before .before .before .before .before .before .before .raw-in .ensures .1)))
+returns-2 : tie.Need-returns-2
+returns-2 c =
+    let q = reports _ (c .before .before .before .before .before .before .before .before .before .before .pre) _ _ _ (c .before .before .before .before .before .before .before .before .raw-in .ensures) (c .before .before .before .previous-in .ensures .0) (c .before .before .report .ensures) in
+    (c .keep2 .ensures .0 ∙ ap (λ (s : MtcSequence). flatEvent (eventWith 7 (Sequence s))) q, c .keep2 .ensures .1 q)
 
 pub complete-spec : {M : Type 1} → statement M
 complete-spec =
     tie.close
     (tie.spec
+    element-copy-out-raw-in
     raw-in-requires
-    element-copy-out-direction-at
-    direction-at-requires
+    is-steady-requires
+    steady-requires
+    keep-requires
+    returns
     previous-in-requires
     report-requires
-    flat-time-requires
-    flat-time-requires-2
-    element-write-r
-    element-write-r-2
-    element-write-r-3
-    element-write-r-4
-    element-write-r-5
-    element-write-r-6
-    element-write-r-7
-    element-write-r-8
-    element-write-r-9
-    element-write-r-10
-    element-write-r-11
-    element-write-r-12
-    element-write-r-13
-    event-requires
-    flat-event-requires
-    returns)
+    keep-requires-2
+    returns-2)

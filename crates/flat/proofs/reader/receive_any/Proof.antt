@@ -1,9 +1,9 @@
 -- `flat::reader::receive_any` meets its contract. Assumes nothing.
-use mathlib.Core.Path.{refl, sym, ap, _∙_}
+use mathlib.Core.Path.{ap, _∙_}
 use Rattle.mtc.specs.Reader.{eventOf}
 use Rattle.mtc.specs.declared.reader.MtcReader.{MtcReader}
 use Rattle.flat.specs.Reader.{flatEvent}
-use Rattle.flat.proofs.Bytes.{any-back}
+use Rattle.flat.proofs.Words.{any-back}
 use borrow.Author.Needs.{needs}
 use Rattle.flat.proofs.reader.receive_any.Statement.{statement}
 use Rattle.flat.proofs.reader.receive_any.Tie as tie
@@ -14,17 +14,16 @@ reader-in-requires c κs = search needs
 step-requires : tie.Need-step-requires
 step-requires c κs = search needs
 
-bytes-of-requires : tie.Need-bytes-of-requires
-bytes-of-requires c κs = search needs
+words-of-requires : tie.Need-words-of-requires
+words-of-requires c κs = search needs
 
 flat-event-requires : tie.Need-flat-event-requires
 flat-event-requires c κs = search needs
 
 returns : tie.Need-returns
-returns c =
-    (c .flat-event .ensures ∙ ap flatEvent (c .before .before .before .before .step .ensures .1 ∙ ap (λ (r : MtcReader). eventOf r (c .before .before .before .before .before .before .before .args .byte)) (c .before .before .before .before .before .reader-in .ensures)), any-back _ _ _ _ _ (c .before .before .before .before .before .reader-in .ensures) (c .before .before .before .before .step .ensures .0) (c .before .bytes-of .ensures))
+returns c = (c .flat-event .ensures ∙ ap flatEvent (c .before .before .before .before .step .ensures .1 ∙ ap (λ (r : MtcReader). eventOf r (c .before .before .before .before .before .before .before .args .byte)) (c .before .before .before .before .before .reader-in .ensures)), any-back _ _ _ _ _ (c .before .before .before .before .before .reader-in .ensures) (c .before .before .before .before .step .ensures .0) (c .before .words-of .ensures))
 
 pub receive-any-spec : {M : Type 1} → statement M
 receive-any-spec =
     tie.close
-    (tie.spec reader-in-requires step-requires bytes-of-requires flat-event-requires returns)
+    (tie.spec reader-in-requires step-requires words-of-requires flat-event-requires returns)

@@ -1,45 +1,23 @@
 -- `flat::reader::time_in` meets its contract. Assumes nothing.
-use Rattle.flat.specs.Reader.{maybeTimeAt}
-use Rattle.flat.specs.Time.{timeAt}
+use borrow.Author.Tests.{eq-eqb, ne-eqb}
+use Rattle.flat.specs.Reader.{timeIn}
 use borrow.Author.Needs.{needs}
 use Rattle.flat.proofs.reader.time_in.Statement.{statement}
 use Rattle.flat.proofs.reader.time_in.Tie as tie
 
-element-copy-out-maybe-time : tie.Need-element-copy-out-maybe-time
-element-copy-out-maybe-time c = search needs
-
-element-copy-out-maybe-time-2 : tie.Need-element-copy-out-maybe-time-2
-element-copy-out-maybe-time-2 c = search needs
-
-element-copy-out-maybe-time-3 : tie.Need-element-copy-out-maybe-time-3
-element-copy-out-maybe-time-3 c = search needs
-
-element-copy-out-maybe-time-4 : tie.Need-element-copy-out-maybe-time-4
-element-copy-out-maybe-time-4 c = search needs
-
-element-copy-out-maybe-time-5 : tie.Need-element-copy-out-maybe-time-5
-element-copy-out-maybe-time-5 c = search needs
-
-element-copy-out-maybe-time-6 : tie.Need-element-copy-out-maybe-time-6
-element-copy-out-maybe-time-6 c = search needs
-
-maybe-time-requires : tie.Need-maybe-time-requires
-maybe-time-requires c κs = search needs
-
 returns : tie.Need-returns
-unfolding maybeTimeAt timeAt
-returns c =
-    c .maybe-time .ensures
+unfolding timeIn
+returns c = rw (eq-eqb _ _ (c .if1 .taken))
+
+from-bits-requires : tie.Need-from-bits-requires
+from-bits-requires c κs = search needs
+
+label-in-requires : tie.Need-label-in-requires
+label-in-requires c κs = search needs
+
+returns-2 : tie.Need-returns-2
+unfolding timeIn
+returns-2 c = rw (ne-eqb _ _ (c .before .before .if1 .left), c .label-in .ensures, c .before .from-bits .ensures)
 
 pub time-in-spec : {M : Type 1} → statement M
-time-in-spec =
-    tie.close
-    (tie.spec
-    element-copy-out-maybe-time
-    element-copy-out-maybe-time-2
-    element-copy-out-maybe-time-3
-    element-copy-out-maybe-time-4
-    element-copy-out-maybe-time-5
-    element-copy-out-maybe-time-6
-    maybe-time-requires
-    returns)
+time-in-spec = tie.close (tie.spec returns from-bits-requires label-in-requires returns-2)
