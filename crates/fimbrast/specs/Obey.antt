@@ -3,7 +3,7 @@ use Prim.Native.Nat.{ℕ, _+_}
 use mathlib.Core.List.{List, [], _∷_}
 use lib.ListN.{length}
 use Rattle.fimbrast.specs.declared.obey.FlatRun.{FlatRun}
-use Rattle.flat.specs.Generator.{flatGenerator}
+use Rattle.flat_mtc.specs.Generator.{flatGenerator}
 use Rattle.mtc.specs.declared.generator.MtcGenerator.{MtcGenerator}
 use Rattle.transport.specs.Demand3.{Run}
 use Rattle.transport.specs.Transport.{Reply}

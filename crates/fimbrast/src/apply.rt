@@ -1,15 +1,15 @@
 // The transport.
-use flat::apply::FlatApplied;
-use flat::apply::flat_applied;
-use flat::generator::FlatGenerator;
-use flat::generator::generator_of;
-use flat::string::FlatCommand;
-use flat::string::command_of;
+use flat_mmc::apply::FlatApplied;
+use flat_mmc::apply::flat_applied;
+use flat_mmc::string::FlatCommand;
+use flat_mmc::string::command_of;
+use flat_mtc::generator::FlatGenerator;
+use flat_mtc::generator::generator_of;
 ghost use mathlib.Core.Path.{_≡_};
 ghost use Rattle.transport.specs.Transport.{applied};
-ghost use Rattle.flat.specs.Generator.{generatorOf};
-ghost use Rattle.flat.specs.String.{commandOf};
-ghost use Rattle.flat.specs.Apply.{flatApplied};
+ghost use Rattle.flat_mtc.specs.Generator.{generatorOf};
+ghost use Rattle.flat_mmc.specs.String.{commandOf};
+ghost use Rattle.flat_mmc.specs.Apply.{flatApplied};
 
 // `apply`: one command of a message for `device_id`, to the generator of the device `own`.
 #[no_mangle]

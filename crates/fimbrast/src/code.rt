@@ -1,28 +1,28 @@
 // Time code fields of machine control.
-use flat::code::FiveBytes;
-use flat::code::FlatCode;
-use flat::code::FlatCodeBytes;
-use flat::code::FlatShort;
-use flat::code::FlatShortBytes;
-use flat::code::FlatStatus;
-use flat::code::TwoBytes;
-use flat::code::code_of;
-use flat::code::flat_code;
-use flat::code::flat_code_bytes;
-use flat::code::flat_name;
-use flat::code::flat_short;
-use flat::code::flat_short_bytes;
-use flat::code::flat_status;
-use flat::code::short_of;
-use flat::code::status_of;
+use flat_mmc::code::FiveBytes;
+use flat_mmc::code::FlatCode;
+use flat_mmc::code::FlatCodeBytes;
+use flat_mmc::code::FlatShort;
+use flat_mmc::code::FlatShortBytes;
+use flat_mmc::code::FlatStatus;
+use flat_mmc::code::TwoBytes;
+use flat_mmc::code::code_of;
+use flat_mmc::code::flat_code;
+use flat_mmc::code::flat_code_bytes;
+use flat_mmc::code::flat_name;
+use flat_mmc::code::flat_short;
+use flat_mmc::code::flat_short_bytes;
+use flat_mmc::code::flat_status;
+use flat_mmc::code::short_of;
+use flat_mmc::code::status_of;
 use mmc::ShortTimeCode;
 use mmc::StandardTimeCode;
 use mmc::TimeCodeStatus;
 ghost use mathlib.Core.Path.{_≡_};
 ghost use lib.ListN.{getD};
 ghost use Rattle.codes.specs.TimeCode.{readStatus, statusByte, readStandard, readShort, standardBytes, shortBytes, standardLeft, shortLeft, shortForm, withShort, subframesForm, statusForm, shortName, fullName};
-ghost use Rattle.flat.specs.Refusal.{refusalIn};
-ghost use Rattle.flat.specs.Code.{statusOf, flatStatus, codeOf, flatCode, shortOf, flatShort, flatName};
+ghost use Rattle.flat_mtc.specs.Refusal.{refusalIn};
+ghost use Rattle.flat_mmc.specs.Code.{statusOf, flatStatus, codeOf, flatCode, shortOf, flatShort, flatName};
 
 // `short_name`, or 0.
 #[no_mangle]

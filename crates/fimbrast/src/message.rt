@@ -1,17 +1,17 @@
 // Universal messages, full messages, user bits, and machine control messages, by their split parts.
-use flat::message::FlatFullMessage;
-use flat::message::FlatMmcMessage;
-use flat::message::FlatReadUserBits;
-use flat::message::FlatUniversal;
-use flat::message::FlatUserBits;
-use flat::message::FourBytes;
-use flat::message::bits_of;
-use flat::message::flat_full_message;
-use flat::message::flat_mmc_message;
-use flat::message::flat_user_bits;
-use flat::message::universal_of;
-use flat::time::FlatTime;
-use flat::time::time_of;
+use flat_mmc::message::FlatFullMessage;
+use flat_mmc::message::FlatMmcMessage;
+use flat_mmc::message::FlatReadUserBits;
+use flat_mmc::message::FlatUniversal;
+use flat_mmc::message::FlatUserBits;
+use flat_mmc::message::FourBytes;
+use flat_mmc::message::bits_of;
+use flat_mmc::message::flat_full_message;
+use flat_mmc::message::flat_mmc_message;
+use flat_mmc::message::flat_user_bits;
+use flat_mmc::message::universal_of;
+use flat_mtc::time::FlatTime;
+use flat_mtc::time::time_of;
 use mmc::MmcMessage;
 use mmc::WrittenNumbers;
 use mmc::written_numbers;
@@ -27,8 +27,8 @@ ghost use Rattle.mtc.specs.FullMessage.{fullMessage, fullMessageFrom, fullMessa
 ghost use Rattle.mtc.specs.UserBits.{userBitsFrom, userBitsWritten, groupBytes};
 ghost use Rattle.mmc.specs.Numbers.{writtenNumbers};
 ghost use Rattle.mmc.specs.Message.{messageFrom};
-ghost use Rattle.flat.specs.Time.{timeOf};
-ghost use Rattle.flat.specs.Message.{universalOf, bitsOf, flatFullMessage, flatUserBits, flatMmcMessage};
+ghost use Rattle.flat_mtc.specs.Time.{timeOf};
+ghost use Rattle.flat_mmc.specs.Message.{universalOf, bitsOf, flatFullMessage, flatUserBits, flatMmcMessage};
 
 // `addressed`.
 #[no_mangle]

@@ -1,8 +1,7 @@
 // A message's data, read from the front to its end, each command applied as it is read.
-use flat::generator::FlatGenerator;
-use flat::generator::flat_generator;
-use flat::generator::generator_of;
-use flat::refusal::number;
+use flat_mtc::generator::FlatGenerator;
+use flat_mtc::generator::flat_generator;
+use flat_mtc::generator::generator_of;
 use mmc::CommandAnswer;
 use mtc::MtcGenerator;
 use transport::TransportAnswer;
@@ -10,7 +9,7 @@ ghost use mathlib.Core.Path.{_≡_};
 ghost use Prim.Native.Nat.{_≤_};
 ghost use Rattle.transport.specs.Demand3.{obey};
 ghost use Rattle.transport.specs.Transport.{answerOf};
-ghost use Rattle.flat.specs.Generator.{generatorOf};
+ghost use Rattle.flat_mtc.specs.Generator.{generatorOf};
 ghost use Rattle.fimbrast.specs.Obey.{oneRefused, ended, flatRun};
 
 // The answers to a string's commands: how many, how many of them refusals, and the refusal that ended the reading.
@@ -57,7 +56,7 @@ fn obey_all(start: MtcGenerator, device_id: u8, own: u8, body: &[u8]) -> FlatRun
         let answer = next.answer;
         let command = match answer {
             CommandAnswer::Command(c) => c,
-            CommandAnswer::Refused(e) => return ended(generator, commands, refused, number(e)),
+            CommandAnswer::Refused(e) => return ended(generator, commands, refused, e.number()),
         };
         let applied = transport::apply(generator, device_id, own, command);
         let reply = applied.answer;

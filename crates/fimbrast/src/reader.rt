@@ -1,26 +1,26 @@
 // The quarter frame reader.
-use flat::reader::FlatMaybeSequence;
-use flat::reader::FlatMaybeTime;
-use flat::reader::FlatReader;
-use flat::reader::FlatReaderFields;
-use flat::reader::direction;
-use flat::reader::flat_maybe_time;
-use flat::reader::flat_way;
-use flat::reader::fresh;
-use flat::reader::informed;
-use flat::reader::is_locked;
-use flat::reader::is_running;
-use flat::reader::reader_fields;
-use flat::reader::reader_in;
-use flat::reader::receive;
-use flat::reader::report_at;
-use flat::reader::time;
-use flat::time::FlatTime;
-use flat::time::time_of;
+use flat_mtc::reader::FlatMaybeSequence;
+use flat_mtc::reader::FlatMaybeTime;
+use flat_mtc::reader::FlatReader;
+use flat_mtc::reader::FlatReaderFields;
+use flat_mtc::reader::direction;
+use flat_mtc::reader::flat_maybe_time;
+use flat_mtc::reader::flat_way;
+use flat_mtc::reader::fresh;
+use flat_mtc::reader::informed;
+use flat_mtc::reader::is_locked;
+use flat_mtc::reader::is_running;
+use flat_mtc::reader::reader_fields;
+use flat_mtc::reader::reader_in;
+use flat_mtc::reader::receive;
+use flat_mtc::reader::report_at;
+use flat_mtc::reader::time;
+use flat_mtc::time::FlatTime;
+use flat_mtc::time::time_of;
 ghost use mathlib.Core.Path.{_≡_};
 ghost use Rattle.mtc.specs.Reader.{fresh, afterByte, eventOf, afterFullMessage};
-ghost use Rattle.flat.specs.Time.{timeOf};
-ghost use Rattle.flat.specs.Reader.{flatWay, flatMaybeTime, readerIn, readerFields, flatEvent, reportAt, flatMaybeSequence};
+ghost use Rattle.flat_mtc.specs.Time.{timeOf};
+ghost use Rattle.flat_mtc.specs.Reader.{flatWay, flatMaybeTime, readerIn, readerFields, flatEvent, reportAt, flatMaybeSequence};
 
 // `MtcReader::new`.
 #[no_mangle]

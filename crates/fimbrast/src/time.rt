@@ -1,13 +1,13 @@
 // Labels, and the quarter frames of a label.
-use flat::time::EightBytes;
-use flat::time::FlatFrame;
-use flat::time::FlatTime;
-use flat::time::flat_frame;
-use flat::time::flat_new;
-use flat::time::flat_time;
-use flat::time::frame_of;
-use flat::time::time_in;
-use flat::time::time_of;
+use flat_mtc::time::EightBytes;
+use flat_mtc::time::FlatFrame;
+use flat_mtc::time::FlatTime;
+use flat_mtc::time::flat_frame;
+use flat_mtc::time::flat_new;
+use flat_mtc::time::flat_time;
+use flat_mtc::time::frame_of;
+use flat_mtc::time::time_in;
+use flat_mtc::time::time_of;
 use mtc::MtcTime;
 use mtc::QuarterFrame;
 use mtc::TimeCodeType;
@@ -15,8 +15,8 @@ ghost use mathlib.Core.Path.{_≡_};
 ghost use Rattle.mtc.specs.QuarterFrame.{fromByte, toByte, pieces};
 ghost use Rattle.labels.specs.St12.{framesPerSecond, isValid};
 ghost use Rattle.labels.specs.Time.{newTime, nextValid, frameCount, labelAt, addFrames, typeOf};
-ghost use Rattle.flat.specs.Refusal.{refusalIn};
-ghost use Rattle.flat.specs.Time.{timeOf, timeAt, flatTime, frameOf, flatFrame};
+ghost use Rattle.flat_mtc.specs.Refusal.{refusalIn};
+ghost use Rattle.flat_mtc.specs.Time.{timeOf, timeAt, flatTime, frameOf, flatFrame};
 
 // The frames of a counting second.
 #[no_mangle]

@@ -1,13 +1,13 @@
 // Writing a string: opened, given its items one at a time, and closed.
-use flat::code::FlatCode;
-use flat::code::code_of;
-use flat::string::FlatCommand;
-use flat::string::FlatField;
-use flat::string::command_of;
-use flat::string::field_of;
-use flat::write::FlatWriter;
-use flat::write::flat_writer;
-use flat::write::writer_of;
+use flat_mmc::code::FlatCode;
+use flat_mmc::code::code_of;
+use flat_mmc::string::FlatCommand;
+use flat_mmc::string::FlatField;
+use flat_mmc::string::command_of;
+use flat_mmc::string::field_of;
+use flat_mmc::write::FlatWriter;
+use flat_mmc::write::flat_writer;
+use flat_mmc::write::writer_of;
 use mmc::WrittenNumbers;
 use mmc::written_numbers;
 ghost use mathlib.Core.Path.{_≡_};
@@ -22,9 +22,9 @@ ghost use Rattle.mmc.specs.Words.{wordItems};
 ghost use Rattle.mmc.specs.Write.{openedCommands, openedResponses, openedFields, begun, admitted, given, closedMessage, wholeMessage, wholeFields};
 ghost use Rattle.mmc.specs.Writings.{stringAnswer, stringLeft};
 ghost use Rattle.mmc.specs.declared.length.Kind.the-variants.{Commands};
-ghost use Rattle.flat.specs.Code.{codeOf};
-ghost use Rattle.flat.specs.String.{commandOf, fieldOf};
-ghost use Rattle.flat.specs.Write.{writingAt, flatWriter};
+ghost use Rattle.flat_mmc.specs.Code.{codeOf};
+ghost use Rattle.flat_mmc.specs.String.{commandOf, fieldOf};
+ghost use Rattle.flat_mmc.specs.Write.{writingAt, flatWriter};
 
 // `write_commands` opens: F0H, 7FH, the device, 06H.
 #[no_mangle]

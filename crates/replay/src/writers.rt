@@ -21,7 +21,7 @@ use fimbrast::write::fimbrast_open_fields;
 use fimbrast::write::fimbrast_open_responses;
 use fimbrast::write::fimbrast_put_command;
 use fimbrast::write::fimbrast_put_field;
-use flat::write::FlatWriter;
+use flat_mmc::write::FlatWriter;
 use mmc::WrittenNumbers;
 ghost use Prim.Native.Nat.{_<_};
 

@@ -1,7 +1,7 @@
 -- `fimbrast::time::fimbrast_add_frames` meets its contract. Assumes nothing.
 use mir.Syntax.{w32}
 use mir.ValLaws.{toZ-ofZ}
-use Rattle.flat.specs.Time.{flatTime}
+use Rattle.flat_mtc.specs.Time.{flatTime}
 use mathlib.Core.Path.{ap, _∙_}
 use borrow.Author.Needs.{needs}
 use Rattle.fimbrast.proofs.time.fimbrast_add_frames.Statement.{statement}

@@ -1,7 +1,0 @@
-mod Back
-mod Bytes
-mod Checks
-mod Events
-pub mod Laws
-mod Steady
-mod Words

@@ -1,9 +1,0 @@
-pub mod Apply
-pub mod Code
-pub mod Generator
-pub mod Message
-pub mod Reader
-pub mod Refusal
-pub mod String
-pub mod Time
-pub mod Write

@@ -1,0 +1,3 @@
+mod Back
+mod Checks
+pub mod Laws

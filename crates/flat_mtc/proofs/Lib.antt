@@ -1,0 +1,6 @@
+mod Back
+mod Bytes
+mod Events
+pub mod Laws
+mod Steady
+mod Words

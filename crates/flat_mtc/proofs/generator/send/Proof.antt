@@ -1,0 +1,25 @@
+-- `flat_mtc::generator::send` meets its contract. Assumes nothing.
+use native.Mathlib.Omega.{arith}
+use mathlib.Core.Path.{refl, sym, ap, _∙_}
+use Rattle.flat_mtc.specs.Generator.{flatByte}
+use Rattle.flat_mtc.proofs.Bytes.{sent-in}
+use borrow.Author.Needs.{needs}
+use Rattle.flat_mtc.proofs.generator.send.Statement.{statement}
+use Rattle.flat_mtc.proofs.generator.send.Tie as tie
+
+time-in-requires : tie.Need-time-in-requires
+time-in-requires c κs = search needs
+
+element-write-g : tie.Need-element-write-g
+element-write-g c = search needs
+
+piece-requires : tie.Need-piece-requires
+piece-requires c κs = search needs
+
+returns : tie.Need-returns
+unfolding flatByte
+returns c =
+    (rw (c .piece .ensures, c .before .time-in .ensures .0), sent-in _ _ (c .before .time-in .ensures .1) (c .before .before .before .pre))
+
+pub send-spec : {M : Type 1} → statement M
+send-spec = tie.close (tie.spec time-in-requires element-write-g piece-requires returns)

@@ -1,0 +1,4 @@
+pub mod Generator
+pub mod Reader
+pub mod Refusal
+pub mod Time
