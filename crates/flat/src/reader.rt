@@ -84,11 +84,11 @@ const NEXT: u32 = 8;
 
 const DIRECTION: u32 = 128;
 
-const RUNNING: u32 = 512;
+const STOPPED: u32 = 512;
 
 const FIRST: u32 = 1024;
 
-const MARKS: u32 = 8192;
+const MARKS: u32 = 65536;
 
 // The marks' fields: below them is whether the reader is locked.
 const PREVIOUS_MARK: u32 = 2;
@@ -200,7 +200,7 @@ fn time_in(mark: u8, w: u32) -> MaybeTime
 }
 
 fn previous_in(words: [u32; 4]) -> MaybeTime
-    ensures { λ t. ⌜ (t ≡ timeIn (getD words 1 0 / 8192 / 2 % 8) (getD words 2 0)) × (length words ≡ 4) ⌝ }
+    ensures { λ t. ⌜ (t ≡ timeIn (getD words 1 0 / 65536 / 2 % 8) (getD words 2 0)) × (length words ≡ 4) ⌝ }
 {
     time_in(
         (words[CONTROL] / MARKS / PREVIOUS_MARK % 8) as u8,
@@ -221,7 +221,7 @@ pub fn reader_in(words: [u32; 4]) -> MtcReader
         last: last_at((control / NEXT % 16) as u8),
         direction: way_at((control / DIRECTION % 4) as u8),
         locked: control / MARKS % 2 != 0,
-        running: control / RUNNING % 2 != 0,
+        running: control / STOPPED % 2 == 0,
         previous: previous_in(words),
         time: time_in((control / MARKS / TIME_MARK % 8) as u8, words[TIME]),
     }
@@ -272,7 +272,7 @@ fn time_mark(t: MaybeTime) -> u32
     }
 }
 
-// The words of a reader that calls can leave.
+// The words of a reader in its ranges.
 pub fn words_of(r: MtcReader) -> [u32; 4]
     ensures { λ w. ⌜ (T (isSound r) → readerIn w ≡ r) ⌝ }
 {
@@ -286,7 +286,7 @@ pub fn words_of(r: MtcReader) -> [u32; 4]
     let control = (r.count % 8) as u32
         + next * NEXT
         + (flat_way(direction) % 4) as u32 * DIRECTION
-        + bit(r.running) * RUNNING
+        + bit(!r.running) * STOPPED
         + (r.first % 8) as u32 * FIRST
         + marks * MARKS;
     [
@@ -322,7 +322,7 @@ pub fn is_locked(words: [u32; 4]) -> bool
 pub fn is_running(words: [u32; 4]) -> bool
     ensures { λ r. ⌜ r ≡ readerIn words .running ⌝ }
 {
-    words[CONTROL] / RUNNING % 2 != 0
+    words[CONTROL] / STOPPED % 2 == 0
 }
 
 pub fn direction(words: [u32; 4]) -> MaybeDirection
@@ -458,12 +458,15 @@ pub fn report_at(n: u64) -> FlatMaybeSequence
 
 // ---- a data byte
 
+// The events of pieces that end no sequence: the piece, and a boundary at 0 and 4.
+const QUIET: [u64; 8] = [256, 1, 2, 3, 260, 5, 6, 7];
+
 // `MtcReader::receive` on the words. The next piece of a sequence that runs forward from piece 0, but its last one, turns the nibbles by
 // one and moves count and next piece on.
 pub fn receive(r: &mut [u32; 4], byte: u8) -> u64
     ensures { λ e. ⌜ (e ≡ flatEvent (eventOf (readerIn (now (r .entry))) byte)) × (readerIn (now (r .exit)) ≡ afterByte (readerIn (now (r .entry))) byte) ⌝ }
 {
-    let p = byte / 16 % 8;
+    let p = byte as u32 / 16 % 8;
     if p == 7 {
         return receive_last(r, byte);
     }
@@ -474,19 +477,28 @@ pub fn receive(r: &mut [u32; 4], byte: u8) -> u64
     let control = moved_on(r[CONTROL]);
     r[NIBBLES] = nibbles;
     r[CONTROL] = control;
-    flat_event(event(p, MaybeSequence::NoSequence))
+    quiet(p as usize)
+}
+
+// What a piece gives that ends no sequence.
+fn quiet(p: usize) -> u64
+    requires { ⌜ p ≤ 7 ⌝ }
+    ensures { λ e. ⌜ e ≡ flatEvent (eventWith p MaybeSequence.NoSequence) ⌝ }
+{
+    QUIET[p]
 }
 
 // The next piece is `p`, in a sequence that runs forward from piece 0: count and next piece are `p`.
-fn runs_to(words: [u32; 4], p: u8) -> bool
-    ensures { λ b. ⌜ (b ≡ eqb (getD words 1 0 % 8192) (512 + p * 9)) × (length words ≡ 4) ⌝ }
+fn runs_to(words: [u32; 4], p: u32) -> bool
+    requires { ⌜ p ≤ 7 ⌝ }
+    ensures { λ b. ⌜ (b ≡ eqb (getD words 1 0 % 65536) (p * 9)) × (length words ≡ 4) ⌝ }
 {
-    words[CONTROL] % MARKS == RUNNING + p as u32 * 9
+    words[CONTROL] % MARKS == p * 9
 }
 
 // Count and next piece moved on, which are below 7.
 fn moved_on(control: u32) -> u32
-    requires { ⌜ control % 8192 ≤ 566 ⌝ }
+    requires { ⌜ control % 65536 ≤ 54 ⌝ }
     ensures { λ r. ⌜ r ≡ control + 9 ⌝ }
 {
     control + 9
@@ -528,7 +540,7 @@ fn receive_any(r: &mut [u32; 4], byte: u8) -> u64
 
 // The end of a sequence that ran forward, at its last piece.
 fn complete(r: &mut [u32; 4]) -> u64
-    requires { ⌜ getD (now r) 1 0 % 8192 ≡ 512 ⌝ }
+    requires { ⌜ getD (now r) 1 0 % 65536 ≡ 0 ⌝ }
     ensures { λ e. ⌜ (e ≡ flatEvent (eventWith 7 (MaybeSequence.Sequence (sequenceOf (readerIn (now (r .entry))))))) × (readerIn (now (r .exit)) ≡ completed (readerIn (now (r .entry)))) ⌝ }
 {
     let raw = raw_in(r[NIBBLES]);
@@ -541,7 +553,7 @@ fn complete(r: &mut [u32; 4]) -> u64
 
 // The report of a full sequence, and the record with both labels.
 fn keep(r: &mut [u32; 4], s: MtcSequence) -> u64
-    requires { ⌜ (getD (now r) 1 0 % 8192 ≡ 512) × (length (now r) ≡ 4) ⌝ }
+    requires { ⌜ (getD (now r) 1 0 % 65536 ≡ 0) × (length (now r) ≡ 4) ⌝ }
     ensures { λ e. ⌜ (e ≡ flatEvent (eventWith 7 (MaybeSequence.Sequence s))) × (s ≡ sequenceOf (readerIn (now (r .entry))) → readerIn (now (r .exit)) ≡ completed (readerIn (now (r .entry)))) ⌝ }
 {
     let raw = s.raw;
@@ -549,7 +561,7 @@ fn keep(r: &mut [u32; 4], s: MtcSequence) -> u64
     let rate = raw.rate;
     let after = current.rate;
     let marks = 1 + rate_mark(rate) * PREVIOUS_MARK + rate_mark(after) * TIME_MARK;
-    r[CONTROL] = RUNNING + marks * MARKS;
+    r[CONTROL] = marks * MARKS;
     r[PREVIOUS] = label_word(raw);
     r[TIME] = label_word(current);
     flat_event(event(7, MaybeSequence::Sequence(s)))
@@ -557,7 +569,7 @@ fn keep(r: &mut [u32; 4], s: MtcSequence) -> u64
 
 // True only where the label comes two frames after the previous one and two before another, all in one second.
 fn is_steady(words: [u32; 4], raw: MtcTime) -> bool
-    ensures { λ b. ⌜ (b ≡ true → (raw .frames ≤ 27) × (reported raw Direction.Forward (timeIn (getD words 1 0 / 8192 / 2 % 8) (getD words 2 0)) ≡ steady raw)) × (length words ≡ 4) ⌝ }
+    ensures { λ b. ⌜ (b ≡ true → (raw .frames ≤ 27) × (reported raw Direction.Forward (timeIn (getD words 1 0 / 65536 / 2 % 8) (getD words 2 0)) ≡ steady raw)) × (length words ≡ 4) ⌝ }
 {
     let rate = raw.rate;
     if raw.hours > 23 {

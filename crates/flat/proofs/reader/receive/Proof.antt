@@ -1,7 +1,6 @@
 -- `flat::reader::receive` meets its contract. Assumes nothing.
-use mathlib.Core.Path.{sym, ap, _∙_}
+use mathlib.Core.Path.{sym, _∙_}
 use borrow.Author.Tests.{eqb-true, not-false}
-use Rattle.flat.specs.Reader.{flatEvent}
 use Rattle.flat.proofs.Words.{goes-on, room}
 use borrow.Author.Needs.{needs}
 use Rattle.flat.proofs.reader.receive.Statement.{statement}
@@ -40,16 +39,16 @@ element-write-r c = search needs
 element-write-r-2 : tie.Need-element-write-r-2
 element-write-r-2 c = search needs
 
-event-requires : tie.Need-event-requires
-event-requires c κs = search needs
+cast-quiet : tie.Need-cast-quiet
+cast-quiet c = search needs
 
-flat-event-requires : tie.Need-flat-event-requires
-flat-event-requires c κs = search needs
+quiet-requires : tie.Need-quiet-requires
+quiet-requires c κs = search needs
 
 returns-3 : tie.Need-returns-3
 returns-3 c =
-    let a = goes-on _ _ _ _ (c .before .before .before .before .before .before .before .runs-to .ensures .1) (eqb-true _ _ (sym (c .before .before .before .before .before .before .before .runs-to .ensures .0) ∙ not-false _ (c .before .before .before .before .before .before .if2 .left))) (c .before .before .before .before .before .before .before .before .before .if1 .left) (c .before .before .before .before .put .ensures .1) (c .before .before .before .before .put .ensures .0) (c .before .before .moved-on .ensures) in
-    (c .flat-event .ensures ∙ ap flatEvent (c .before .event .ensures) ∙ a .0, a .1)
+    let a = goes-on _ _ _ _ (c .before .before .before .before .before .before .runs-to .ensures .1) (eqb-true _ _ (sym (c .before .before .before .before .before .before .runs-to .ensures .0) ∙ not-false _ (c .before .before .before .before .before .if2 .left))) (c .before .before .before .before .before .before .before .before .if1 .left) (c .before .before .before .put .ensures .1) (c .before .before .before .put .ensures .0) (c .before .moved-on .ensures) in
+    (c .quiet .ensures ∙ a .0, a .1)
 
 pub receive-spec : {M : Type 1} → statement M
 receive-spec =
@@ -66,6 +65,6 @@ receive-spec =
     moved-on-requires
     element-write-r
     element-write-r-2
-    event-requires
-    flat-event-requires
+    cast-quiet
+    quiet-requires
     returns-3)
