@@ -1,12 +1,10 @@
 -- Events and reports as numbers: as the code makes them, and what is read off them. Assumes nothing.
 use Prim.Native.Nat.{ℕ, zero, suc, _+_, _*_, _/_, _%_, _≤_, _<_}
-use mathlib.Core.Bool.{Bool, true, false}
-use mathlib.Core.List.{[], _∷_}
+use mathlib.Core.Bool.{true}
 use mathlib.Core.Path.{_≡_, refl, sym, ap₂, _∙_}
 use native.Mathlib.Omega.{arith}
 use borrow.Author.Tests.{ne-eqb}
 use lib.Dec.{lit≤}
-use lib.ListN.{getD}
 use Rattle.flat.specs.Generator.{directionAt, flatDirection, isSet}
 use Rattle.flat.specs.Reader.{bit, sixes, flatReport, flatEvent, sixesAt, reportAt}
 use Rattle.mtc.proofs.Laws.{moved-valid, moved-rate, valid-widths}
@@ -44,19 +42,6 @@ report-is s d b r x y ed eb er hx hy =
 pub quiet : (e : MtcEvent) (b : ℕ) → b ≡ bit (e .boundary) → e .sequence ≡ NoSequence → e .piece + b * 256 ≡ flatEvent e
 unfolding flatEvent flatReport
 quiet e b eb es = rw (eb, es) (omega arith)
-
--- The table of the pieces that end no sequence.
-pub quietly : (p : ℕ) → p ≤ 7 → getD (256 ∷ 1 ∷ 2 ∷ 3 ∷ 260 ∷ 5 ∷ 6 ∷ 7 ∷ []) p 0 ≡ flatEvent (eventWith p NoSequence)
-unfolding flatEvent flatReport
-quietly zero h = refl
-quietly (suc zero) h = refl
-quietly (suc (suc zero)) h = refl
-quietly (suc (suc (suc zero))) h = refl
-quietly (suc (suc (suc (suc zero)))) h = refl
-quietly (suc (suc (suc (suc (suc zero))))) h = refl
-quietly (suc (suc (suc (suc (suc (suc zero)))))) h = refl
-quietly (suc (suc (suc (suc (suc (suc (suc zero))))))) h = refl
-quietly (suc (suc (suc (suc (suc (suc (suc (suc p)))))))) h = absurd (omega arith)
 
 pub said : (e : MtcEvent) (s : MtcSequence) (b r : ℕ) → b ≡ bit (e .boundary) → e .sequence ≡ Sequence s → r ≡ flatReport (Sequence s)
     → e .piece + b * 256 + r * 512 ≡ flatEvent e

@@ -3,5 +3,6 @@ mod Bytes
 mod Checks
 mod Events
 pub mod Laws
+mod Reverse
 mod Steady
 mod Words

@@ -6,14 +6,13 @@ use mathlib.Core.List.{List, [], _∷_}
 use mathlib.Core.Path.{_≡_, refl, sym, subst, ap, _∙_}
 use native.Mathlib.Omega.{arith}
 use borrow.Author.Tests.{le-leb, ne-eqb}
-use lib.Dec.{T, leb, eqb, lit≤, lit<}
+use lib.Dec.{T, leb, eqb, lit≤}
 use lib.ListN.{length, getD, set}
 use Rattle.mtc.proofs.Laws.{Sound, as-is, sound-by, Bounds, bounds, byte-sound, next-piece, sequence-of, calls-none, calls-sound}
 use Rattle.mtc.specs.Generator.{first, after}
 use Rattle.mtc.specs.QuarterFrame.{pieceOf, valueOf}
 use Rattle.mtc.specs.Reader.{fresh, informed, afterFullMessage, isSound, pieceFits, ordered, numberAfter, readerBy, reportBy, stored, completed, eventWith, reported, sequenceOf, rawOf, afterByte, eventOf}
 use Rattle.mtc.specs.Time.{bitsOf, typeOf, rawTime}
-use Rattle.mtc.specs.declared.generator.Direction.{Direction}
 use Rattle.mtc.specs.declared.generator.Direction.the-variants.{Forward, Reverse}
 use Rattle.mtc.specs.declared.generator.MaybePiece.{MaybePiece}
 use Rattle.mtc.specs.declared.generator.MaybePiece.the-variants.{NoPiece, Piece}
@@ -67,7 +66,7 @@ last-fits n = go (leb n 7)
     go true = rw within tt
     go false = tt
 
-sound-at : (n c p t : ℕ) → Sound (readerAt n c p t)
+pub sound-at : (n c p t : ℕ) → Sound (readerAt n c p t)
 unfolding readerAt around
 sound-at n c p t =
     sound-by (readerAt n c p t) (omega arith) (omega arith) (last-fits (c / 8 % 16)) (around-small (8 - c / 8 % 8) n) refl
@@ -162,11 +161,11 @@ module _ (a b c d e f g h : ℕ) (ha : a ≤ 15) (hb : b ≤ 15) (hc : c ≤ 15)
   digit-7 : word / 268435456 % 16 ≡ h
   digit-7 = omega arith
 
-  word-digits : digits word ≡ a ∷ b ∷ c ∷ d ∷ e ∷ f ∷ g ∷ h ∷ []
+  pub word-digits : digits word ≡ a ∷ b ∷ c ∷ d ∷ e ∷ f ∷ g ∷ h ∷ []
   unfolding digits
   word-digits = rw (digit-0, digit-1, digit-2, digit-3, digit-4, digit-5, digit-6, digit-7)
 
-low : (n : ℕ) → n % 16 ≤ 15
+pub low : (n : ℕ) → n % 16 ≤ 15
 low n = omega arith
 
 pub nibbles-kept : (n : List ℕ)
@@ -223,22 +222,22 @@ module _ (a b d u f g : ℕ) (ha : a ≤ 7) (hb : b ≤ 8) (hd : d ≤ 3) (hu : 
   abbrev control : ℕ
   control = a + b * 8 + d * 128 + u * 512 + f * 1024 + g * 65536
 
-  count-is : control % 8 ≡ a
+  pub count-is : control % 8 ≡ a
   count-is = omega arith
 
-  next-is : control / 8 % 16 ≡ b
+  pub next-is : control / 8 % 16 ≡ b
   next-is = omega arith
 
-  turn-is : control / 8 % 8 ≡ b % 8
+  pub turn-is : control / 8 % 8 ≡ b % 8
   turn-is = omega arith
 
-  way-is : control / 128 % 4 ≡ d
+  pub way-is : control / 128 % 4 ≡ d
   way-is = omega arith
 
-  running-is : control / 512 % 2 ≡ u
+  pub running-is : control / 512 % 2 ≡ u
   running-is = omega arith
 
-  first-is : control / 1024 % 8 ≡ f
+  pub first-is : control / 1024 % 8 ≡ f
   first-is = omega arith
 
   marks-are : control / 65536 ≡ g
@@ -282,7 +281,7 @@ next-small (Piece p) = omega arith
 round : (p : ℕ) → p ≤ 7 → ((p + 1) % 8 + 7) % 8 ≡ p
 round p h = omega arith
 
-last-is : (p : ℕ) → p ≤ 7 → lastAt ((p + 1) % 8) ≡ Piece p
+pub last-is : (p : ℕ) → p ≤ 7 → lastAt ((p + 1) % 8) ≡ Piece p
 unfolding lastAt
 last-is p h = let w : (p + 1) % 8 ≤ 7 = omega arith in rw (le-leb ((p + 1) % 8) 7 w, round p h)
 
@@ -303,7 +302,7 @@ low-three n = omega arith
 low-two : (n : ℕ) → n % 4 ≤ 3
 low-two n = omega arith
 
-as-low : (n : ℕ) → n ≤ 7 → n % 8 ≡ n
+pub as-low : (n : ℕ) → n ≤ 7 → n % 8 ≡ n
 as-low n h = omega arith
 
 module _ (r : MtcReader) (s : Sound r) (n p w : ℕ) where
@@ -362,7 +361,7 @@ four P h (a ∷ b ∷ c ∷ []) x = absurd (omega arith)
 four P h (a ∷ b ∷ c ∷ d ∷ []) x = h a b c d
 four P h (a ∷ b ∷ c ∷ d ∷ e ∷ ws) x = absurd (omega arith)
 
-with-piece : (ws : List ℕ) (x y : ℕ) → length ws ≡ 4 → readerIn (set (set ws 0 x) 1 y) ≡ readerAt x y (getD ws 2 0) (getD ws 3 0)
+pub with-piece : (ws : List ℕ) (x y : ℕ) → length ws ≡ 4 → readerIn (set (set ws 0 x) 1 y) ≡ readerAt x y (getD ws 2 0) (getD ws 3 0)
 unfolding readerIn
 with-piece ws x y = four (λ (l : List ℕ). readerIn (set (set l 0 x) 1 y) ≡ readerAt x y (getD l 2 0) (getD l 3 0)) (λ a b c d. refl) ws
 

@@ -20,7 +20,7 @@ use mtc::event;
 use mtc::report;
 ghost use mathlib.Core.Path.{_≡_};
 ghost use mathlib.Core.Bool.{true};
-ghost use Prim.Native.Nat.{_+_, _*_, _/_, _%_, _≤_, _<_};
+ghost use Prim.Native.Nat.{_+_, _-_, _*_, _/_, _%_, _≤_, _<_};
 ghost use lib.Dec.{T, eqb};
 ghost use lib.ListN.{length, getD};
 ghost use Rattle.mtc.specs.QuarterFrame.{pieceOf};
@@ -458,9 +458,6 @@ pub fn report_at(n: u64) -> FlatMaybeSequence
 
 // ---- a data byte
 
-// The events of pieces that end no sequence: the piece, and a boundary at 0 and 4.
-const QUIET: [u64; 8] = [256, 1, 2, 3, 260, 5, 6, 7];
-
 // `MtcReader::receive` on the words. The next piece of a sequence that runs forward from piece 0, but its last one, turns the nibbles by
 // one and moves count and next piece on.
 pub fn receive(r: &mut [u32; 4], byte: u8) -> u64
@@ -471,21 +468,21 @@ pub fn receive(r: &mut [u32; 4], byte: u8) -> u64
         return receive_last(r, byte);
     }
     if !runs_to(*r, p) {
-        return receive_any(r, byte);
+        return receive_back(r, byte);
     }
     let nibbles = put(r[NIBBLES], byte % 16);
     let control = moved_on(r[CONTROL]);
     r[NIBBLES] = nibbles;
     r[CONTROL] = control;
-    quiet(p as usize)
+    quiet(p)
 }
 
 // What a piece gives that ends no sequence.
-fn quiet(p: usize) -> u64
+fn quiet(p: u32) -> u64
     requires { ⌜ p ≤ 7 ⌝ }
     ensures { λ e. ⌜ e ≡ flatEvent (eventWith p MaybeSequence.NoSequence) ⌝ }
 {
-    QUIET[p]
+    flat_event(event(p as u8, MaybeSequence::NoSequence))
 }
 
 // The next piece is `p`, in a sequence that runs forward from piece 0: count and next piece are `p`.
@@ -493,7 +490,7 @@ fn runs_to(words: [u32; 4], p: u32) -> bool
     requires { ⌜ p ≤ 7 ⌝ }
     ensures { λ b. ⌜ (b ≡ eqb (getD words 1 0 % 65536) (p * 9)) × (length words ≡ 4) ⌝ }
 {
-    words[CONTROL] % MARKS == p * 9
+    (words[CONTROL] % MARKS) as u16 == (p * 9) as u16
 }
 
 // Count and next piece moved on, which are below 7.
@@ -518,13 +515,56 @@ fn receive_last(r: &mut [u32; 4], byte: u8) -> u64
     ensures { λ e. ⌜ (e ≡ flatEvent (eventOf (readerIn (now (r .entry))) byte)) × (readerIn (now (r .exit)) ≡ afterByte (readerIn (now (r .entry))) byte) ⌝ }
 {
     if !runs_to(*r, 7) {
-        return receive_any(r, byte);
+        return receive_back(r, byte);
     }
     let nibbles = put(r[NIBBLES], byte % 16);
     let control = r[CONTROL] - 63;
     r[NIBBLES] = nibbles;
     r[CONTROL] = control;
     complete(r)
+}
+
+// The next piece of a sequence that runs in reverse from piece 7, but its last one, turns the nibbles the other way.
+fn receive_back(r: &mut [u32; 4], byte: u8) -> u64
+    ensures { λ e. ⌜ (e ≡ flatEvent (eventOf (readerIn (now (r .entry))) byte)) × (readerIn (now (r .exit)) ≡ afterByte (readerIn (now (r .entry))) byte) ⌝ }
+{
+    let p = byte as u32 / 16 % 8;
+    if p == 0 {
+        return receive_any(r, byte);
+    }
+    if !runs_back(*r, p) {
+        return receive_any(r, byte);
+    }
+    let nibbles = put_back(r[NIBBLES], byte % 16);
+    let control = moved_back(r[CONTROL], p);
+    let event = quiet(p);
+    r[NIBBLES] = nibbles;
+    r[CONTROL] = control;
+    event
+}
+
+// The next piece is `p`, in a sequence that runs in reverse from piece 7: the count is 7 - p, and the piece after the last one p + 2.
+fn runs_back(words: [u32; 4], p: u32) -> bool
+    requires { ⌜ p ≤ 7 ⌝ }
+    ensures { λ b. ⌜ (b ≡ eqb (getD words 1 0 % 65536) (7296 + (23 + p * 7) % 64)) × (length words ≡ 4) ⌝ }
+{
+    words[CONTROL] % MARKS == DIRECTION + FIRST * 7 + (23 + p * 7) % 64
+}
+
+// Count and next piece moved on after piece `p`.
+fn moved_back(control: u32, p: u32) -> u32
+    requires { ⌜ (p ≤ 7) × (control % 65536 ≡ 7296 + (23 + p * 7) % 64) ⌝ }
+    ensures { λ r. ⌜ r ≡ control - (23 + p * 7) % 64 + (16 + p * 7) % 64 ⌝ }
+{
+    control - (23 + p * 7) % 64 + (16 + p * 7) % 64
+}
+
+// The nibbles with the next piece's, on the way back.
+fn put_back(nibbles: u32, value: u8) -> u32
+    requires { ⌜ value ≤ 15 ⌝ }
+    ensures { λ r. ⌜ (r ≡ nibbles % 16777216 * 16 + nibbles / 268435456 + value * 268435456) × (nibbles < 4294967296) ⌝ }
+{
+    nibbles % 16777216 * 16 + nibbles / 268435456 + value as u32 * 268435456
 }
 
 // Any data byte, by the record.

@@ -1,17 +1,21 @@
 -- `flat::reader::quiet` meets its contract. Assumes nothing.
-use Rattle.flat.proofs.Events.{quietly}
+use mathlib.Core.Path.{ap, _∙_}
+use Rattle.flat.specs.Reader.{flatEvent}
 use borrow.Author.Needs.{needs}
 use Rattle.flat.proofs.reader.quiet.Statement.{statement}
 use Rattle.flat.proofs.reader.quiet.Tie as tie
 
-mul-result : tie.Need-mul-result
-mul-result c = search needs
+cast-event : tie.Need-cast-event
+cast-event c = search needs
 
-array-read-result : tie.Need-array-read-result
-array-read-result c = search needs
+event-requires : tie.Need-event-requires
+event-requires c κs = search needs
+
+flat-event-requires : tie.Need-flat-event-requires
+flat-event-requires c κs = search needs
 
 returns : tie.Need-returns
-returns c = quietly (c .args .p) (c .pre)
+returns c = c .flat-event .ensures ∙ ap flatEvent (c .before .event .ensures)
 
 pub quiet-spec : {M : Type 1} → statement M
-quiet-spec = tie.close (tie.spec mul-result array-read-result returns)
+quiet-spec = tie.close (tie.spec cast-event event-requires flat-event-requires returns)

@@ -15,8 +15,8 @@ returns c = search needs
 runs-to-requires : tie.Need-runs-to-requires
 runs-to-requires c κs = search needs
 
-receive-any-requires : tie.Need-receive-any-requires
-receive-any-requires c κs = search needs
+receive-back-requires : tie.Need-receive-back-requires
+receive-back-requires c κs = search needs
 
 returns-2 : tie.Need-returns-2
 returns-2 c = search needs
@@ -39,9 +39,6 @@ element-write-r c = search needs
 element-write-r-2 : tie.Need-element-write-r-2
 element-write-r-2 c = search needs
 
-cast-quiet : tie.Need-cast-quiet
-cast-quiet c = search needs
-
 quiet-requires : tie.Need-quiet-requires
 quiet-requires c κs = search needs
 
@@ -57,7 +54,7 @@ receive-spec =
     receive-last-requires
     returns
     runs-to-requires
-    receive-any-requires
+    receive-back-requires
     returns-2
     element-copy-out-put
     put-requires
@@ -65,6 +62,5 @@ receive-spec =
     moved-on-requires
     element-write-r
     element-write-r-2
-    cast-quiet
     quiet-requires
     returns-3)
