@@ -95,7 +95,7 @@ fimbrast_time fimbrast_generator_time(fimbrast_generator generator);
 
 /* ---- reader */
 
-/* A reader in four words. Any words are a reader that calls can leave; fimbrast_reader_parts says which. */
+/* A reader in four words. Any words are a reader in its ranges; fimbrast_reader_parts says which. */
 typedef struct {
     uint32_t words[4];
 } fimbrast_reader;

@@ -418,19 +418,16 @@ pub struct MtcSequence {
 }
 
 impl MtcSequence {
-    /// The report of a number, which is 0 for none.
+    /// The report of a number.
     #[inline]
-    const fn maybe(report: u64) -> Option<Self> {
-        if report == 0 {
-            return None;
-        }
+    const fn of(report: u64) -> Self {
         let rate = TimeCodeType::of((report >> 3 & 3) as u8);
-        Some(Self {
+        Self {
             raw: MtcTime::of_sixes(report >> 7, rate),
             current: MtcTime::of_sixes(report >> 31, rate),
             direction: Direction::of((report >> 1 & 1) as u8),
             discontinuity: report & 4 != 0,
-        })
+        }
     }
 }
 
@@ -458,7 +455,7 @@ impl MtcEvent {
         Self {
             piece: event as u8,
             boundary: event & Self::BOUNDARY != 0,
-            sequence: MtcSequence::maybe(event / Self::REPORT),
+            sequence: Some(MtcSequence::of(event / Self::REPORT)),
         }
     }
 }
@@ -541,7 +538,10 @@ impl MtcReader {
         Fed {
             reports: fed.reports,
             discontinuities: fed.discontinuities,
-            last: MtcSequence::maybe(fed.last),
+            last: match fed.last {
+                0 => None,
+                report => Some(MtcSequence::of(report)),
+            },
         }
     }
 

@@ -1,9 +1,8 @@
 -- A list of quarter frames, byte by byte, and what its counts mean. Assumes nothing.
-use Prim.Native.Nat.{ℕ, suc, _+_, _/_, _≤_, _<_}
+use Prim.Native.Nat.{ℕ, _+_, _/_, _≤_, _<_}
 use mathlib.Core.Path.{_≡_, refl, sym, subst, ap, ap₂, _∙_}
 use mathlib.Core.Bool.{Bool, true, false, cond}
 use mathlib.Core.List.{List, [], _∷_, map}
-use native.Mathlib.Nat.{add-assoc}
 use native.Mathlib.Numerals.{add-one}
 use native.Mathlib.Omega.{arith}
 use lib.Dec.{lit≤}
@@ -19,7 +18,6 @@ use Rattle.mtc.specs.Reader.{afterByte, eventOf}
 use Rattle.mtc.specs.Stream.{byte, afterCalls, events}
 use Rattle.mtc.specs.declared.reader.MaybeSequence.{MaybeSequence}
 use Rattle.mtc.specs.declared.reader.MaybeSequence.the-variants.{NoSequence, Sequence}
-use Rattle.mtc.specs.declared.reader.MtcEvent.{MtcEvent}
 use Rattle.mtc.specs.declared.reader.MtcReader.{MtcReader}
 
 -- ---- the loop

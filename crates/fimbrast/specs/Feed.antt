@@ -1,7 +1,7 @@
 -- What a list of quarter frames leaves in a reader, and what it reports: as the code counts it, and what the counts mean. Assumes
 -- nothing.
 use Prim.Native.Nat.{ℕ, _+_, _/_, _%_}
-use mathlib.Core.Bool.{Bool, cond}
+use mathlib.Core.Bool.{cond}
 use mathlib.Core.List.{List, [], _∷_, map}
 use mathlib.Core.Path.{_≡_}
 use Rattle.flat_mtc.specs.Generator.{isSet}

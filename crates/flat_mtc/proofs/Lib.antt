@@ -2,5 +2,6 @@ mod Back
 mod Bytes
 mod Events
 pub mod Laws
+mod Reverse
 mod Steady
 mod Words

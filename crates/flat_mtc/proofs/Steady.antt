@@ -1,7 +1,6 @@
 -- A label that comes two frames after the previous one and two before another, all in one second. Assumes nothing.
 use Prim.Native.Nat.{ℕ, _+_, _-_, _*_, _/_, _%_, _≤_, _<_}
-use mathlib.Core.Bool.{Bool, true, false}
-use mathlib.Core.List.{List}
+use mathlib.Core.Bool.{true, false}
 use mathlib.Core.Path.{_≡_, refl, sym, ap, _∙_}
 use native.Mathlib.Omega.{arith}
 use borrow.Author.Tests.{eq-eqb, eqb-true}
@@ -10,11 +9,10 @@ use lib.IntN.{pos}
 use Rattle.flat_mtc.specs.Reader.{labelIn, timeIn, steady}
 use Rattle.flat_mtc.proofs.Words.{marked}
 use Rattle.labels.proofs.Laws.{two-later}
-use Rattle.mtc.specs.Reader.{reported, jumps, sameTime}
+use Rattle.mtc.specs.Reader.{reported, sameTime}
 use Rattle.labels.specs.St12.{label, framesPerSecond}
 use Rattle.labels.specs.Time.{addFrames, bitsOf}
 use Rattle.mtc.specs.declared.generator.Direction.the-variants.{Forward}
-use Rattle.mtc.specs.declared.reader.MaybeTime.{MaybeTime}
 use Rattle.mtc.specs.declared.reader.MaybeTime.the-variants.{Time}
 use Rattle.labels.specs.declared.time.MtcTime.{MtcTime}
 use Rattle.labels.specs.declared.time.TimeCodeType.{TimeCodeType}

@@ -1,19 +1,18 @@
 -- The reader as four words: any words stand for a sound reader, a sound reader is kept by its words, and what the next piece of a
 -- sequence that runs forward does to the words. Assumes nothing.
 use Prim.Native.Nat.{ℕ, zero, suc, _+_, _-_, _*_, _/_, _%_, _≤_, _<_}
-use mathlib.Core.Bool.{Bool, true, false, cond}
+use mathlib.Core.Bool.{Bool, true, false, not, cond}
 use mathlib.Core.List.{List, [], _∷_}
 use mathlib.Core.Path.{_≡_, refl, sym, subst, ap, _∙_}
 use native.Mathlib.Omega.{arith}
 use borrow.Author.Tests.{le-leb, ne-eqb}
-use lib.Dec.{T, leb, eqb, lit≤, lit<}
+use lib.Dec.{T, leb, eqb, lit≤}
 use lib.ListN.{length, getD, set}
 use Rattle.mtc.proofs.Laws.{Sound, as-is, sound-by, Bounds, bounds, byte-sound, next-piece, sequence-of, calls-none, calls-sound}
 use Rattle.mtc.specs.Generator.{first, after}
 use Rattle.mtc.specs.QuarterFrame.{pieceOf, valueOf}
 use Rattle.mtc.specs.Reader.{fresh, informed, afterFullMessage, isSound, pieceFits, ordered, numberAfter, readerBy, reportBy, stored, completed, eventWith, reported, sequenceOf, rawOf, afterByte, eventOf}
 use Rattle.labels.specs.Time.{bitsOf, typeOf, rawTime}
-use Rattle.mtc.specs.declared.generator.Direction.{Direction}
 use Rattle.mtc.specs.declared.generator.Direction.the-variants.{Forward, Reverse}
 use Rattle.mtc.specs.declared.generator.MaybePiece.{MaybePiece}
 use Rattle.mtc.specs.declared.generator.MaybePiece.the-variants.{NoPiece, Piece}
@@ -67,7 +66,7 @@ last-fits n = go (leb n 7)
     go true = rw within tt
     go false = tt
 
-sound-at : (n c p t : ℕ) → Sound (readerAt n c p t)
+pub sound-at : (n c p t : ℕ) → Sound (readerAt n c p t)
 unfolding readerAt around
 sound-at n c p t =
     sound-by (readerAt n c p t) (omega arith) (omega arith) (last-fits (c / 8 % 16)) (around-small (8 - c / 8 % 8) n) refl
@@ -162,11 +161,11 @@ module _ (a b c d e f g h : ℕ) (ha : a ≤ 15) (hb : b ≤ 15) (hc : c ≤ 15)
   digit-7 : word / 268435456 % 16 ≡ h
   digit-7 = omega arith
 
-  word-digits : digits word ≡ a ∷ b ∷ c ∷ d ∷ e ∷ f ∷ g ∷ h ∷ []
+  pub word-digits : digits word ≡ a ∷ b ∷ c ∷ d ∷ e ∷ f ∷ g ∷ h ∷ []
   unfolding digits
   word-digits = rw (digit-0, digit-1, digit-2, digit-3, digit-4, digit-5, digit-6, digit-7)
 
-low : (n : ℕ) → n % 16 ≤ 15
+pub low : (n : ℕ) → n % 16 ≤ 15
 low n = omega arith
 
 pub nibbles-kept : (n : List ℕ)
@@ -221,27 +220,27 @@ nibbles-around r b k =
 
 module _ (a b d u f g : ℕ) (ha : a ≤ 7) (hb : b ≤ 8) (hd : d ≤ 3) (hu : u ≤ 1) (hf : f ≤ 7) where
   abbrev control : ℕ
-  control = a + b * 8 + d * 128 + u * 512 + f * 1024 + g * 8192
+  control = a + b * 8 + d * 128 + u * 512 + f * 1024 + g * 65536
 
-  count-is : control % 8 ≡ a
+  pub count-is : control % 8 ≡ a
   count-is = omega arith
 
-  next-is : control / 8 % 16 ≡ b
+  pub next-is : control / 8 % 16 ≡ b
   next-is = omega arith
 
-  turn-is : control / 8 % 8 ≡ b % 8
+  pub turn-is : control / 8 % 8 ≡ b % 8
   turn-is = omega arith
 
-  way-is : control / 128 % 4 ≡ d
+  pub way-is : control / 128 % 4 ≡ d
   way-is = omega arith
 
-  running-is : control / 512 % 2 ≡ u
+  pub running-is : control / 512 % 2 ≡ u
   running-is = omega arith
 
-  first-is : control / 1024 % 8 ≡ f
+  pub first-is : control / 1024 % 8 ≡ f
   first-is = omega arith
 
-  marks-are : control / 8192 ≡ g
+  marks-are : control / 65536 ≡ g
   marks-are = omega arith
 
 module _ (l m t : ℕ) (hl : l ≤ 1) (hm : m ≤ 7) (ht : t ≤ 7) where
@@ -255,8 +254,8 @@ module _ (l m t : ℕ) (hl : l ≤ 1) (hm : m ≤ 7) (ht : t ≤ 7) where
   time-is = omega arith
 
 at-control : (a b d u f l m t : ℕ) → a ≤ 7 → b ≤ 8 → d ≤ 3 → u ≤ 1 → f ≤ 7 → l ≤ 1 → m ≤ 7 → t ≤ 7
-    → (n p w : ℕ) → readerAt n (a + b * 8 + d * 128 + u * 512 + f * 1024 + (l + m * 2 + t * 16) * 8192) p w
-    ≡ record { nibbles = around (8 - b % 8) (digits n); count = a; first = f; last = lastAt b; direction = wayAt d; locked = isSet l; running = isSet u; previous = timeIn m p; time = timeIn t w }
+    → (n p w : ℕ) → readerAt n (a + b * 8 + d * 128 + u * 512 + f * 1024 + (l + m * 2 + t * 16) * 65536) p w
+    ≡ record { nibbles = around (8 - b % 8) (digits n); count = a; first = f; last = lastAt b; direction = wayAt d; locked = isSet l; running = eqb u 0; previous = timeIn m p; time = timeIn t w }
 unfolding readerAt
 at-control a b d u f l m t ha hb hd hu hf hl hm ht n p w =
     let g : ℕ = l + m * 2 + t * 16 in
@@ -270,6 +269,10 @@ pub bit-back : (b : Bool) → isSet (bit b) ≡ b
 bit-back true = refl
 bit-back false = refl
 
+stopped-back : (b : Bool) → eqb (bit (not b)) 0 ≡ b
+stopped-back true = refl
+stopped-back false = refl
+
 next-small : (m : MaybePiece) → nextOf m ≤ 8
 unfolding nextOf
 next-small NoPiece = lit≤ tt
@@ -278,7 +281,7 @@ next-small (Piece p) = omega arith
 round : (p : ℕ) → p ≤ 7 → ((p + 1) % 8 + 7) % 8 ≡ p
 round p h = omega arith
 
-last-is : (p : ℕ) → p ≤ 7 → lastAt ((p + 1) % 8) ≡ Piece p
+pub last-is : (p : ℕ) → p ≤ 7 → lastAt ((p + 1) % 8) ≡ Piece p
 unfolding lastAt
 last-is p h = let w : (p + 1) % 8 ≤ 7 = omega arith in rw (le-leb ((p + 1) % 8) 7 w, round p h)
 
@@ -299,28 +302,28 @@ low-three n = omega arith
 low-two : (n : ℕ) → n % 4 ≤ 3
 low-two n = omega arith
 
-as-low : (n : ℕ) → n ≤ 7 → n % 8 ≡ n
+pub as-low : (n : ℕ) → n ≤ 7 → n % 8 ≡ n
 as-low n h = omega arith
 
 module _ (r : MtcReader) (s : Sound r) (n p w : ℕ) where
   abbrev control-of : ℕ
   control-of =
-      r .count % 8 + nextOf (r .last) * 8 + flatWay (r .direction) % 4 * 128 + bit (r .running) * 512 + r .first % 8 * 1024
-      + (bit (r .locked) + timeMark (r .previous) * 2 + timeMark (r .time) * 16) * 8192
+      r .count % 8 + nextOf (r .last) * 8 + flatWay (r .direction) % 4 * 128 + bit (not (r .running)) * 512 + r .first % 8 * 1024
+      + (bit (r .locked) + timeMark (r .previous) * 2 + timeMark (r .time) * 16) * 65536
 
   kept : digits n ≡ nibblesIn (around (nextOf (r .last)) (r .nibbles)) → timeIn (timeMark (r .previous)) p ≡ r .previous
       → timeIn (timeMark (r .time)) w ≡ r .time → readerAt n control-of p w ≡ r
   kept en ep et =
       let b : Bounds r = bounds r s in
-      at-control (r .count % 8) (nextOf (r .last)) (flatWay (r .direction) % 4) (bit (r .running)) (r .first % 8) (bit (r .locked)) (timeMark (r .previous)) (timeMark (r .time))
-      (low-three (r .count)) (next-small (r .last)) (low-two (flatWay (r .direction))) (bit-small (r .running)) (low-three (r .first)) (bit-small (r .locked)) (mark-small (r .previous)) (mark-small (r .time)) n p w
-      ∙ rw (en, nibbles-around r b (nextOf (r .last)), around-back (r .nibbles) (b .eight) (nextOf (r .last)) (next-small (r .last)), as-low (r .count) (b .count), as-low (r .first) (b .first), last-back r b (r .last) refl, way-back (r .direction), bit-back (r .locked), bit-back (r .running), ep, et)
+      at-control (r .count % 8) (nextOf (r .last)) (flatWay (r .direction) % 4) (bit (not (r .running))) (r .first % 8) (bit (r .locked)) (timeMark (r .previous)) (timeMark (r .time))
+      (low-three (r .count)) (next-small (r .last)) (low-two (flatWay (r .direction))) (bit-small (not (r .running))) (low-three (r .first)) (bit-small (r .locked)) (mark-small (r .previous)) (mark-small (r .time)) n p w
+      ∙ rw (en, nibbles-around r b (nextOf (r .last)), around-back (r .nibbles) (b .eight) (nextOf (r .last)) (next-small (r .last)), as-low (r .count) (b .count), as-low (r .first) (b .first), last-back r b (r .last) refl, way-back (r .direction), bit-back (r .locked), stopped-back (r .running), ep, et)
 
 -- As the code puts them together.
 pub words-back : (r : MtcReader) → T (isSound r) → length (r .nibbles) ≡ 8 → (n p w next way u l m t : ℕ) → next ≡ nextOf (r .last)
-    → way ≡ flatWay (r .direction) → u ≡ bit (r .running) → l ≡ bit (r .locked) → m ≡ timeMark (r .previous) → t ≡ timeMark (r .time)
+    → way ≡ flatWay (r .direction) → u ≡ bit (not (r .running)) → l ≡ bit (r .locked) → m ≡ timeMark (r .previous) → t ≡ timeMark (r .time)
     → digits n ≡ nibblesIn (around next (r .nibbles)) → timeIn (timeMark (r .previous)) p ≡ r .previous → timeIn (timeMark (r .time)) w ≡ r .time
-    → readerIn (n ∷ (r .count % 8 + next * 8 + way % 4 * 128 + u * 512 + r .first % 8 * 1024 + (l + m * 2 + t * 16) * 8192) ∷ p ∷ w ∷ []) ≡ r
+    → readerIn (n ∷ (r .count % 8 + next * 8 + way % 4 * 128 + u * 512 + r .first % 8 * 1024 + (l + m * 2 + t * 16) * 65536) ∷ p ∷ w ∷ []) ≡ r
 unfolding readerIn
 words-back r h e n p w next way u l m t ex ey eu el em et en ep ew =
     rw (ex, ey, eu, el, em, et) (kept r (record { within = h; eight = e }) n p w (en ∙ ap (λ (k : ℕ). nibblesIn (around k (r .nibbles))) ex) ep ew)
@@ -358,7 +361,7 @@ four P h (a ∷ b ∷ c ∷ []) x = absurd (omega arith)
 four P h (a ∷ b ∷ c ∷ d ∷ []) x = h a b c d
 four P h (a ∷ b ∷ c ∷ d ∷ e ∷ ws) x = absurd (omega arith)
 
-with-piece : (ws : List ℕ) (x y : ℕ) → length ws ≡ 4 → readerIn (set (set ws 0 x) 1 y) ≡ readerAt x y (getD ws 2 0) (getD ws 3 0)
+pub with-piece : (ws : List ℕ) (x y : ℕ) → length ws ≡ 4 → readerIn (set (set ws 0 x) 1 y) ≡ readerAt x y (getD ws 2 0) (getD ws 3 0)
 unfolding readerIn
 with-piece ws x y = four (λ (l : List ℕ). readerIn (set (set l 0 x) 1 y) ≡ readerAt x y (getD l 2 0) (getD l 3 0)) (λ a b c d. refl) ws
 
@@ -424,16 +427,16 @@ record Before (c k : ℕ) : Type 0 where
   next : c / 8 % 16 ≡ k
   turn : c / 8 % 8 ≡ k
   way : c / 128 % 4 ≡ 0
-  running : c / 512 % 2 ≡ 1
+  running : c / 512 % 2 ≡ 0
   first : c / 1024 % 8 ≡ 0
 
-before : (c k : ℕ) → k ≤ 7 → c % 8192 ≡ 512 + k * 9 → Before c k
+before : (c k : ℕ) → k ≤ 7 → c % 65536 ≡ k * 9 → Before c k
 before c k h e = subst (λ (x : ℕ). Before x k) apart fields
   where
     q : ℕ
-    q = c / 8192
+    q = c / 65536
 
-    apart : k + k * 8 + 0 * 128 + 1 * 512 + 0 * 1024 + q * 8192 ≡ c
+    apart : k + k * 8 + 0 * 128 + 0 * 512 + 0 * 1024 + q * 65536 ≡ c
     apart = omega arith
 
     within : k ≤ 8
@@ -442,27 +445,27 @@ before c k h e = subst (λ (x : ℕ). Before x k) apart fields
     none : 0 ≤ 7
     none = lit≤ tt
 
-    fields : Before (k + k * 8 + 0 * 128 + 1 * 512 + 0 * 1024 + q * 8192) k
+    fields : Before (k + k * 8 + 0 * 128 + 0 * 512 + 0 * 1024 + q * 65536) k
     fields =
         record {
-          count = count-is k k 0 1 0 q h within (lit≤ tt) (lit≤ tt) none;
-          next = next-is k k 0 1 0 q h within (lit≤ tt) (lit≤ tt) none;
-          turn = turn-is k k 0 1 0 q h within (lit≤ tt) (lit≤ tt) none ∙ as-low k h;
-          way = way-is k k 0 1 0 q h within (lit≤ tt) (lit≤ tt) none;
-          running = running-is k k 0 1 0 q h within (lit≤ tt) (lit≤ tt) none;
-          first = first-is k k 0 1 0 q h within (lit≤ tt) (lit≤ tt) none;
+          count = count-is k k 0 0 0 q h within (lit≤ tt) (lit≤ tt) none;
+          next = next-is k k 0 0 0 q h within (lit≤ tt) (lit≤ tt) none;
+          turn = turn-is k k 0 0 0 q h within (lit≤ tt) (lit≤ tt) none ∙ as-low k h;
+          way = way-is k k 0 0 0 q h within (lit≤ tt) (lit≤ tt) none;
+          running = running-is k k 0 0 0 q h within (lit≤ tt) (lit≤ tt) none;
+          first = first-is k k 0 0 0 q h within (lit≤ tt) (lit≤ tt) none;
         }
 
 -- The control after it, with the same marks.
-on : (c k : ℕ) → k ≤ 6 → c % 8192 ≡ 512 + k * 9 → Before (c + 9) ((k + 1) % 8) × ((c + 9) / 8192 ≡ c / 8192)
+on : (c k : ℕ) → k ≤ 6 → c % 65536 ≡ k * 9 → Before (c + 9) ((k + 1) % 8) × ((c + 9) / 65536 ≡ c / 65536)
 on c k h e =
-    let f : (c + 9) % 8192 ≡ 512 + (k + 1) * 9 = omega arith in
+    let f : (c + 9) % 65536 ≡ (k + 1) * 9 = omega arith in
     let m : k + 1 ≡ (k + 1) % 8 = omega arith in
     (subst (Before (c + 9)) m (before (c + 9) (k + 1) (omega arith) f), omega arith)
 
-over : (c : ℕ) → c % 8192 ≡ 575 → Before (c - 63) 0 × ((c - 63) / 8192 ≡ c / 8192)
+over : (c : ℕ) → c % 65536 ≡ 63 → Before (c - 63) 0 × ((c - 63) / 65536 ≡ c / 65536)
 over c e =
-    let f : (c - 63) % 8192 ≡ 512 = omega arith in
+    let f : (c - 63) % 65536 ≡ 0 = omega arith in
     (before (c - 63) 0 (lit≤ tt) f, omega arith)
 
 began : (k : ℕ) → cond (eqb (k + 1) 1) k 0 ≡ 0
@@ -476,7 +479,7 @@ forward : wayAt 0 ≡ Going Forward
 unfolding wayAt directionAt
 forward = refl
 
-module _ (n c x p t k v : ℕ) (hn : n < 4294967296) (hv : v ≤ 15) (hk : k ≤ 7) (b : Before c k) (a : Before x ((k + 1) % 8)) (u : x / 8192 ≡ c / 8192) where
+module _ (n c x p t k v : ℕ) (hn : n < 4294967296) (hv : v ≤ 15) (hk : k ≤ 7) (b : Before c k) (a : Before x ((k + 1) % 8)) (u : x / 65536 ≡ c / 65536) where
   stored-is : readerAt (n / 16 + v * 268435456) x p t ≡ stored (readerAt n c p t) (ordered true (Going Forward) true) (k + 1) k v
   unfolding readerAt
   stored-is =
@@ -496,7 +499,7 @@ last-before : (k : ℕ) → k ≤ 7 → lastAt k ≡ Piece ((k + 7) % 8)
 unfolding lastAt
 last-before k h = rw (le-leb k 7 h)
 
-module _ (n c p t b : ℕ) (e : c % 8192 ≡ 512 + pieceOf b * 9) where
+module _ (n c p t b : ℕ) (e : c % 65536 ≡ pieceOf b * 9) where
   abbrev reader : MtcReader
   reader = readerAt n c p t
 
@@ -527,7 +530,7 @@ below-last : (k : ℕ) → k ≤ 7 → (k ≡ 7 → ⊥) → k ≤ 6
 below-last k h z = omega (arith, z)
 
 -- A piece before the last one.
-pub goes-on : (ws : List ℕ) (b x y : ℕ) → length ws ≡ 4 → getD ws 1 0 % 8192 ≡ 512 + pieceOf b * 9 → (pieceOf b ≡ 7 → ⊥)
+pub goes-on : (ws : List ℕ) (b x y : ℕ) → length ws ≡ 4 → getD ws 1 0 % 65536 ≡ pieceOf b * 9 → (pieceOf b ≡ 7 → ⊥)
     → getD ws 0 0 < 4294967296 → x ≡ getD ws 0 0 / 16 + valueOf b * 268435456 → y ≡ getD ws 1 0 + 9
     → (flatEvent (eventWith (pieceOf b) NoSequence) ≡ flatEvent (eventOf (readerIn ws) b)) × (readerIn (set (set ws 0 x) 1 y) ≡ afterByte (readerIn ws) b)
 unfolding readerIn
@@ -545,18 +548,18 @@ goes-on ws b x y l e z hn ex ey =
       i ∙ sym (s .0 ∙ rw (ne-eqb (pieceOf b + 1) 0 (not-none (pieceOf b)), ne-eqb (pieceOf b + 1) 8 (not-last (pieceOf b) z))),
     )
 
-pub room : (b x : ℕ) → x ≡ 512 + pieceOf b * 9 → (pieceOf b ≡ 7 → ⊥) → x ≤ 566
+pub room : (b x : ℕ) → x ≡ pieceOf b * 9 → (pieceOf b ≡ 7 → ⊥) → x ≤ 54
 room b x e z = let h : pieceOf b ≤ 6 = below-last (pieceOf b) (omega arith) z in omega arith
 
 -- The control after the last one.
-pub held : (c : ℕ) → c % 8192 ≡ 575 → 63 ≤ c
+pub held : (c : ℕ) → c % 65536 ≡ 63 → 63 ≤ c
 held c e = omega arith
 
-pub round-again : (ws : List ℕ) (x : ℕ) → length ws ≡ 4 → getD ws 1 0 % 8192 ≡ 575 → getD (set (set ws 0 x) 1 (getD ws 1 0 - 63)) 1 0 % 8192 ≡ 512
+pub round-again : (ws : List ℕ) (x : ℕ) → length ws ≡ 4 → getD ws 1 0 % 65536 ≡ 63 → getD (set (set ws 0 x) 1 (getD ws 1 0 - 63)) 1 0 % 65536 ≡ 0
 round-again ws x l e = rw (control-put ws x (getD ws 1 0 - 63) l) (omega arith)
 
 -- The last one.
-pub ends : (ws : List ℕ) (b x y f : ℕ) (q : MtcReader) → length ws ≡ 4 → getD ws 1 0 % 8192 ≡ 575 → pieceOf b ≡ 7
+pub ends : (ws : List ℕ) (b x y f : ℕ) (q : MtcReader) → length ws ≡ 4 → getD ws 1 0 % 65536 ≡ 63 → pieceOf b ≡ 7
     → getD ws 0 0 < 4294967296 → x ≡ getD ws 0 0 / 16 + valueOf b * 268435456 → y ≡ getD ws 1 0 - 63
     → (f ≡ flatEvent (eventWith 7 (Sequence (sequenceOf (readerIn (set (set ws 0 x) 1 y)))))) × (q ≡ completed (readerIn (set (set ws 0 x) 1 y)))
     → (f ≡ flatEvent (eventOf (readerIn ws) b)) × (q ≡ afterByte (readerIn ws) b)
@@ -566,7 +569,7 @@ ends ws b x y f q l e z hn ex ey h =
     let c : ℕ = getD ws 1 0 in
     let p : ℕ = getD ws 2 0 in
     let t : ℕ = getD ws 3 0 in
-    let e′ : c % 8192 ≡ 512 + pieceOf b * 9 = omega arith in
+    let e′ : c % 65536 ≡ pieceOf b * 9 = omega arith in
     let s = told n c p t b e′ in
     let m = over c e in
     let i : readerIn (set (set ws 0 x) 1 y) ≡ stored (readerIn ws) (ordered true (Going Forward) true) 8 7 (valueOf b)
@@ -592,24 +595,25 @@ in-place : (n : ℕ) → around 8 (digits n) ≡ digits n
 unfolding around digits
 in-place n = refl
 
-module _ (ws : List ℕ) (e : getD ws 1 0 % 8192 ≡ 512) where
+module _ (ws : List ℕ) (e : getD ws 1 0 % 65536 ≡ 0) where
   at-end : Before (getD ws 1 0) 0
   at-end = before (getD ws 1 0) 0 (lit≤ tt) e
 
   pub reports : (raw : MtcTime) (m : MaybeTime) (s : MtcSequence) → raw ≡ rawOf (digits (getD ws 0 0))
-      → m ≡ timeIn (getD ws 1 0 / 8192 / 2 % 8) (getD ws 2 0) → s ≡ reported raw Forward m → s ≡ sequenceOf (readerIn ws)
+      → m ≡ timeIn (getD ws 1 0 / 65536 / 2 % 8) (getD ws 2 0) → s ≡ reported raw Forward m → s ≡ sequenceOf (readerIn ws)
   unfolding readerIn readerAt
   reports raw m s er em es =
       es ∙ rw (er, em) (sym (sym (sequence-of (readerIn ws)) ∙ rw (at-end .turn, at-end .way, in-place (getD ws 0 0), forward)))
 
-  pub completes : (s : MtcSequence) (x a b y z : ℕ) → length ws ≡ 4 → x ≡ 512 + (1 + a * 2 + b * 16) * 8192 → a ≡ 1 + 2 * bitsOf (s .raw .rate)
+  pub completes : (s : MtcSequence) (x a b y z : ℕ) → length ws ≡ 4 → x ≡ (1 + a * 2 + b * 16) * 65536 → a ≡ 1 + 2 * bitsOf (s .raw .rate)
       → b ≡ 1 + 2 * bitsOf (s .current .rate) → labelIn (s .raw .rate) y ≡ s .raw → labelIn (s .current .rate) z ≡ s .current
       → s ≡ sequenceOf (readerIn ws) → readerIn (set (set (set ws 1 x) 2 y) 3 z) ≡ completed (readerIn ws)
   unfolding readerIn readerAt
   completes s x a b y z l ex ea eb ey ez es =
       let ha : a ≤ 7 = rw ea (omega (arith, bits-small (s .raw .rate))) in
       let hb : b ≤ 7 = rw eb (omega (arith, bits-small (s .current .rate))) in
+      let whole : x ≡ 0 + 0 * 8 + 0 * 128 + 0 * 512 + 0 * 1024 + (1 + a * 2 + b * 16) * 65536 = omega arith in
       with-labels ws x y z l
-      ∙ ap (λ (k : ℕ). readerAt (getD ws 0 0) k y z) ex
-      ∙ at-control 0 0 0 1 0 1 a b (lit≤ tt) (lit≤ tt) (lit≤ tt) (lit≤ tt) (lit≤ tt) (lit≤ tt) ha hb (getD ws 0 0) y z
+      ∙ ap (λ (k : ℕ). readerAt (getD ws 0 0) k y z) whole
+      ∙ at-control 0 0 0 0 0 1 a b (lit≤ tt) (lit≤ tt) (lit≤ tt) (lit≤ tt) (lit≤ tt) (lit≤ tt) ha hb (getD ws 0 0) y z
       ∙ rw (ea, eb, marked (s .raw) y ey, marked (s .current) z ez, sym es, at-end .turn, at-end .count, at-end .first, at-end .next, at-end .way, at-end .running)

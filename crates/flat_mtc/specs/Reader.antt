@@ -2,7 +2,7 @@
 use Prim.Native.Nat.{ℕ, _+_, _-_, _*_, _/_, _%_}
 use mathlib.Core.Bool.{Bool, true, false, cond}
 use mathlib.Core.List.{List, [], _∷_}
-use lib.Dec.{leb}
+use lib.Dec.{leb, eqb}
 use lib.ListN.{getD}
 use Rattle.flat_mtc.specs.Generator.{directionAt, flatDirection, flatPiece, isSet}
 use Rattle.flat_mtc.specs.Time.{flatTime, noTime}
@@ -104,8 +104,8 @@ unfoldable pub timeMark : MaybeTime → ℕ
 timeMark NoTime = 0
 timeMark (Time t) = 1 + 2 * bitsOf (t .rate)
 
--- The reader of its nibbles, the next piece's lowest, of its control, from below count, next piece, direction, running, first piece,
--- locked and the marks of both labels, and of the previous and the current label.
+-- The reader of its nibbles, the next piece's lowest, of its control and of the previous and the current label. The control has,
+-- from below, count, next piece, direction, stopped and first piece, and from bit 16 on locked and the marks of both labels.
 unfoldable pub readerAt : ℕ → ℕ → ℕ → ℕ → MtcReader
 readerAt n c p t =
     record {
@@ -114,13 +114,13 @@ readerAt n c p t =
       first = c / 1024 % 8;
       last = lastAt (c / 8 % 16);
       direction = wayAt (c / 128 % 4);
-      locked = isSet (c / 8192 % 2);
-      running = isSet (c / 512 % 2);
-      previous = timeIn (c / 8192 / 2 % 8) p;
-      time = timeIn (c / 8192 / 16 % 8) t;
+      locked = isSet (c / 65536 % 2);
+      running = eqb (c / 512 % 2) 0;
+      previous = timeIn (c / 65536 / 2 % 8) p;
+      time = timeIn (c / 65536 / 16 % 8) t;
     }
 
--- The reader of four words: any words stand for one that calls can leave.
+-- The reader of four words: any words stand for one in its ranges.
 unfoldable pub readerIn : List ℕ → MtcReader
 readerIn ws = readerAt (getD ws 0 0) (getD ws 1 0) (getD ws 2 0) (getD ws 3 0)
 

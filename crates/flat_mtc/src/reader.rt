@@ -20,7 +20,7 @@ use mtc::event;
 use mtc::report;
 ghost use mathlib.Core.Path.{_≡_};
 ghost use mathlib.Core.Bool.{true};
-ghost use Prim.Native.Nat.{_+_, _*_, _/_, _%_, _≤_, _<_};
+ghost use Prim.Native.Nat.{_+_, _-_, _*_, _/_, _%_, _≤_, _<_};
 ghost use lib.Dec.{T, eqb};
 ghost use lib.ListN.{length, getD};
 ghost use Rattle.mtc.specs.QuarterFrame.{pieceOf};
@@ -84,11 +84,11 @@ const NEXT: u32 = 8;
 
 const DIRECTION: u32 = 128;
 
-const RUNNING: u32 = 512;
+const STOPPED: u32 = 512;
 
 const FIRST: u32 = 1024;
 
-const MARKS: u32 = 8192;
+const MARKS: u32 = 65536;
 
 // The marks' fields: below them is whether the reader is locked.
 const PREVIOUS_MARK: u32 = 2;
@@ -200,7 +200,7 @@ fn time_in(mark: u8, w: u32) -> MaybeTime
 }
 
 fn previous_in(words: [u32; 4]) -> MaybeTime
-    ensures { λ t. ⌜ (t ≡ timeIn (getD words 1 0 / 8192 / 2 % 8) (getD words 2 0)) × (length words ≡ 4) ⌝ }
+    ensures { λ t. ⌜ (t ≡ timeIn (getD words 1 0 / 65536 / 2 % 8) (getD words 2 0)) × (length words ≡ 4) ⌝ }
 {
     time_in(
         (words[CONTROL] / MARKS / PREVIOUS_MARK % 8) as u8,
@@ -221,7 +221,7 @@ pub fn reader_in(words: [u32; 4]) -> MtcReader
         last: last_at((control / NEXT % 16) as u8),
         direction: way_at((control / DIRECTION % 4) as u8),
         locked: control / MARKS % 2 != 0,
-        running: control / RUNNING % 2 != 0,
+        running: control / STOPPED % 2 == 0,
         previous: previous_in(words),
         time: time_in((control / MARKS / TIME_MARK % 8) as u8, words[TIME]),
     }
@@ -272,7 +272,7 @@ fn time_mark(t: MaybeTime) -> u32
     }
 }
 
-// The words of a reader that calls can leave.
+// The words of a reader in its ranges.
 pub fn words_of(r: MtcReader) -> [u32; 4]
     ensures { λ w. ⌜ (T (isSound r) → readerIn w ≡ r) ⌝ }
 {
@@ -286,7 +286,7 @@ pub fn words_of(r: MtcReader) -> [u32; 4]
     let control = (r.count % 8) as u32
         + next * NEXT
         + (flat_way(direction) % 4) as u32 * DIRECTION
-        + bit(r.running) * RUNNING
+        + bit(!r.running) * STOPPED
         + (r.first % 8) as u32 * FIRST
         + marks * MARKS;
     [
@@ -322,7 +322,7 @@ pub fn is_locked(words: [u32; 4]) -> bool
 pub fn is_running(words: [u32; 4]) -> bool
     ensures { λ r. ⌜ r ≡ readerIn words .running ⌝ }
 {
-    words[CONTROL] / RUNNING % 2 != 0
+    words[CONTROL] / STOPPED % 2 == 0
 }
 
 pub fn direction(words: [u32; 4]) -> MaybeDirection
@@ -463,30 +463,39 @@ pub fn report_at(n: u64) -> FlatMaybeSequence
 pub fn receive(r: &mut [u32; 4], byte: u8) -> u64
     ensures { λ e. ⌜ (e ≡ flatEvent (eventOf (readerIn (now (r .entry))) byte)) × (readerIn (now (r .exit)) ≡ afterByte (readerIn (now (r .entry))) byte) ⌝ }
 {
-    let p = byte / 16 % 8;
+    let p = byte as u32 / 16 % 8;
     if p == 7 {
         return receive_last(r, byte);
     }
     if !runs_to(*r, p) {
-        return receive_any(r, byte);
+        return receive_back(r, byte);
     }
     let nibbles = put(r[NIBBLES], byte % 16);
     let control = moved_on(r[CONTROL]);
     r[NIBBLES] = nibbles;
     r[CONTROL] = control;
-    flat_event(event(p, MaybeSequence::NoSequence))
+    quiet(p)
+}
+
+// What a piece gives that ends no sequence.
+fn quiet(p: u32) -> u64
+    requires { ⌜ p ≤ 7 ⌝ }
+    ensures { λ e. ⌜ e ≡ flatEvent (eventWith p MaybeSequence.NoSequence) ⌝ }
+{
+    flat_event(event(p as u8, MaybeSequence::NoSequence))
 }
 
 // The next piece is `p`, in a sequence that runs forward from piece 0: count and next piece are `p`.
-fn runs_to(words: [u32; 4], p: u8) -> bool
-    ensures { λ b. ⌜ (b ≡ eqb (getD words 1 0 % 8192) (512 + p * 9)) × (length words ≡ 4) ⌝ }
+fn runs_to(words: [u32; 4], p: u32) -> bool
+    requires { ⌜ p ≤ 7 ⌝ }
+    ensures { λ b. ⌜ (b ≡ eqb (getD words 1 0 % 65536) (p * 9)) × (length words ≡ 4) ⌝ }
 {
-    words[CONTROL] % MARKS == RUNNING + p as u32 * 9
+    (words[CONTROL] % MARKS) as u16 == (p * 9) as u16
 }
 
 // Count and next piece moved on, which are below 7.
 fn moved_on(control: u32) -> u32
-    requires { ⌜ control % 8192 ≤ 566 ⌝ }
+    requires { ⌜ control % 65536 ≤ 54 ⌝ }
     ensures { λ r. ⌜ r ≡ control + 9 ⌝ }
 {
     control + 9
@@ -506,13 +515,56 @@ fn receive_last(r: &mut [u32; 4], byte: u8) -> u64
     ensures { λ e. ⌜ (e ≡ flatEvent (eventOf (readerIn (now (r .entry))) byte)) × (readerIn (now (r .exit)) ≡ afterByte (readerIn (now (r .entry))) byte) ⌝ }
 {
     if !runs_to(*r, 7) {
-        return receive_any(r, byte);
+        return receive_back(r, byte);
     }
     let nibbles = put(r[NIBBLES], byte % 16);
     let control = r[CONTROL] - 63;
     r[NIBBLES] = nibbles;
     r[CONTROL] = control;
     complete(r)
+}
+
+// The next piece of a sequence that runs in reverse from piece 7, but its last one, turns the nibbles the other way.
+fn receive_back(r: &mut [u32; 4], byte: u8) -> u64
+    ensures { λ e. ⌜ (e ≡ flatEvent (eventOf (readerIn (now (r .entry))) byte)) × (readerIn (now (r .exit)) ≡ afterByte (readerIn (now (r .entry))) byte) ⌝ }
+{
+    let p = byte as u32 / 16 % 8;
+    if p == 0 {
+        return receive_any(r, byte);
+    }
+    if !runs_back(*r, p) {
+        return receive_any(r, byte);
+    }
+    let nibbles = put_back(r[NIBBLES], byte % 16);
+    let control = moved_back(r[CONTROL], p);
+    let event = quiet(p);
+    r[NIBBLES] = nibbles;
+    r[CONTROL] = control;
+    event
+}
+
+// The next piece is `p`, in a sequence that runs in reverse from piece 7: the count is 7 - p, and the piece after the last one p + 2.
+fn runs_back(words: [u32; 4], p: u32) -> bool
+    requires { ⌜ p ≤ 7 ⌝ }
+    ensures { λ b. ⌜ (b ≡ eqb (getD words 1 0 % 65536) (7296 + (23 + p * 7) % 64)) × (length words ≡ 4) ⌝ }
+{
+    words[CONTROL] % MARKS == DIRECTION + FIRST * 7 + (23 + p * 7) % 64
+}
+
+// Count and next piece moved on after piece `p`.
+fn moved_back(control: u32, p: u32) -> u32
+    requires { ⌜ (p ≤ 7) × (control % 65536 ≡ 7296 + (23 + p * 7) % 64) ⌝ }
+    ensures { λ r. ⌜ r ≡ control - (23 + p * 7) % 64 + (16 + p * 7) % 64 ⌝ }
+{
+    control - (23 + p * 7) % 64 + (16 + p * 7) % 64
+}
+
+// The nibbles with the next piece's, on the way back.
+fn put_back(nibbles: u32, value: u8) -> u32
+    requires { ⌜ value ≤ 15 ⌝ }
+    ensures { λ r. ⌜ (r ≡ nibbles % 16777216 * 16 + nibbles / 268435456 + value * 268435456) × (nibbles < 4294967296) ⌝ }
+{
+    nibbles % 16777216 * 16 + nibbles / 268435456 + value as u32 * 268435456
 }
 
 // Any data byte, by the record.
@@ -528,7 +580,7 @@ fn receive_any(r: &mut [u32; 4], byte: u8) -> u64
 
 // The end of a sequence that ran forward, at its last piece.
 fn complete(r: &mut [u32; 4]) -> u64
-    requires { ⌜ getD (now r) 1 0 % 8192 ≡ 512 ⌝ }
+    requires { ⌜ getD (now r) 1 0 % 65536 ≡ 0 ⌝ }
     ensures { λ e. ⌜ (e ≡ flatEvent (eventWith 7 (MaybeSequence.Sequence (sequenceOf (readerIn (now (r .entry))))))) × (readerIn (now (r .exit)) ≡ completed (readerIn (now (r .entry)))) ⌝ }
 {
     let raw = raw_in(r[NIBBLES]);
@@ -541,7 +593,7 @@ fn complete(r: &mut [u32; 4]) -> u64
 
 // The report of a full sequence, and the record with both labels.
 fn keep(r: &mut [u32; 4], s: MtcSequence) -> u64
-    requires { ⌜ (getD (now r) 1 0 % 8192 ≡ 512) × (length (now r) ≡ 4) ⌝ }
+    requires { ⌜ (getD (now r) 1 0 % 65536 ≡ 0) × (length (now r) ≡ 4) ⌝ }
     ensures { λ e. ⌜ (e ≡ flatEvent (eventWith 7 (MaybeSequence.Sequence s))) × (s ≡ sequenceOf (readerIn (now (r .entry))) → readerIn (now (r .exit)) ≡ completed (readerIn (now (r .entry)))) ⌝ }
 {
     let raw = s.raw;
@@ -549,7 +601,7 @@ fn keep(r: &mut [u32; 4], s: MtcSequence) -> u64
     let rate = raw.rate;
     let after = current.rate;
     let marks = 1 + rate_mark(rate) * PREVIOUS_MARK + rate_mark(after) * TIME_MARK;
-    r[CONTROL] = RUNNING + marks * MARKS;
+    r[CONTROL] = marks * MARKS;
     r[PREVIOUS] = label_word(raw);
     r[TIME] = label_word(current);
     flat_event(event(7, MaybeSequence::Sequence(s)))
@@ -557,7 +609,7 @@ fn keep(r: &mut [u32; 4], s: MtcSequence) -> u64
 
 // True only where the label comes two frames after the previous one and two before another, all in one second.
 fn is_steady(words: [u32; 4], raw: MtcTime) -> bool
-    ensures { λ b. ⌜ (b ≡ true → (raw .frames ≤ 27) × (reported raw Direction.Forward (timeIn (getD words 1 0 / 8192 / 2 % 8) (getD words 2 0)) ≡ steady raw)) × (length words ≡ 4) ⌝ }
+    ensures { λ b. ⌜ (b ≡ true → (raw .frames ≤ 27) × (reported raw Direction.Forward (timeIn (getD words 1 0 / 65536 / 2 % 8) (getD words 2 0)) ≡ steady raw)) × (length words ≡ 4) ⌝ }
 {
     let rate = raw.rate;
     if raw.hours > 23 {

@@ -27,9 +27,6 @@ add-marks-2 c = search needs
 mul-r : tie.Need-mul-r
 mul-r c = search needs
 
-add-r : tie.Need-add-r
-add-r c = search needs
-
 element-write-r : tie.Need-element-write-r
 element-write-r c = search needs
 
@@ -65,7 +62,6 @@ keep-spec =
     mul-marks-2
     add-marks-2
     mul-r
-    add-r
     element-write-r
     label-word-requires
     element-write-r-2

@@ -1,7 +1,6 @@
 -- `flat_mtc::reader::receive` meets its contract. Assumes nothing.
-use mathlib.Core.Path.{sym, ap, _∙_}
+use mathlib.Core.Path.{sym, _∙_}
 use borrow.Author.Tests.{eqb-true, not-false}
-use Rattle.flat_mtc.specs.Reader.{flatEvent}
 use Rattle.flat_mtc.proofs.Words.{goes-on, room}
 use borrow.Author.Needs.{needs}
 use Rattle.flat_mtc.proofs.reader.receive.Statement.{statement}
@@ -16,8 +15,8 @@ returns c = search needs
 runs-to-requires : tie.Need-runs-to-requires
 runs-to-requires c κs = search needs
 
-receive-any-requires : tie.Need-receive-any-requires
-receive-any-requires c κs = search needs
+receive-back-requires : tie.Need-receive-back-requires
+receive-back-requires c κs = search needs
 
 returns-2 : tie.Need-returns-2
 returns-2 c = search needs
@@ -40,16 +39,13 @@ element-write-r c = search needs
 element-write-r-2 : tie.Need-element-write-r-2
 element-write-r-2 c = search needs
 
-event-requires : tie.Need-event-requires
-event-requires c κs = search needs
-
-flat-event-requires : tie.Need-flat-event-requires
-flat-event-requires c κs = search needs
+quiet-requires : tie.Need-quiet-requires
+quiet-requires c κs = search needs
 
 returns-3 : tie.Need-returns-3
 returns-3 c =
-    let a = goes-on _ _ _ _ (c .before .before .before .before .before .before .before .runs-to .ensures .1) (eqb-true _ _ (sym (c .before .before .before .before .before .before .before .runs-to .ensures .0) ∙ not-false _ (c .before .before .before .before .before .before .if2 .left))) (c .before .before .before .before .before .before .before .before .before .if1 .left) (c .before .before .before .before .put .ensures .1) (c .before .before .before .before .put .ensures .0) (c .before .before .moved-on .ensures) in
-    (c .flat-event .ensures ∙ ap flatEvent (c .before .event .ensures) ∙ a .0, a .1)
+    let a = goes-on _ _ _ _ (c .before .before .before .before .before .before .runs-to .ensures .1) (eqb-true _ _ (sym (c .before .before .before .before .before .before .runs-to .ensures .0) ∙ not-false _ (c .before .before .before .before .before .if2 .left))) (c .before .before .before .before .before .before .before .before .if1 .left) (c .before .before .before .put .ensures .1) (c .before .before .before .put .ensures .0) (c .before .moved-on .ensures) in
+    (c .quiet .ensures ∙ a .0, a .1)
 
 pub receive-spec : {M : Type 1} → statement M
 receive-spec =
@@ -58,7 +54,7 @@ receive-spec =
     receive-last-requires
     returns
     runs-to-requires
-    receive-any-requires
+    receive-back-requires
     returns-2
     element-copy-out-put
     put-requires
@@ -66,6 +62,5 @@ receive-spec =
     moved-on-requires
     element-write-r
     element-write-r-2
-    event-requires
-    flat-event-requires
+    quiet-requires
     returns-3)

@@ -9,8 +9,8 @@ use Rattle.flat_mtc.proofs.reader.receive_last.Tie as tie
 runs-to-requires : tie.Need-runs-to-requires
 runs-to-requires c κs = search needs
 
-receive-any-requires : tie.Need-receive-any-requires
-receive-any-requires c κs = search needs
+receive-back-requires : tie.Need-receive-back-requires
+receive-back-requires c κs = search needs
 
 returns : tie.Need-returns
 returns c = search needs
@@ -44,7 +44,7 @@ receive-last-spec =
     tie.close
     (tie.spec
     runs-to-requires
-    receive-any-requires
+    receive-back-requires
     returns
     element-copy-out-put
     put-requires

@@ -91,7 +91,7 @@ time-word-requires-2 : tie.Need-time-word-requires-2
 time-word-requires-2 c κs = search needs
 
 returns : tie.Need-returns
-returns c = λ h. words-back _ h (c .before .before .before .around .ensures .1) _ _ _ _ _ _ _ _ _ (c .before .before .before .before .before .before .before .before .before .before .before .next-of .ensures .0) (c .before .before .before .before .before .before .flat-way .ensures) (c .before .before .before .before .before .bit2 .ensures .0) (c .before .before .before .before .before .before .before .before .before .before .bit .ensures .0) (c .before .before .before .before .before .before .before .before .before .time-mark .ensures .0) (c .before .before .before .before .before .before .before .before .time-mark2 .ensures .0) (c .before .before .nibbles-word .ensures .0 ∙ ap nibblesIn (c .before .before .before .around .ensures .0)) (c .before .time-word .ensures) (c .time-word2 .ensures)
+returns c = λ h. words-back _ h (c .before .before .before .around .ensures .1) _ _ _ _ _ _ _ _ _ (c .before .before .before .before .before .before .before .before .before .before .before .before .next-of .ensures .0) (c .before .before .before .before .before .before .before .flat-way .ensures) (c .before .before .before .before .before .bit2 .ensures .0) (c .before .before .before .before .before .before .before .before .before .before .before .bit .ensures .0) (c .before .before .before .before .before .before .before .before .before .before .time-mark .ensures .0) (c .before .before .before .before .before .before .before .before .before .time-mark2 .ensures .0) (c .before .before .nibbles-word .ensures .0 ∙ ap nibblesIn (c .before .before .before .around .ensures .0)) (c .before .time-word .ensures) (c .time-word2 .ensures)
 
 pub words-of-spec : {M : Type 1} → statement M
 words-of-spec =
