@@ -5,13 +5,13 @@ use mathlib.Core.Bool.{Bool, true, false}
 use mathlib.Core.List.{List, [], _∷_}
 use native.Mathlib.Omega.{arith}
 use borrow.Author.Tests.{le-leb}
-use lib.Dec.{lit<}
+use lib.Dec.{T, lit<}
 use lib.ListN.{length, getD}
 use Rattle.flat.specs.Code.{finalOf, isStatus, flatFinal, codeOf, flatCode, shortOf, flatShort}
 use Rattle.flat.specs.Generator.{directionAt, flatDirection, pieceAt, flatPiece, generatorOf, flatGenerator}
 use Rattle.flat.specs.Reader.{wayAt, flatWay, maybeTimeOf, flatMaybeTime, nibblesIn, readerOf, flatReader}
 use Rattle.flat.specs.String.{partAt, flatPart, commandOf, flatCommand, fieldOf, flatField}
-use Rattle.flat.specs.Time.{timeOf, flatTime}
+use Rattle.flat.specs.Time.{timeOf, timeNumbered, flatTime}
 use Rattle.mmc.specs.TimeCode.{readStatus, statusByte}
 use Rattle.mmc.specs.declared.command.MmcCommand.{MmcCommand}
 use Rattle.mmc.specs.declared.command.MmcCommand.the-variants.{Stop, Play, DeferredPlay, FastForward, Rewind, RecordStrobe, RecordExit, Pause, Reset, Write, LocateField, LocateTarget, Move, Other}
@@ -23,9 +23,10 @@ use Rattle.mmc.specs.declared.time_code.FinalByte.the-variants.{Subframes, Stat
 use Rattle.mmc.specs.declared.time_code.ShortTimeCode.{ShortTimeCode}
 use Rattle.mmc.specs.declared.time_code.StandardTimeCode.{StandardTimeCode}
 use Rattle.mmc.specs.declared.time_code.TimeCodeStatus.{TimeCodeStatus}
-use Rattle.mtc.proofs.Laws.{Sound, Bounds, bounds}
+use Rattle.mtc.proofs.Laws.{Sound, Bounds, bounds, number-bytes}
 use Rattle.mtc.specs.Reader.{pieceFits}
-use Rattle.mtc.specs.Time.{bitsOf, typeOf}
+use Rattle.mtc.specs.St12.{isValid}
+use Rattle.mtc.specs.Time.{bitsOf, typeOf, labelNumber}
 use Rattle.mtc.specs.declared.generator.Direction.{Direction}
 use Rattle.mtc.specs.declared.generator.Direction.the-variants.{Forward, Reverse}
 use Rattle.mtc.specs.declared.generator.MaybePiece.{MaybePiece}
@@ -177,3 +178,12 @@ unfolding fieldOf flatField
 field-back (F.TimeCode n c) = ap (F.TimeCode n) (code-back c)
 field-back (F.Short n c) = ap (F.Short n) (short-back c)
 field-back (F.Other n d) = ap₂ F.Other (part-back n) (part-back d)
+
+-- ---- a label's number
+
+-- A valid label comes back from its number.
+pub number-time : (t : MtcTime) → T (isValid t) → timeNumbered (labelNumber t) ≡ flatTime t
+unfolding timeNumbered flatTime
+number-time t v =
+    let b = number-bytes t v in
+    rw (b .0, b .1 .0, b .1 .1 .0, b .1 .1 .1 .0, b .1 .1 .1 .1)

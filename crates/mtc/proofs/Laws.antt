@@ -1,6 +1,6 @@
 -- The laws that readers and upper crates cite: counts, labels and moves on every input, and what they mean by SMPTE ST 12-1;
 -- quarter frames, the full message and user bits, and what they mean by RP-004/008; the stream law. Assumes nothing.
-use Prim.Native.Nat.{ℕ, _+_, _*_, _%_, _≤_, _<_}
+use Prim.Native.Nat.{ℕ, _+_, _*_, _/_, _%_, _≤_, _<_}
 use mathlib.Core.Path.{_≡_, refl}
 use mathlib.Core.Bool.{true, false}
 use mathlib.Core.Logic.{_⊎_}
@@ -21,7 +21,7 @@ use Rattle.mtc.specs.QuarterFrame.{pieces}
 use Rattle.mtc.specs.Reader.{fresh, isSound, reported, afterByte, eventOf}
 use Rattle.mtc.specs.Rp004.{InWidths, dataBytes, MovesTo}
 use Rattle.mtc.specs.St12.{label, framesPerSecond, isDropFrame, isSkipped, isValid, LeastAbove, countBefore, labelsOfDay, labelAfter}
-use Rattle.mtc.specs.Time.{dayOf, formula, frameCount, labelAt, addFrames, nextValid}
+use Rattle.mtc.specs.Time.{bitsOf, dayOf, formula, frameCount, labelAt, addFrames, nextValid, labelNumber}
 use Rattle.mtc.specs.Stream.{Call, afterCall, afterCalls, events, sent, runFrom, inOrder, StreamLaw, SentLaw}
 use Rattle.mtc.proofs.After
 use Rattle.mtc.proofs.Counts
@@ -41,6 +41,7 @@ use Rattle.mtc.proofs.QuarterFrames.{Sequences}
 use Rattle.mtc.proofs.Rounds.{silent}
 use Rattle.mtc.proofs.Sending
 use Rattle.mtc.proofs.Streams
+use Rattle.mtc.proofs.Short
 use Rattle.mtc.proofs.Validity
 
 -- ---- counts and labels
@@ -124,6 +125,13 @@ in-range-valid = Validity.in-range-valid
 -- 00:00:00:00 is a label of every rate.
 pub zero-valid : (r : TimeCodeType) → T (isValid (label r 0 0 0 0))
 zero-valid = Validity.zero-valid
+
+-- The bytes of a valid label's number are its counts and its rate.
+pub number-bytes : (t : MtcTime) → T (isValid t) → (labelNumber t % 256 ≡ t .hours)
+    × ((labelNumber t / 256 % 256 ≡ t .minutes)
+    × ((labelNumber t / 65536 % 256 ≡ t .seconds)
+    × ((labelNumber t / 16777216 % 256 ≡ t .frames) × (labelNumber t / 4294967296 % 256 ≡ bitsOf (t .rate)))))
+number-bytes = Short.number-bytes
 
 -- ---- quarter frames, by RP-004/008
 
