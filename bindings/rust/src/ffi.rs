@@ -124,15 +124,6 @@ impl NextWord {
         self.word as u8
     }
 
-    /// The name, at the place that was read, and the data.
-    #[inline]
-    pub(crate) fn parts(self, body: &[u8], place: usize) -> Option<(&[u8], &[u8])> {
-        let item = body.get(place..self.place)?;
-        let name = item.get(..usize::from(self.byte(0)))?;
-        let data = item.get(item.len().checked_sub(usize::from(self.byte(1)))?..)?;
-        Some((name, data))
-    }
-
     /// The data, up to the place to read on from.
     pub(crate) fn data(self, body: &[u8]) -> Option<&[u8]> {
         let length = usize::from(self.byte(1));
@@ -143,6 +134,28 @@ impl NextWord {
     #[inline]
     pub(crate) const fn byte(self, n: u32) -> u8 {
         (self.word >> (8 + 8 * n)) as u8
+    }
+}
+
+/// What was read at a place of a body; only [`next_word`] makes one.
+#[derive(Clone, Copy)]
+pub(crate) struct Item<'a> {
+    body: &'a [u8],
+    place: usize,
+    pub(crate) next: NextWord,
+}
+
+impl<'a> Item<'a> {
+    /// The name and the data of another command: the name begins at the place that was read, the data ends at the next one.
+    #[inline]
+    pub(crate) fn other(self) -> Option<(&'a [u8], &'a [u8])> {
+        if self.next.case() != OTHER_COMMAND {
+            return None;
+        }
+        let name = self.place..self.place + usize::from(self.next.byte(0));
+        let data = self.next.place - usize::from(self.next.byte(1))..self.next.place;
+        // SAFETY: that both parts of another command are inside the body it was read from is proved.
+        Some(unsafe { (self.body.get_unchecked(name), self.body.get_unchecked(data)) })
     }
 }
 
@@ -326,9 +339,10 @@ pub(crate) fn mmc_message_read(header: Universal, data: &[u8]) -> MmcMessage {
 
 /// The command at a place of `body`.
 #[inline]
-pub(crate) fn next_word(body: &[u8], place: usize) -> NextWord {
+pub(crate) fn next_word(body: &[u8], place: usize) -> Item<'_> {
     // SAFETY: `body` is a live slice.
-    unsafe { fimbrast_next_word(body.as_ptr(), body.len(), place) }
+    let next = unsafe { fimbrast_next_word(body.as_ptr(), body.len(), place) };
+    Item { body, place, next }
 }
 
 /// The information field at the front of `body`.

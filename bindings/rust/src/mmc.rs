@@ -106,6 +106,16 @@ impl TimeCodeStatus {
         }
     }
 
+    /// The flags of a status byte that the library gave.
+    const fn of_bits(byte: u8) -> Self {
+        Self {
+            estimated: byte & 0x40 != 0,
+            invalid: byte & 0x20 != 0,
+            video_field1: byte & 0x10 != 0,
+            no_time_code: byte & 0x08 != 0,
+        }
+    }
+
     /// The status byte, with the reserved bits as 000 (p. 9).
     pub fn to_byte(self) -> u8 {
         ffi::fimbrast_status_byte(ffi::Status {
@@ -225,21 +235,28 @@ impl StandardTimeCode {
     /// The time code of a Locate that was read: its five bytes above the case (pp. 8, 9).
     #[inline]
     fn of_word(next: ffi::NextWord) -> Self {
-        let [hr, mn, sc, fr] = [next.byte(0), next.byte(1), next.byte(2), next.byte(3)];
-        Self::of(ffi::Code {
-            time: ffi::Time {
-                hours: hr & 0x1F,
-                minutes: mn & 0x3F,
-                seconds: sc & 0x3F,
-                frames: fr & 0x1F,
-                rate: hr >> 5 & 0x03,
+        let bytes = (next.word >> 8) as u32;
+        // The counts in their bytes, and each mark, bit 6 of a byte, at the start of the byte before.
+        let [hours, minutes, seconds, frames] = (bytes & 0x1F3F_3F1F).to_le_bytes();
+        let [color_frame, blank, negative, _] = (bytes >> 14 & 0x01_0101).to_le_bytes();
+        let last = next.byte(4);
+        Self {
+            time: MtcTime::of(ffi::Time {
+                hours,
+                minutes,
+                seconds,
+                frames,
+                rate: next.byte(0) >> 5 & 0x03,
+            }),
+            color_frame: color_frame != 0,
+            blank: blank != 0,
+            negative: negative != 0,
+            final_byte: if next.byte(3) & 0x20 == 0 {
+                FinalByte::Subframes(last)
+            } else {
+                FinalByte::Status(TimeCodeStatus::of_bits(last))
             },
-            color_frame: mn & 0x40 != 0,
-            blank: sc & 0x40 != 0,
-            negative: fr & 0x40 != 0,
-            status: fr & 0x20 != 0,
-            last: next.byte(4),
-        })
+        }
     }
 
     #[inline]
@@ -654,16 +671,16 @@ impl<'a> Iterator for Commands<'a> {
         if place >= self.bytes.len() {
             return None;
         }
-        let next = ffi::next_word(self.bytes, place);
+        let item = ffi::next_word(self.bytes, place);
+        let next = item.next;
         self.place = next.place;
         if next.word <= u64::from(ffi::RESET) {
             return Some(Ok(MmcCommand::plain(next.case())));
         }
+        if let Some((name, data)) = item.other() {
+            return Some(Ok(MmcCommand::Other { name, data }));
+        }
         match next.case() {
-            ffi::OTHER_COMMAND => {
-                let (name, data) = next.parts(self.bytes, place)?;
-                Some(Ok(MmcCommand::Other { name, data }))
-            }
             ffi::CUT => Some(Err(SysexError::Length)),
             ffi::END => None,
             _ => MmcCommand::of(next, self.bytes),
@@ -796,6 +813,7 @@ impl<'a> MmcMessage<'a> {
 /// );
 /// # Ok::<(), SysexError>(())
 /// ```
+#[inline]
 pub fn write_commands(
     out: &mut [u8],
     device_id: u8,

@@ -114,6 +114,7 @@ impl fmt::Display for SysexError {
 impl core::error::Error for SysexError {}
 
 /// The length, or the refusal.
+#[inline]
 pub(crate) fn written(answer: ffi::Written) -> Result<usize, SysexError> {
     if answer.refusal == 0 {
         return Ok(answer.length);

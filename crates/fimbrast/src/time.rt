@@ -7,6 +7,7 @@ use flat_mtc::time::flat_new;
 use flat_mtc::time::flat_time;
 use flat_mtc::time::frame_of;
 use flat_mtc::time::time_in;
+use flat_mtc::time::time_numbered;
 use flat_mtc::time::time_of;
 use mtc::MtcTime;
 use mtc::QuarterFrame;
@@ -65,7 +66,7 @@ pub extern "C" fn fimbrast_to_frame_count(time: &[u8; 5]) -> u32
 pub extern "C" fn fimbrast_from_frame_count(count: u32, rate: u8) -> FlatTime
     ensures { λ r. ⌜ r ≡ flatTime (labelAt count (typeOf rate)) ⌝ }
 {
-    flat_time(MtcTime::from_frame_count(count, TimeCodeType::from_bits(rate)))
+    time_numbered(MtcTime::number_at(count, TimeCodeType::from_bits(rate)))
 }
 
 // `MtcTime::add_frames`.
@@ -73,7 +74,7 @@ pub extern "C" fn fimbrast_from_frame_count(count: u32, rate: u8) -> FlatTime
 pub extern "C" fn fimbrast_add_frames(time: FlatTime, delta: i32) -> FlatTime
     ensures { λ r. ⌜ r ≡ flatTime (addFrames (timeOf time) delta) ⌝ }
 {
-    flat_time(time_of(time).add_frames(delta))
+    time_numbered(time_of(time).number_after(delta))
 }
 
 // `QuarterFrame::from_byte`.

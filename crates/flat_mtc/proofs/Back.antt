@@ -1,10 +1,13 @@
 -- Flat labels and generators stand for one value each: what is flattened and read back is the same. Assumes nothing.
 use mathlib.Core.Path.{_≡_, refl}
 use mathlib.Core.Bool.{true}
+use lib.Dec.{T}
 use Rattle.flat_mtc.specs.Generator.{directionAt, flatDirection, pieceAt, flatPiece, generatorOf, flatGenerator}
-use Rattle.flat_mtc.specs.Time.{timeOf, flatTime}
+use Rattle.flat_mtc.specs.Time.{timeOf, timeNumbered, flatTime}
 use Rattle.mtc.specs.Reader.{pieceFits}
-use Rattle.labels.specs.Time.{bitsOf, typeOf}
+use Rattle.labels.specs.St12.{isValid}
+use Rattle.labels.specs.Time.{bitsOf, typeOf, labelNumber}
+use Rattle.labels.proofs.Laws.{number-bytes}
 use Rattle.mtc.specs.declared.generator.Direction.{Direction}
 use Rattle.mtc.specs.declared.generator.Direction.the-variants.{Forward, Reverse}
 use Rattle.mtc.specs.declared.generator.MaybePiece.{MaybePiece}
@@ -38,3 +41,12 @@ piece-back (Piece n) h = rw h
 pub generator-back : (g : MtcGenerator) → pieceFits (g .last) ≡ true → generatorOf (flatGenerator g) ≡ g
 unfolding generatorOf flatGenerator
 generator-back g h = rw (time-back (g .time), direction-back (g .direction), piece-back (g .last) h)
+
+-- ---- a label's number
+
+-- A valid label comes back from its number.
+pub number-time : (t : MtcTime) → T (isValid t) → timeNumbered (labelNumber t) ≡ flatTime t
+unfolding timeNumbered flatTime
+number-time t v =
+    let b = number-bytes t v in
+    rw (b .0, b .1 .0, b .1 .1 .0, b .1 .1 .1 .0, b .1 .1 .1 .1)

@@ -3,7 +3,7 @@
 use mathlib.Core.Path.{_≡_, refl}
 use Rattle.flat_mtc.specs.Refusal.{refusalIn}
 use Rattle.universal.specs.Refusals.{Refusal, gives, refused}
-pub use Rattle.flat_mtc.proofs.Back.{time-back, generator-back}
+pub use Rattle.flat_mtc.proofs.Back.{time-back, number-time, generator-back}
 pub use Rattle.flat_mtc.proofs.Words.{sound-in}
 -- Events and reports as numbers, and what is read off them.
 pub use Rattle.flat_mtc.proofs.Events.{report-of, none-reported, some-reported, jump-reported, report-back, reported-back}

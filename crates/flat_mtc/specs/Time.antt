@@ -1,5 +1,5 @@
 -- Labels and quarter frames as flat records, and back. Assumes nothing.
-use Prim.Native.Nat.{ℕ, _+_}
+use Prim.Native.Nat.{ℕ, _+_, _/_, _%_}
 use mathlib.Core.List.{List}
 use lib.ListN.{getD}
 use Rattle.flat_mtc.specs.declared.time.FlatFrame.{FlatFrame}
@@ -32,6 +32,17 @@ timeAt bs k =
       seconds = getD bs (k + 2) 0;
       frames = getD bs (k + 3) 0;
       rate = typeOf (getD bs (k + 4) 0);
+    }
+
+-- The label of a number: hours in the lowest byte, above them minutes, seconds, frames and the rate.
+unfoldable pub timeNumbered : ℕ → FlatTime
+timeNumbered n =
+    record {
+      hours = n % 256;
+      minutes = n / 256 % 256;
+      seconds = n / 65536 % 256;
+      frames = n / 16777216 % 256;
+      rate = n / 4294967296 % 256;
     }
 
 -- All zeros, where there is no label.

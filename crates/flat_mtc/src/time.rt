@@ -6,7 +6,7 @@ use mtc::TimeCodeType;
 ghost use mathlib.Core.Path.{_≡_};
 ghost use Rattle.labels.specs.Time.{newTimeOf};
 ghost use Rattle.flat_mtc.specs.Refusal.{refusalIn};
-ghost use Rattle.flat_mtc.specs.Time.{timeOf, timeAt, flatTime, noTime, frameOf, flatFrame};
+ghost use Rattle.flat_mtc.specs.Time.{timeOf, timeAt, timeNumbered, flatTime, noTime, frameOf, flatFrame};
 
 // A label. Of the rate only the two low bits are read.
 #[repr(C)]
@@ -66,6 +66,19 @@ pub fn flat_time(t: MtcTime) -> FlatTime
         seconds: t.seconds,
         frames: t.frames,
         rate: rate.into_bits(),
+    }
+}
+
+// The label of a number, a byte for each count and one for the rate.
+pub fn time_numbered(n: u64) -> FlatTime
+    ensures { λ r. ⌜ r ≡ timeNumbered n ⌝ }
+{
+    FlatTime {
+        hours: (n % 256) as u8,
+        minutes: (n / 0x100 % 256) as u8,
+        seconds: (n / 0x1_0000 % 256) as u8,
+        frames: (n / 0x100_0000 % 256) as u8,
+        rate: (n / 0x1_0000_0000 % 256) as u8,
     }
 }
 

@@ -1,6 +1,6 @@
 -- The laws of labels that readers and upper crates cite: counts, labels and moves on every input, and what they mean by SMPTE
 -- ST 12-1. Assumes nothing.
-use Prim.Native.Nat.{ℕ, _*_, _+_, _%_, _≤_, _<_}
+use Prim.Native.Nat.{ℕ, _+_, _*_, _/_, _%_, _≤_, _<_}
 use mathlib.Core.Path.{_≡_, refl}
 use mathlib.Core.Bool.{true, false}
 use mathlib.Core.Logic.{_⊎_}
@@ -10,7 +10,7 @@ use Rattle.labels.specs.declared.time.MtcTime.{MtcTime}
 use Rattle.labels.specs.declared.time.TimeCodeType.{TimeCodeType}
 use Rattle.labels.specs.declared.time.TimeCodeType.the-variants.{Fps30Drop}
 use Rattle.labels.specs.St12.{label, framesPerSecond, isDropFrame, isSkipped, isValid, LeastAbove, countBefore, labelsOfDay, labelAfter}
-use Rattle.labels.specs.Time.{dayOf, formula, frameCount, labelAt, addFrames, nextValid}
+use Rattle.labels.specs.Time.{bitsOf, dayOf, formula, frameCount, labelAt, addFrames, nextValid, labelNumber}
 use Rattle.labels.proofs.After
 use Rattle.labels.proofs.Counts
 use Rattle.labels.proofs.DayCount
@@ -105,3 +105,10 @@ in-range-valid = Validity.in-range-valid
 -- 00:00:00:00 is a label of every rate.
 pub zero-valid : (r : TimeCodeType) → T (isValid (label r 0 0 0 0))
 zero-valid = Validity.zero-valid
+
+-- The bytes of a valid label's number are its counts and its rate.
+pub number-bytes : (t : MtcTime) → T (isValid t) → (labelNumber t % 256 ≡ t .hours)
+    × ((labelNumber t / 256 % 256 ≡ t .minutes)
+    × ((labelNumber t / 65536 % 256 ≡ t .seconds)
+    × ((labelNumber t / 16777216 % 256 ≡ t .frames) × (labelNumber t / 4294967296 % 256 ≡ bitsOf (t .rate)))))
+number-bytes = Short.number-bytes

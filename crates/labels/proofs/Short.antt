@@ -4,7 +4,7 @@ use Prim.Native.Nat.{ℕ, zero, suc, _+_, _-_, _*_, _/_, _%_, _≤_, _<_}
 use mathlib.Core.Path.{_≡_, refl, sym, subst, ap, ap₂, _∙_}
 use mathlib.Core.Bool.{Bool, true, false, not, _&&_}
 use mathlib.Core.Logic.{_⊎_, inl, inr}
-use native.Mathlib.Nat.{mod-eq-of-lt}
+use native.Mathlib.Nat.{mod-eq-of-lt, mul-le-mul-left}
 use native.Mathlib.Omega.{arith}
 use borrow.Author.Tests.{le-ltb}
 use lib.Dec.{T, ltb, eqb, lit<, lit≤}
@@ -16,11 +16,11 @@ use Rattle.labels.specs.declared.time.MtcTime.{MtcTime}
 use Rattle.labels.specs.declared.time.TimeCodeType.{TimeCodeType}
 use Rattle.labels.specs.declared.time.TimeCodeType.the-variants.{Fps24, Fps25, Fps30Drop, Fps30}
 use Rattle.labels.specs.St12.{label, framesPerSecond, isDropFrame, isSkipped, isValid}
-use Rattle.labels.specs.Time.{dayOf, formula, frameCount, withSkipped, digits, numbered, labelAt, modZ, addFrames}
+use Rattle.labels.specs.Time.{bitsOf, dayOf, formula, frameCount, withSkipped, digits, numbered, labelAt, modZ, addFrames, labelNumber}
 use Rattle.labels.proofs.Counts.{put-back, formula-below, count-is-formula, label-of-count}
 use Rattle.labels.proofs.Distance.{mod-below}
-use Rattle.labels.proofs.Rates.{count-at, count-below}
-use Rattle.labels.proofs.Validity.{facts-valid}
+use Rattle.labels.proofs.Rates.{bits-small, fps-small, count-at, count-below}
+use Rattle.labels.proofs.Validity.{facts-valid, valid-widths}
 
 -- ---- counts at drop-frame
 
@@ -33,6 +33,42 @@ pub drop-count : (t : MtcTime) (n : ℕ) → t .rate ≡ Fps30Drop
     → n ≡ frameCount t
 drop-count t n e h =
     h ∙ ap (λ (k : ℕ). k % 2589408) (drop-formula (t .hours * 60 + t .minutes) (t .seconds) (t .frames)) ∙ count-at t Fps30Drop e
+
+-- The rate of two bits is drop-frame.
+pub drop-rate : (r : TimeCodeType) → bitsOf r ≡ 2 → r ≡ Fps30Drop
+drop-rate Fps24 e = absurd (omega arith)
+drop-rate Fps25 e = absurd (omega arith)
+drop-rate Fps30Drop e = refl
+drop-rate Fps30 e = absurd (omega arith)
+
+-- At any other the frames of whole seconds and those of the label.
+pub even-count : (t : MtcTime) (n : ℕ) → (bitsOf (t .rate) ≡ 2 → ⊥)
+    → n ≡ (((t .hours * 60 + t .minutes) * 60 + t .seconds) * framesPerSecond (t .rate) + t .frames) % dayOf (t .rate) → n ≡ frameCount t
+unfolding frameCount
+even-count t n k h = h ∙ ap (λ (x : ℕ). x % dayOf (t .rate)) (go (t .rate) k)
+  where
+    go : (r : TimeCodeType) → (bitsOf r ≡ 2 → ⊥)
+        → ((t .hours * 60 + t .minutes) * 60 + t .seconds) * framesPerSecond r + t .frames
+        ≡ formula r (t .hours * 60 + t .minutes) (t .seconds) (t .frames)
+    go Fps24 k = refl
+    go Fps25 k = refl
+    go Fps30Drop k = absurd (k refl)
+    go Fps30 k = refl
+
+even-small : (a n : ℕ) (r : TimeCodeType) → a ≤ 1000000 → n ≡ framesPerSecond r → a * n ≤ 30000000
+even-small a n r h e =
+    let k : a * n ≤ a * 30 = mul-le-mul-left a (rw e (fps-small r)) in
+    omega arith
+
+pub even-fits : (a n : ℕ) (r : TimeCodeType) → a ≤ 1000000 → n ≡ framesPerSecond r → Fits w32 (a * n)
+even-fits a n r h e = record { fits = omega (arith, even-small a n r h e) }
+
+pub even-sum-fits : (a n f : ℕ) (r : TimeCodeType) → a ≤ 1000000 → f < 256 → n ≡ framesPerSecond r → Fits w32 (a * n + f)
+even-sum-fits a n f r h l e = record { fits = omega (arith, even-small a n r h e) }
+
+pub even-told : (a n f d : ℕ) (r : TimeCodeType) → n ≡ framesPerSecond r → d ≡ dayOf r
+    → (a * n + f) % d ≡ (a * framesPerSecond r + f) % dayOf r
+even-told a n f d r e h = rw (e, h)
 
 -- ---- labels at drop-frame
 
@@ -71,6 +107,48 @@ in-minute m x hm hx =
     let seconds : (m * 60 + x / 30) % 60 ≡ x / 30 = omega arith in
     let frames : x % 30 ≡ x - x / 30 * 30 = omega arith in
     sym (rw (hours, minutes, seconds, frames))
+
+-- The same as one number.
+pub in-number : (m x : ℕ) → m < 1440 → x < 1800
+    → m * 256 - m / 60 * 15359 + (x * 16777216 - x / 30 * 503250944) + 8589934592
+    ≡ labelNumber (digits Fps30Drop (m * 60 + x / 30) (x % 30))
+unfolding labelNumber
+in-number m x hm hx =
+    numbers (m / 60) (m - m / 60 * 60) (x / 30) (x - x / 30 * 30) m x (omega arith) (omega arith) ∙ ap labelNumber (in-minute m x hm hx)
+  where
+    numbers : (h u s f m x : ℕ) → m ≡ h * 60 + u → x ≡ s * 30 + f
+        → m * 256 - h * 15359 + (x * 16777216 - s * 503250944) + 8589934592
+        ≡ h + u * 256 + s * 65536 + f * 16777216 + 2 * 4294967296
+    numbers h u s f m x em ex = omega arith
+
+-- Its bytes are the counts and the rate.
+pub number-bytes : (t : MtcTime) → T (isValid t) → (labelNumber t % 256 ≡ t .hours)
+    × ((labelNumber t / 256 % 256 ≡ t .minutes)
+    × ((labelNumber t / 65536 % 256 ≡ t .seconds)
+    × ((labelNumber t / 16777216 % 256 ≡ t .frames) × (labelNumber t / 4294967296 % 256 ≡ bitsOf (t .rate)))))
+unfolding labelNumber
+number-bytes t v =
+    let k = valid-widths t v in
+    bytes (t .hours) (t .minutes) (t .seconds) (t .frames) (bitsOf (t .rate)) (omega (arith, k .hours)) (omega (arith, k .minutes))
+    (omega (arith, k .seconds)) (omega (arith, k .frames)) (omega (arith, bits-small (t .rate)))
+  where
+    bytes : (h m s f b : ℕ) → h < 256 → m < 256 → s < 256 → f < 256 → b < 256
+        → ((h + m * 256 + s * 65536 + f * 16777216 + b * 4294967296) % 256 ≡ h)
+        × (((h + m * 256 + s * 65536 + f * 16777216 + b * 4294967296) / 256 % 256 ≡ m)
+        × (((h + m * 256 + s * 65536 + f * 16777216 + b * 4294967296) / 65536 % 256 ≡ s)
+        × (((h + m * 256 + s * 65536 + f * 16777216 + b * 4294967296) / 16777216 % 256 ≡ f)
+        × ((h + m * 256 + s * 65536 + f * 16777216 + b * 4294967296) / 4294967296 % 256 ≡ b))))
+    bytes h m s f b hh hm hs hf hb =
+        let p : (h + m * 256 + s * 65536 + f * 16777216 + b * 4294967296) / 256 ≡ m + s * 256 + f * 65536 + b * 16777216 = omega arith in
+        let q : (h + m * 256 + s * 65536 + f * 16777216 + b * 4294967296) / 65536 ≡ s + f * 256 + b * 65536 = omega arith in
+        let r : (h + m * 256 + s * 65536 + f * 16777216 + b * 4294967296) / 16777216 ≡ f + b * 256 = omega arith in
+        let u : (h + m * 256 + s * 65536 + f * 16777216 + b * 4294967296) / 4294967296 ≡ b = omega arith in
+        let a : (h + m * 256 + s * 65536 + f * 16777216 + b * 4294967296) % 256 ≡ h = omega arith in
+        let c : (m + s * 256 + f * 65536 + b * 16777216) % 256 ≡ m = omega arith in
+        let d : (s + f * 256 + b * 65536) % 256 ≡ s = omega arith in
+        let e : (f + b * 256) % 256 ≡ f = omega arith in
+        let g : b % 256 ≡ b = omega arith in
+        (a, (rw p c, (rw q d, (rw r e, rw u g))))
 
 -- ---- moves
 

@@ -95,3 +95,10 @@ modZ (negsuc n) d = d - 1 - n % d
 unfoldable pub addFrames : MtcTime → ℤ → MtcTime
 unfolding frameCount labelAt modZ
 addFrames t d = labelAt (frameCount t + modZ d (dayOf (t .rate))) (t .rate)
+
+-- ---- one number
+
+-- The hours in the lowest byte, above them the minutes, the seconds, the frames and the rate.
+unfoldable pub labelNumber : MtcTime → ℕ
+labelNumber t =
+    t .hours + t .minutes * 256 + t .seconds * 65536 + t .frames * 16777216 + bitsOf (t .rate) * 4294967296

@@ -6,7 +6,7 @@ ghost use Prim.Native.Nat.{_<_, _≤_, _+_, _*_, _/_, _%_};
 ghost use mathlib.Core.Bool.{true};
 ghost use lib.IntN.{pos};
 ghost use Rattle.labels.specs.St12.{label, framesPerSecond, isValid, isSkipped};
-ghost use Rattle.labels.specs.Time.{dayOf, bitsOf, typeOf, newTimeOf, newTime, nextValid, frameCount, labelAt, addFrames, rawTime, hoursByte, modZ, digits, numbered, withSkipped};
+ghost use Rattle.labels.specs.Time.{dayOf, bitsOf, typeOf, newTimeOf, newTime, nextValid, frameCount, labelAt, addFrames, rawTime, hoursByte, modZ, digits, numbered, withSkipped, labelNumber};
 
 // The frames of ten minutes at 30 drop-frame: 10 * 1800 - 9 * 2.
 const DROP_10_MINUTES: u32 = 17_982;
@@ -21,6 +21,9 @@ const DAY_25: u32 = 86_400 * 25;
 const DAY_DROP: u32 = 24 * 6 * DROP_10_MINUTES;
 
 const DAY_30: u32 = 86_400 * 30;
+
+// The two bits of 30 drop-frame.
+const DROP_BITS: u8 = 2;
 
 // The rate: the two bits of the hours byte (RP-004/008, p. 2).
 pub enum TimeCodeType {
@@ -193,6 +196,44 @@ fn drop_label(n: u32) -> MtcTime
     label_in(minutes, place as u16)
 }
 
+// A label as one number: hours in its lowest byte, above them minutes, seconds, frames and the rate.
+fn number_of(t: MtcTime) -> u64
+    ensures { λ r. ⌜ r ≡ labelNumber t ⌝ }
+{
+    let rate = t.rate;
+    t.hours as u64
+        + t.minutes as u64 * 0x100
+        + t.seconds as u64 * 0x1_0000
+        + t.frames as u64 * 0x100_0000
+        + rate.into_bits() as u64 * 0x1_0000_0000
+}
+
+// The number of the label of a drop-frame minute of the day and a place in it. An hour takes 60 minutes off and adds itself, a
+// second 30 frames.
+fn number_in(minutes: u16, place: u16) -> u64
+    requires { ⌜ (minutes < 1440) × (place < 1800) ⌝ }
+    ensures { λ r. ⌜ r ≡ labelNumber (digits TimeCodeType.Fps30Drop (minutes * 60 + place / 30) (place % 30)) ⌝ }
+{
+    let hours = minutes / 60;
+    let seconds = place / 30;
+    let low = minutes as u64 * 0x100 - hours as u64 * (60 * 0x100 - 1);
+    let high = place as u64 * 0x100_0000 - seconds as u64 * (30 * 0x100_0000 - 0x1_0000);
+    low + high + 0x2_0000_0000
+}
+
+// The number of `drop_label`.
+fn drop_number(n: u32) -> u64
+    requires { ⌜ n < 2589408 ⌝ }
+    ensures { λ r. ⌜ r ≡ labelNumber (numbered TimeCodeType.Fps30Drop (withSkipped TimeCodeType.Fps30Drop n)) ⌝ }
+{
+    let minutes = (n * 5 / 8_991) as u16;
+    let place = n - (minutes as u32 * DROP_MINUTE + (minutes / 10) as u32 * 2);
+    if place < 2 {
+        return number_of(drop_label(n));
+    }
+    number_in(minutes, place as u16)
+}
+
 // The start of a minute at which drop-frame skips a frame number.
 fn starts_dropped(minutes: u8, seconds: u8, frames: u8) -> bool
     ensures { λ r. ⌜ r ≡ isSkipped (label TimeCodeType.Fps30Drop 0 minutes seconds frames) ⌝ }
@@ -275,17 +316,16 @@ impl MtcTime {
     {
         let rate = self.rate;
         let minutes = self.hours as u32 * 60 + self.minutes as u32;
-        let seconds = minutes * 60 + self.seconds as u32;
         let frames = self.frames as u32;
-        match rate {
-            TimeCodeType::Fps24 => (seconds * 24 + frames) % DAY_24,
-            TimeCodeType::Fps25 => (seconds * 25 + frames) % DAY_25,
-            TimeCodeType::Fps30Drop => {
-                let n = minutes * DROP_MINUTE + self.seconds as u32 * 30 + frames;
-                within(n + minutes / 10 * 2, DAY_DROP)
-            }
-            TimeCodeType::Fps30 => (seconds * 30 + frames) % DAY_30,
+        if rate.into_bits() == DROP_BITS {
+            let n = minutes * DROP_MINUTE + self.seconds as u32 * 30 + frames;
+            return within(n + minutes / 10 * 2, DAY_DROP);
         }
+        let seconds = minutes * 60 + self.seconds as u32;
+        within(
+            seconds * rate.frames_per_second() as u32 + frames,
+            rate.day(),
+        )
     }
 
     // The label of `count` frames from 00:00:00:00, round midnight.
@@ -320,6 +360,27 @@ impl MtcTime {
             TimeCodeType::Fps30Drop => drop_label(drop_moved(self.to_frame_count(), delta)),
             TimeCodeType::Fps30 => self.moved(delta),
         }
+    }
+
+    // The number of the label of `count` frames from 00:00:00:00, round midnight.
+    pub fn number_at(count: u32, rate: TimeCodeType) -> u64
+        ensures { λ r. ⌜ r ≡ labelNumber (labelAt count rate) ⌝ }
+    {
+        if rate.into_bits() == DROP_BITS {
+            return drop_number(within(count, DAY_DROP));
+        }
+        number_of(MtcTime::from_frame_count(count, rate))
+    }
+
+    // The number of the label `delta` frames later, or earlier, round midnight.
+    pub fn number_after(self, delta: i32) -> u64
+        ensures { λ r. ⌜ r ≡ labelNumber (addFrames self delta) ⌝ }
+    {
+        let rate = self.rate;
+        if rate.into_bits() == DROP_BITS {
+            return drop_number(drop_moved(self.to_frame_count(), delta));
+        }
+        number_of(self.add_frames(delta))
     }
 
     // The same at any rate, by the day.

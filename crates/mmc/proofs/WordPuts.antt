@@ -20,7 +20,7 @@ use Rattle.mmc.specs.Numbers.{neededOf, writtenNumbers}
 use Rattle.codes.specs.TimeCode.{bit}
 use Rattle.codes.proofs.Laws.{fits-parts, list-parts}
 use Rattle.mmc.specs.Word.{plainCommand, plainName}
-use Rattle.mmc.specs.Words.{markedCode, byteAt, wordCode, wordCommand, wordItems, afterWords, closedOut, going, eightBytes, PutWhole, nothing, whole, Usual}
+use Rattle.mmc.specs.Words.{markedCode, byteAt, wordCode, wordCommand, wordItems, afterWords, closedOut, going, PutWhole, nothing, whole, Usual}
 use Rattle.mmc.specs.Write.{Writing, openedCommands, begun, admitted, given, sound, closedMessage, ended, wholeMessage}
 use Rattle.mmc.specs.Writings.{State, opened, afterItems, stringState, stringAnswer, stringLeft}
 use Rattle.labels.specs.St12.{label, framesPerSecond, isDropFrame, isValid}
@@ -29,11 +29,11 @@ use Rattle.labels.proofs.Laws.{in-range-valid}
 use Rattle.universal.specs.Emission.{Emission, sent, stopped}
 use Rattle.universal.specs.Message.{header}
 use Rattle.universal.specs.Overlay.{overlay}
-use Rattle.universal.specs.Refusals.{Answer, gives, refused, refusal, tooSmall}
+use Rattle.universal.specs.Refusals.{Refusal, Answer, gives, refused, refusal, tooSmall}
 use Rattle.universal.specs.declared.message.MaybeSubId2.the-variants.{NoSubId2}
 use Rattle.universal.proofs.Laws.{length-overlay, overlay-none, opening-device, opening-plain}
 use Rattle.mmc.proofs.Words.{plain-item}
-use Rattle.mmc.proofs.Writers.{as-it-is, ready-kept, takes, close-empty, close-long, close-sent}
+use Rattle.mmc.proofs.Writers.{as-it-is, ready-kept, ready-failed, repeats, takes, close-repeats, close-empty, close-long, close-sent}
 
 -- ---- a word's command
 
@@ -104,72 +104,6 @@ module _ (h m s f last b : ℕ) (u : Usual h m s f last b) where
       let fr : 0 + 0 + f ≡ f = omega arith in
       rw (fits-parts, list-parts, c, k, g, i, le-leb last 99 (u .subframes), u .valid, rate-bits, hr, mn, sc, fr)
 
--- A number's bytes above three others.
-above-three : (y : ℕ) → eightBytes (y * 16777216 + 67140)
-    ≡ 68 ∷ 6 ∷ 1 ∷ (y % 256) ∷ byteAt 256 y ∷ byteAt 65536 y ∷ byteAt 16777216 y ∷ byteAt 4294967296 y ∷ []
-above-three y =
-    let a : (y * 16777216 + 67140) % 256 ≡ 68 = omega arith in
-    let i : (y * 16777216 + 67140) / 256 ≡ y * 65536 + 262 = omega arith in
-    let b : (y * 65536 + 262) % 256 ≡ 6 = omega arith in
-    let j : (y * 16777216 + 67140) / 65536 ≡ y * 256 + 1 = omega arith in
-    let c : (y * 256 + 1) % 256 ≡ 1 = omega arith in
-    let d : (y * 16777216 + 67140) / 16777216 ≡ y = omega arith in
-    let e : (y * 16777216 + 67140) / 4294967296 ≡ y / 256 = omega arith in
-    let f : (y * 16777216 + 67140) / 1099511627776 ≡ y / 65536 = omega arith in
-    let g : (y * 16777216 + 67140) / 281474976710656 ≡ y / 16777216 = omega arith in
-    let h : (y * 16777216 + 67140) / 72057594037927936 ≡ y / 4294967296 = omega arith in
-    rw (a, i, b, j, c, d, e, f, g, h)
-
--- The lowest five bytes of a number.
-low-five : (q : ℕ) → ((q % 1099511627776 % 256 ≡ q % 256) × (q % 1099511627776 / 256 % 256 ≡ q / 256 % 256))
-    × ((q % 1099511627776 / 65536 % 256 ≡ q / 65536 % 256)
-    × ((q % 1099511627776 / 16777216 % 256 ≡ q / 16777216 % 256) × (q % 1099511627776 / 4294967296 % 256 ≡ q / 4294967296 % 256)))
-low-five q =
-    let b : q % 1099511627776 / 256 + 256 * (16777216 * (q / 1099511627776)) ≡ q / 256 = omega arith in
-    let c : q % 1099511627776 / 65536 + 256 * (65536 * (q / 1099511627776)) ≡ q / 65536 = omega arith in
-    let d : q % 1099511627776 / 16777216 + 256 * (256 * (q / 1099511627776)) ≡ q / 16777216 = omega arith in
-    let e : q % 1099511627776 / 4294967296 + 256 * (q / 1099511627776) ≡ q / 4294967296 = omega arith in
-    ((omega arith, part _ _ _ b), (part _ _ _ c, (part _ _ _ d, part _ _ _ e)))
-  where
-    part : (x y n : ℕ) → x + 256 * n ≡ y → x % 256 ≡ y % 256
-    part x y n e = omega arith
-
--- The five bytes of a time code with its rate are five bytes.
-pub five-small : (w b : ℕ) → byteAt 256 w ≤ 23 → b ≤ 3 → w / 256 % 1099511627776 + b * 32 < 1099511627776
-five-small w b h l = let p = low-five (w / 256) .0 .0 in omega arith
-
--- The eight bytes of a Locate as one number.
-locate-number : (w b : ℕ) → byteAt 256 w ≤ 23 → b ≤ 3 → eightBytes ((w / 256 % 1099511627776 + b * 32) * 16777216 + 67140)
-    ≡ 68
-    ∷ 6
-    ∷ 1
-    ∷ (byteAt 256 w + b * 32)
-    ∷ byteAt 65536 w
-    ∷ byteAt 16777216 w
-    ∷ byteAt 4294967296 w
-    ∷ byteAt 1099511627776 w
-    ∷ []
-locate-number w b h l =
-    let p = low-five (w / 256) in
-    let c : w / 256 / 256 ≡ w / 65536 = omega arith in
-    let d : w / 256 / 65536 ≡ w / 16777216 = omega arith in
-    let e : w / 256 / 16777216 ≡ w / 4294967296 = omega arith in
-    let f : w / 256 / 4294967296 ≡ w / 1099511627776 = omega arith in
-    let r = raised (w / 256 % 1099511627776) b (omega (arith, p .0 .0)) l in
-    above-three (w / 256 % 1099511627776 + b * 32)
-    ∙ rw (r .0, r .1 .0, r .1 .1 .0, r .1 .1 .1 .0, r .1 .1 .1 .1, p .0 .0, p .0 .1, p .1 .0, p .1 .1 .0, p .1 .1 .1, c, d, e, f)
-  where
-    -- The rate goes into the lowest byte alone.
-    raised : (y b : ℕ) → y % 256 ≤ 23 → b ≤ 3 → ((y + b * 32) % 256 ≡ y % 256 + b * 32)
-        × (((y + b * 32) / 256 ≡ y / 256)
-        × (((y + b * 32) / 65536 ≡ y / 65536) × (((y + b * 32) / 16777216 ≡ y / 16777216) × ((y + b * 32) / 4294967296 ≡ y / 4294967296))))
-    raised y b h l =
-        let q : (y + b * 32) / 256 ≡ y / 256 = omega arith in
-        let part : (n : ℕ) → (y + b * 32) / 256 / n ≡ y / 256 / n = λ n. ap (λ (x : ℕ). x / n) q in (
-          omega arith,
-          (q, (omega (arith, part 256), (omega (arith, part 65536), omega (arith, part 16777216)))),
-        )
-
 -- ---- by the writer
 
 module _ (w v : Writing) (word : ℕ) (out left : List ℕ) where
@@ -210,11 +144,19 @@ module _ (word at : ℕ) (out left : List ℕ) where
   pub put-usual : word % 256 ≡ 11
       → Usual (byteAt 256 word) (byteAt 65536 word) (byteAt 16777216 word) (byteAt 4294967296 word) (byteAt 1099511627776 word)
       (byteAt 281474976710656 word)
-      → left ≡ overlay out at (eightBytes ((word / 256 % 1099511627776 + byteAt 281474976710656 word * 32) * 16777216 + 67140))
+      → left
+      ≡ overlay out at
+      (68
+      ∷ 6
+      ∷ 1
+      ∷ (byteAt 256 word + byteAt 281474976710656 word * 32)
+      ∷ byteAt 65536 word
+      ∷ byteAt 16777216 word
+      ∷ byteAt 4294967296 word
+      ∷ byteAt 1099511627776 word
+      ∷ [])
       → PutWhole word at out (at + 8) left
-  put-usual n u p =
-      put-known _ (word-locate word n ∙ usual-item _ _ _ _ _ _ u)
-      (p ∙ ap (λ (bs : List ℕ). overlay out at bs) (locate-number word _ (u .hours) (u .rate)))
+  put-usual n u p = put-known _ (word-locate word n ∙ usual-item _ _ _ _ _ _ u) p
 
 no-bytes : (bs out : List ℕ) (at : ℕ) → at ≡ at + length bs → overlay out at bs ≡ out
 no-bytes [] out at e = overlay-none out at
@@ -378,14 +320,40 @@ message-words device out₀ ws w out a left p q r =
         → _≡_ {A = State} (record { writing = w; out = out }) (opened (openedCommands device) out₀)
     same p q = ap₂ (λ (x : Writing) (l : List ℕ). record { writing = x; out = l }) p q
 
+-- A writing that was refused before anything went out.
+abbrev barred : Refusal → Writing
+barred r = record { at = 0; items = 0; stop = some r }
+
+barred-sound : (r : Refusal) → sound (barred r) .stop ≡ some r
+barred-sound r = sym (as-it-is (barred r) (lit≤ tt) (lit≤ tt))
+
+-- No item changes it.
+barred-item : (r : Refusal) (out : List ℕ) (e : Emission)
+    → _≡_ {A = State} (record { writing = given (barred r) e; out = overlay out 0 (admitted (barred r) e .bytes) }) (record { writing = barred r; out = out })
+unfolding given
+barred-item r out e =
+    rw (repeats (barred r) e r (sym (ready-failed (barred r) r (barred-sound r))))
+    (ap (λ (l : List ℕ). record { writing = barred r; out = l }) (overlay-none out 0))
+
+barred-words : (r : Refusal) (out ws : List ℕ) → afterWords (barred r) out ws ≡ record { writing = barred r; out = out }
+unfolding afterWords wordItems afterItems
+barred-words r out [] = refl
+barred-words r out (x ∷ ws) =
+    ap (λ (s : State). afterItems Commands s (wordItems ws)) (barred-item r out (commandItem [] (wordCommand x))) ∙ barred-words r out ws
+
+barred-ends : (out : List ℕ) → Ends (record { writing = barred (refusal 5); out = out }) (length out) (record { refusal = 5; length = 0 }) out
+unfolding wholeMessage writtenNumbers neededOf
+barred-ends out =
+    rw (close-repeats (barred (refusal 5)) (refusal 5) (barred-sound (refusal 5))) (refl, sym (overlay-none out 0))
+
 -- A device above 127 is refused with 5 before anything goes out.
-pub refused-words : (device : ℕ) (out ws : List ℕ) (a : WrittenNumbers) (left : List ℕ) → 127 < device
-    → Ends (afterWords (record { at = 0; items = 0; stop = some (refusal 5) }) out ws) (length out) a left → Whole device ws out a left
+pub refused-words : (device : ℕ) (out ws : List ℕ) → 127 < device → Whole device ws out (record { refusal = 5; length = 0 }) out
 unfolding begun openedCommands
-refused-words device out ws a left h =
+refused-words device out ws h =
     let e : openedCommands device ≡ stopped 5 = opening-device (header true device 6 NoSubId2) h in
-    message-words device out ws (record { at = 0; items = 0; stop = some (refusal 5) }) out a left (ap begun (sym e))
+    message-words device out ws (barred (refusal 5)) out (record { refusal = 5; length = 0 }) out (ap begun (sym e))
     (sym (overlay-none out 0) ∙ ap (λ (x : Emission). overlay out 0 (x .bytes)) (sym e))
+    (subst (λ (s : State). Ends s (length out) (record { refusal = 5; length = 0 }) out) (sym (barred-words (refusal 5) out ws)) (barred-ends out))
 
 opens-going : (device : ℕ) → device ≤ 127 → openedCommands device ≡ sent (240 ∷ 127 ∷ device ∷ 6 ∷ [])
 unfolding openedCommands

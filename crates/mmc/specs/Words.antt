@@ -67,19 +67,6 @@ closedOut s = overlay (s .out) (s .writing .at) (closedMessage (s .writing) .byt
 abbrev pub going : ℕ → ℕ → Writing
 going at items = record { at = at; items = items; stop = none }
 
--- The eight bytes of a number, the lowest first.
-abbrev pub eightBytes : ℕ → List ℕ
-eightBytes x =
-    (x % 256)
-    ∷ byteAt 256 x
-    ∷ byteAt 65536 x
-    ∷ byteAt 16777216 x
-    ∷ byteAt 4294967296 x
-    ∷ byteAt 1099511627776 x
-    ∷ byteAt 281474976710656 x
-    ∷ byteAt 72057594037927936 x
-    ∷ []
-
 -- A word whose command went out whole, from a position to the next, or of which nothing did, where the position stays.
 pub data PutWhole (word at : ℕ) (out : List ℕ) : ℕ → List ℕ → Type 0 where
   nothing : PutWhole word at out at out

@@ -147,7 +147,7 @@ fn put_five(out: &mut [u8], at: usize, bytes: [u8; 5])
 }
 
 // A whole Locate to a time. Where all of it fits, no byte is checked for room again.
-fn put_locate_bytes(out: &mut [u8], at: usize, bytes: [u8; 5])
+pub(crate) fn put_locate_bytes(out: &mut [u8], at: usize, bytes: [u8; 5])
     requires { ⌜ at ≤ 40000 ⌝ }
     ensures { λ _. ⌜ now (out .exit) ≡ overlay (now (out .entry)) at (68 ∷ 6 ∷ 1 ∷ getD bytes 0 0 ∷ getD bytes 1 0 ∷ getD bytes 2 0 ∷ getD bytes 3 0 ∷ getD bytes 4 0 ∷ []) ⌝ }
 {

@@ -1,5 +1,6 @@
 // A whole command message from words, in one call: names alone, and Locates to a time. A usual word goes out with only the
 // position kept; from an unusual one on the writer does it.
+use crate::item::put_locate_bytes;
 use crate::numbers::WrittenNumbers;
 use crate::numbers::written_numbers;
 use crate::word::plain_name;
@@ -25,14 +26,12 @@ ghost use Rattle.mmc.specs.Item.{commandItem};
 ghost use Rattle.mmc.specs.Numbers.{writtenNumbers};
 ghost use Rattle.mmc.specs.Write.{writingOf, given, admitted, closedMessage, wholeMessage};
 ghost use Rattle.mmc.specs.Writings.{stringAnswer, stringLeft};
-ghost use Rattle.mmc.specs.Words.{markedCode, wordCode, wordCommand, wordItems, afterWords, closedOut, going, eightBytes, PutWhole, Usual};
+ghost use Rattle.mmc.specs.Words.{markedCode, wordCode, wordCommand, wordItems, afterWords, closedOut, going, PutWhole, Usual};
 
 // The case of a Locate to a time.
 const LOCATE_TARGET: u64 = 11;
 // The most commands of a message, each a byte or more.
 const MOST_COMMANDS: usize = 48;
-// The bytes before a Locate's time code: 44H, 06H, 01H.
-const LOCATE_START: u64 = 0x01_0644;
 
 // The last byte of a time code, a status or subframes.
 fn last_of(status: bool, last: u8) -> FinalByte
@@ -99,18 +98,49 @@ fn put_word(out: &mut [u8], writer: Writer, word: u64) -> Writer
     wrote.writer
 }
 
-// The words from one on, by the writer, and the close.
-fn put_rest(out: &mut [u8], writer: Writer, words: &[u64], from: usize) -> WrittenNumbers
-    ensures { λ r. ⌜ r ≡ writtenNumbers (wholeMessage (afterWords (writingOf writer) (now (out .entry)) (drop from (now (words .entry))) .writing) (length (now (out .entry)))) ⌝ }
-    ensures { λ _. ⌜ now (out .exit) ≡ closedOut (afterWords (writingOf writer) (now (out .entry)) (drop from (now (words .entry)))) ⌝ }
+// The words from one on, by the writer, from a position on, and the close.
+fn put_rest(out: &mut [u8], words: &[u64], at: usize, from: usize) -> WrittenNumbers
+    ensures { λ r. ⌜ r ≡ writtenNumbers (wholeMessage (afterWords (going at from) (now (out .entry)) (drop from (now (words .entry))) .writing) (length (now (out .entry)))) ⌝ }
+    ensures { λ _. ⌜ now (out .exit) ≡ closedOut (afterWords (going at from) (now (out .entry)) (drop from (now (words .entry)))) ⌝ }
 {
-    let mut w = writer;
+    let mut w = Writer {
+        at,
+        items: from,
+        checked: Checked::Accepted,
+    };
     let mut i = from;
     while i < words.len() {
         w = put_word(out, w, words[i]);
         i += 1;
     }
     written_numbers(w.close_message(out))
+}
+
+// The same. Its answer is taken apart, so that the other answers of a caller need no memory.
+fn by_writer(out: &mut [u8], words: &[u64], at: usize, from: usize) -> WrittenNumbers
+    ensures { λ r. ⌜ r ≡ writtenNumbers (wholeMessage (afterWords (going at from) (now (out .entry)) (drop from (now (words .entry))) .writing) (length (now (out .entry)))) ⌝ }
+    ensures { λ _. ⌜ now (out .exit) ≡ closedOut (afterWords (going at from) (now (out .entry)) (drop from (now (words .entry)))) ⌝ }
+{
+    let rest = put_rest(out, words, at, from);
+    WrittenNumbers {
+        refusal: rest.refusal,
+        length: rest.length,
+    }
+}
+
+// True only for a minute that skips no number.
+fn is_tenth(minutes: u8) -> bool
+    ensures { λ r. ⌜ (r ≡ true → minutes % 10 ≡ 0) ⌝ }
+{
+    match minutes {
+        0 => true,
+        10 => true,
+        20 => true,
+        30 => true,
+        40 => true,
+        50 => true,
+        _ => false,
+    }
 }
 
 // True only for a time code that is written as its counts are.
@@ -147,54 +177,31 @@ fn is_usual(hours: u8, minutes: u8, seconds: u8, frames: u8, last: u8, marks: u8
     if marks == 3 {
         return true;
     }
-    minutes % 10 == 0
+    is_tenth(minutes)
 }
 
-// The bytes of a number, the lowest first, as far as they fit.
-fn put_eight(out: &mut [u8], at: usize, x: u64)
-    requires { ⌜ at ≤ 40000 ⌝ }
-    ensures { λ _. ⌜ now (out .exit) ≡ overlay (now (out .entry)) at (eightBytes x) ⌝ }
-{
-    put(out, at, (x % 256) as u8);
-    put(out, at + 1, (x / 0x100 % 256) as u8);
-    put(out, at + 2, (x / 0x1_0000 % 256) as u8);
-    put(out, at + 3, (x / 0x100_0000 % 256) as u8);
-    put(out, at + 4, (x / 0x1_0000_0000 % 256) as u8);
-    put(out, at + 5, (x / 0x100_0000_0000 % 256) as u8);
-    put(out, at + 6, (x / 0x1_0000_0000_0000 % 256) as u8);
-    put(out, at + 7, (x / 0x100_0000_0000_0000 % 256) as u8);
-}
-
-// The same. Where all of them fit, no byte is checked for room.
-fn put_number(out: &mut [u8], at: usize, x: u64)
-    requires { ⌜ at ≤ 40000 ⌝ }
-    ensures { λ _. ⌜ now (out .exit) ≡ overlay (now (out .entry)) at (eightBytes x) ⌝ }
-{
-    if at + 8 <= out.len() {
-        put_eight(out, at, x);
-        return;
-    }
-    put_eight(out, at, x);
-}
-
-// A Locate to a usual time, and the position after it; any other is left, and the position stays.
+// A Locate to a usual time that fits, and the position after it; any other is left, and the position stays.
 fn put_locate(out: &mut [u8], at: usize, word: u64) -> usize
     requires { ⌜ (at ≤ 40000) × (word % 256 ≡ 11) ⌝ }
     ensures { λ r. ⌜ r ≤ at + 8 ⌝ }
     ensures { λ r. ⌜ PutWhole word at (now (out .entry)) r (now (out .exit)) ⌝ }
 {
-    let marks = word / 0x1_0000_0000_0000 % 256;
+    let next = at + 8;
+    if out.len() < next {
+        return at;
+    }
     let hours = (word / 0x100 % 256) as u8;
     let minutes = (word / 0x1_0000 % 256) as u8;
     let seconds = (word / 0x100_0000 % 256) as u8;
     let frames = (word / 0x1_0000_0000 % 256) as u8;
     let last = (word / 0x100_0000_0000 % 256) as u8;
-    if !is_usual(hours, minutes, seconds, frames, last, marks as u8) {
+    let marks = (word / 0x1_0000_0000_0000 % 256) as u8;
+    if !is_usual(hours, minutes, seconds, frames, last, marks) {
         return at;
     }
-    let five = word / 0x100 % 0x100_0000_0000 + marks * 32;
-    put_number(out, at, five * 0x100_0000 + LOCATE_START);
-    at + 8
+    let bytes = [hours + marks * 32, minutes, seconds, frames, last];
+    put_locate_bytes(out, at, bytes);
+    next
 }
 
 // A usual word, and the position after it; any other is left, and the position stays.
@@ -222,12 +229,7 @@ fn put_words(out: &mut [u8], words: &[u64]) -> WrittenNumbers
     while i < words.len() {
         let next = put_whole(out, at, words[i]);
         if next == at {
-            let writer = Writer {
-                at,
-                items: i,
-                checked: Checked::Accepted,
-            };
-            return put_rest(out, writer, words, i);
+            return by_writer(out, words, at, i);
         }
         at = next;
         i += 1;
@@ -271,38 +273,25 @@ fn put_start(out: &mut [u8], device_id: u8)
     put(out, 3, 0x06);
 }
 
-// The same. Where all of them fit, no byte is checked for room.
-fn put_opening(out: &mut [u8], device_id: u8)
-    ensures { λ _. ⌜ now (out .exit) ≡ overlay (now (out .entry)) 0 (240 ∷ 127 ∷ «device_id» ∷ 6 ∷ []) ⌝ }
-{
-    if 4 <= out.len() {
-        put_start(out, device_id);
-        return;
-    }
-    put_start(out, device_id);
-}
-
 // Writes a whole command message: opened, given the commands of the words, and closed.
 pub fn write_words(out: &mut [u8], device_id: u8, words: &[u64]) -> WrittenNumbers
     ensures { λ r. ⌜ r ≡ writtenNumbers (stringAnswer Commands «device_id» (wordItems (now (words .entry))) (now (out .entry))) ⌝ }
     ensures { λ _. ⌜ now (out .exit) ≡ stringLeft Commands «device_id» (wordItems (now (words .entry))) (now (out .entry)) ⌝ }
 {
     if device_id > 0x7F {
-        let writer = Writer {
-            at: 0,
-            items: 0,
-            checked: Checked::Refused(SysexError::Device),
+        return WrittenNumbers {
+            refusal: 5,
+            length: 0,
         };
-        return put_rest(out, writer, words, 0);
     }
-    put_opening(out, device_id);
+    // Where the four bytes fit, none is checked for room.
+    if out.len() < 4 {
+        put_start(out, device_id);
+        return by_writer(out, words, 4, 0);
+    }
+    put_start(out, device_id);
     if words.len() > MOST_COMMANDS {
-        let writer = Writer {
-            at: 4,
-            items: 0,
-            checked: Checked::Accepted,
-        };
-        return put_rest(out, writer, words, 0);
+        return by_writer(out, words, 4, 0);
     }
     put_words(out, words)
 }

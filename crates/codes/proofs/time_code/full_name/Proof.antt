@@ -1,4 +1,4 @@
--- `mmc::time_code::full_name` meets its contract: a short name 21H to 3FH has the field 20H lower, any other none. Assumes nothing.
+-- `codes::time_code::full_name` meets its contract: a short name 21H to 3FH has the field 20H lower, any other none. Assumes nothing.
 use borrow.Author.Needs.{needs}
 use Rattle.codes.proofs.time_code.full_name.Statement.{statement}
 use Rattle.codes.proofs.time_code.full_name.Tie as tie

@@ -1,4 +1,4 @@
--- `mmc::time_code::short_name` meets its contract: a field 01H to 1FH has the name 20H higher, any other none. Assumes nothing.
+-- `codes::time_code::short_name` meets its contract: a field 01H to 1FH has the name 20H higher, any other none. Assumes nothing.
 use borrow.Author.Needs.{needs}
 use Rattle.codes.proofs.time_code.short_name.Statement.{statement}
 use Rattle.codes.proofs.time_code.short_name.Tie as tie

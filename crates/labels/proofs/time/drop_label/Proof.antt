@@ -1,4 +1,4 @@
--- `mtc::time::drop_label` meets its contract. Assumes nothing.
+-- `labels::time::drop_label` meets its contract. Assumes nothing.
 use mathlib.Core.Path.{refl, _∙_, ap}
 use Prim.Native.Nat.{ℕ}
 use Rattle.labels.specs.Time.{numbered}

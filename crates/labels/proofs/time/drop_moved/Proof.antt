@@ -1,4 +1,4 @@
--- `mtc::time::drop_moved` meets its contract. Assumes nothing.
+-- `labels::time::drop_moved` meets its contract. Assumes nothing.
 use native.Mathlib.Omega.{arith}
 use Rattle.labels.proofs.Distance.{passed-mod, mod-below}
 use Rattle.labels.proofs.Short.{moved-once, moved-none, moved-fits}

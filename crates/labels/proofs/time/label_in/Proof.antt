@@ -1,4 +1,4 @@
--- `mtc::time::label_in` meets its contract. Assumes nothing.
+-- `labels::time::label_in` meets its contract. Assumes nothing.
 use Rattle.labels.proofs.Short.{in-minute}
 use borrow.Author.Needs.{needs}
 use Rattle.labels.proofs.time.label_in.Statement.{statement}

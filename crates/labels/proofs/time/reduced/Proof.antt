@@ -1,4 +1,4 @@
--- `mtc::time::reduced` meets its contract. Assumes nothing.
+-- `labels::time::reduced` meets its contract. Assumes nothing.
 use Rattle.labels.proofs.Distance.{back-fits, back-casts, back-mod, ahead-casts, ahead-mod, mod-pred}
 use mathlib.Core.Path.{_∙_, ap}
 use Prim.Native.Nat.{ℕ, _-_}

@@ -1,4 +1,4 @@
--- `mtc::time::within` meets its contract. Assumes nothing.
+-- `labels::time::within` meets its contract. Assumes nothing.
 use mathlib.Core.Path.{sym}
 use native.Mathlib.Nat.{mod-eq-of-lt}
 use borrow.Author.Needs.{needs}

@@ -1,8 +1,8 @@
 use mathlib.Core.Bool.{true≢false}
 use mathlib.Core.Logic.{inl, inr}
-use mathlib.Core.Path.{sym, ap, _∙_}
+use mathlib.Core.Path.{sym}
 use native.Mathlib.Omega.{arith}
-use borrow.Author.Tests.{ltb-true, eqb-true}
+use borrow.Author.Tests.{ltb-true}
 use Rattle.mmc.proofs.WordPuts.{slow-valid, fast-valid}
 use borrow.Author.Needs.{needs}
 use Rattle.mmc.proofs.whole.is_usual.Statement.{statement}
@@ -41,8 +41,11 @@ returns-9 c = λ e. record { rate = c .before .before .before .before .before .b
 returns-10 : tie.Need-returns-10
 returns-10 c = λ e. record { rate = c .before .before .before .before .before .before .before .before .before .if1 .left; hours = c .before .before .before .before .before .before .before .before .if2 .left; subframes = c .before .before .before .before .before .if5 .left; valid = fast-valid _ _ _ _ _ (c .before .before .before .before .before .before .before .before .if2 .left) (c .before .before .before .before .before .before .before .if3 .left) (c .before .before .before .before .before .before .if4 .left) (c .before .before .before .before .if6 .left) (c .before .before .before .before .before .before .before .before .before .if1 .left) (c .before .before .before .if7 .left) (λ n. absurd (n (c .if10 .taken))) }
 
+is-tenth-requires : tie.Need-is-tenth-requires
+is-tenth-requires c κs = search needs
+
 returns-11 : tie.Need-returns-11
-returns-11 c = λ e. record { rate = c .before .before .before .before .before .before .before .before .before .if1 .left; hours = c .before .before .before .before .before .before .before .before .if2 .left; subframes = c .before .before .before .before .before .if5 .left; valid = fast-valid _ _ _ _ _ (c .before .before .before .before .before .before .before .before .if2 .left) (c .before .before .before .before .before .before .before .if3 .left) (c .before .before .before .before .before .before .if4 .left) (c .before .before .before .before .if6 .left) (c .before .before .before .before .before .before .before .before .before .if1 .left) (c .before .before .before .if7 .left) (λ n. inl (eqb-true _ _ e)) }
+returns-11 c = λ e. record { rate = c .before .before .before .before .before .before .before .before .before .before .if1 .left; hours = c .before .before .before .before .before .before .before .before .before .if2 .left; subframes = c .before .before .before .before .before .before .if5 .left; valid = fast-valid _ _ _ _ _ (c .before .before .before .before .before .before .before .before .before .if2 .left) (c .before .before .before .before .before .before .before .before .if3 .left) (c .before .before .before .before .before .before .before .if4 .left) (c .before .before .before .before .before .if6 .left) (c .before .before .before .before .before .before .before .before .before .before .if1 .left) (c .before .before .before .before .if7 .left) (λ n. inl (c .is-tenth .ensures e)) }
 
 pub is-usual-spec : {M : Type 1} → statement M
 is-usual-spec =
@@ -59,4 +62,5 @@ is-usual-spec =
     returns-8
     returns-9
     returns-10
+    is-tenth-requires
     returns-11)

@@ -1,19 +1,19 @@
 use Prim.Native.Nat.{_-_}
 use mathlib.Core.Path.{_∙_, ap}
-use native.Mathlib.Omega.{arith}
 use borrow.Author.Needs.{needs}
 use lib.ListN.{length}
 use Rattle.mmc.specs.Numbers.{writtenNumbers}
+use Rattle.mmc.specs.Words.{going}
 use Rattle.mmc.specs.Write.{writingOf}
 use Rattle.mmc.proofs.WordPuts.{Gone, gone-none, gone-word, gone-all}
 use Rattle.mmc.proofs.whole.put_rest.Statement.{statement}
 use Rattle.mmc.proofs.whole.put_rest.Tie as tie
 
 abbrev Inv-loop : tie.InvT-loop
-Inv-loop out₀ words from w₀ i₀ out w i = Gone (writingOf w₀) out₀ from words (writingOf w) out i
+Inv-loop out₀ words at from w₀ i₀ out w i = Gone (going at from) out₀ from words (writingOf w) out i
 
 abbrev μ-loop : tie.MeasureT-loop
-μ-loop out₀ words from w₀ i₀ out w i = length words - i
+μ-loop out₀ words at from w₀ i₀ out w i = length words - i
 
 loop-holds : tie.Need-loop-holds Inv-loop μ-loop
 loop-holds c = gone-none _ _ _ _

@@ -1,19 +1,16 @@
-use Rattle.mmc.proofs.Words.{low-name, pause-name, reset-name}
+use Rattle.mmc.proofs.Words.{table-name, above-name}
 use borrow.Author.Needs.{needs}
 use Rattle.mmc.proofs.word.plain_name.Statement.{statement}
 use Rattle.mmc.proofs.word.plain_name.Tie as tie
 
-add-result : tie.Need-add-result
-add-result c = search needs
-
 returns : tie.Need-returns
-returns c = low-name _ (c .if1 .taken)
+returns c = above-name _ (c .if1 .taken)
+
+array-read-result : tie.Need-array-read-result
+array-read-result c = search needs
 
 returns-2 : tie.Need-returns-2
-returns-2 c = pause-name _ (c .if2 .taken)
-
-returns-3 : tie.Need-returns-3
-returns-3 c = reset-name _ (c .before .if1 .left) (c .if2 .left)
+returns-2 c = table-name _ (c .if1 .left)
 
 pub plain-name-spec : {M : Type 1} → statement M
-plain-name-spec = tie.close (tie.spec add-result returns returns-2 returns-3)
+plain-name-spec = tie.close (tie.spec returns array-read-result returns-2)

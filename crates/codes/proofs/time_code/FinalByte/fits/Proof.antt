@@ -1,4 +1,4 @@
--- `mmc::time_code::FinalByte::fits` meets its contract: subframes by the bound, a status always. Assumes nothing.
+-- `codes::time_code::FinalByte::fits` meets its contract: subframes by the bound, a status always. Assumes nothing.
 use borrow.Author.Needs.{needs}
 use Rattle.codes.proofs.time_code.FinalByte.fits.Statement.{statement}
 use Rattle.codes.proofs.time_code.FinalByte.fits.Tie as tie

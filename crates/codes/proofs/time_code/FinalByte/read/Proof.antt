@@ -1,4 +1,4 @@
--- `mmc::time_code::FinalByte::read` meets its contract: bit 5 of the frames byte decides the form. Assumes nothing.
+-- `codes::time_code::FinalByte::read` meets its contract: bit 5 of the frames byte decides the form. Assumes nothing.
 use borrow.Author.Needs.{needs}
 use Rattle.codes.proofs.time_code.FinalByte.read.Statement.{statement}
 use Rattle.codes.proofs.time_code.FinalByte.read.Tie as tie

@@ -1,4 +1,4 @@
--- `mmc::time_code::FinalByte::value` meets its contract: the subframes, or the byte of the status. Assumes nothing.
+-- `codes::time_code::FinalByte::value` meets its contract: the subframes, or the byte of the status. Assumes nothing.
 use borrow.Author.Needs.{needs}
 use Rattle.codes.proofs.time_code.FinalByte.value.Statement.{statement}
 use Rattle.codes.proofs.time_code.FinalByte.value.Tie as tie

@@ -1,4 +1,4 @@
--- `mmc::time_code::ShortTimeCode::from_bytes` meets its contract: its parts are those of the calls on the two bytes. Assumes nothing.
+-- `codes::time_code::ShortTimeCode::from_bytes` meets its contract: its parts are those of the calls on the two bytes. Assumes nothing.
 use borrow.Author.Needs.{needs}
 use Rattle.codes.proofs.time_code.ShortTimeCode.from_bytes.Statement.{statement}
 use Rattle.codes.proofs.time_code.ShortTimeCode.from_bytes.Tie as tie

@@ -1,4 +1,4 @@
--- `mmc::time_code::StandardTimeCode::to_bytes` meets its contract: refused by the last byte, refused by the label, or given. Assumes nothing.
+-- `codes::time_code::StandardTimeCode::to_bytes` meets its contract: refused by the last byte, refused by the label, or given. Assumes nothing.
 use borrow.Author.Needs.{needs}
 use Rattle.codes.proofs.time_code.StandardTimeCode.to_bytes.Statement.{statement}
 use Rattle.codes.proofs.time_code.StandardTimeCode.to_bytes.Tie as tie

@@ -1,4 +1,4 @@
--- `mmc::time_code::StandardTimeCode::to_status_form` meets its contract: subframes are replaced, a status stays. Assumes nothing.
+-- `codes::time_code::StandardTimeCode::to_status_form` meets its contract: subframes are replaced, a status stays. Assumes nothing.
 use borrow.Author.Needs.{needs}
 use Rattle.codes.proofs.time_code.StandardTimeCode.to_status_form.Statement.{statement}
 use Rattle.codes.proofs.time_code.StandardTimeCode.to_status_form.Tie as tie

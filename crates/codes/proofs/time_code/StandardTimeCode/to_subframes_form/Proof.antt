@@ -1,4 +1,4 @@
--- `mmc::time_code::StandardTimeCode::to_subframes_form` meets its contract: subframes stay, a status is replaced. Assumes nothing.
+-- `codes::time_code::StandardTimeCode::to_subframes_form` meets its contract: subframes stay, a status is replaced. Assumes nothing.
 use borrow.Author.Needs.{needs}
 use Rattle.codes.proofs.time_code.StandardTimeCode.to_subframes_form.Statement.{statement}
 use Rattle.codes.proofs.time_code.StandardTimeCode.to_subframes_form.Tie as tie

@@ -1,4 +1,4 @@
--- `mmc::time_code::StandardTimeCode::written_label` meets its contract: zeros where the code is blank. Assumes nothing.
+-- `codes::time_code::StandardTimeCode::written_label` meets its contract: zeros where the code is blank. Assumes nothing.
 use borrow.Author.Needs.{needs}
 use Rattle.codes.proofs.time_code.StandardTimeCode.written_label.Statement.{statement}
 use Rattle.codes.proofs.time_code.StandardTimeCode.written_label.Tie as tie

@@ -1,4 +1,4 @@
--- `mtc::time::MtcTime::add_frames` meets its contract. Assumes nothing.
+-- `labels::time::MtcTime::add_frames` meets its contract. Assumes nothing.
 use mathlib.Core.Path.{_∙_}
 use mir.Syntax.{w32}
 use mir.ValLaws.{toZ-ofZ}

@@ -1,4 +1,4 @@
--- `mtc::time::MtcTime::from_frame_count` meets its contract. Assumes nothing.
+-- `labels::time::MtcTime::from_frame_count` meets its contract. Assumes nothing.
 use Rattle.labels.proofs.Rates.{label-at}
 use Rattle.labels.specs.declared.time.TimeCodeType.the-variants.{Fps24, Fps25, Fps30Drop, Fps30}
 use mathlib.Core.Path.{_∙_}

@@ -1,4 +1,4 @@
--- `mtc::time::MtcTime::is_in_day` meets its contract. Assumes nothing.
+-- `labels::time::MtcTime::is_in_day` meets its contract. Assumes nothing.
 use mathlib.Core.Path.{sym}
 use mathlib.Core.Bool.{true≢false}
 use borrow.Author.Needs.{needs}

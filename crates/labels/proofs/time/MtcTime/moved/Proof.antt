@@ -1,4 +1,4 @@
--- `mtc::time::MtcTime::moved` meets its contract. Assumes nothing.
+-- `labels::time::MtcTime::moved` meets its contract. Assumes nothing.
 use Rattle.labels.proofs.Rates.{day-positive, sum-fits, moved-at}
 use mathlib.Core.Path.{_∙_}
 use Rattle.labels.proofs.Distance.{passed-mod}

@@ -1,7 +1,9 @@
--- `mtc::time::MtcTime::to_frame_count` meets its contract. Assumes nothing.
-use Rattle.labels.proofs.Rates.{count-at}
-use Rattle.labels.specs.declared.time.TimeCodeType.the-variants.{Fps24, Fps25, Fps30Drop, Fps30}
-use Rattle.labels.proofs.Short.{drop-count}
+-- `labels::time::MtcTime::to_frame_count` meets its contract. Assumes nothing.
+use mathlib.Core.Path.{sym, ap, ap₂, _∙_}
+use Prim.Native.Nat.{ℕ, _+_, _*_, _%_}
+use native.Mathlib.Omega.{arith}
+use Rattle.labels.proofs.Rates.{day-positive}
+use Rattle.labels.proofs.Short.{drop-count, drop-rate, even-count, even-fits, even-sum-fits, even-told}
 use borrow.Author.Needs.{needs}
 use Rattle.labels.proofs.time.MtcTime.to_frame_count.Statement.{statement}
 use Rattle.labels.proofs.time.MtcTime.to_frame_count.Tie as tie
@@ -18,38 +20,11 @@ cast-minutes-2 c = search needs
 add-minutes : tie.Need-add-minutes
 add-minutes c = search needs
 
-mul-seconds : tie.Need-mul-seconds
-mul-seconds c = search needs
-
-cast-seconds : tie.Need-cast-seconds
-cast-seconds c = search needs
-
-add-seconds : tie.Need-add-seconds
-add-seconds c = search needs
-
 cast-frames : tie.Need-cast-frames
 cast-frames c = search needs
 
-enum-told : tie.Need-enum-told
-enum-told c = search needs
-
-mul-result : tie.Need-mul-result
-mul-result c = search needs
-
-add-result : tie.Need-add-result
-add-result c = search needs
-
-enum-told-2 : tie.Need-enum-told-2
-enum-told-2 c = search needs
-
-mul-result-2 : tie.Need-mul-result-2
-mul-result-2 c = search needs
-
-add-result-2 : tie.Need-add-result-2
-add-result-2 c = search needs
-
-enum-told-3 : tie.Need-enum-told-3
-enum-told-3 c = search needs
+into-bits-requires : tie.Need-into-bits-requires
+into-bits-requires c κs = search needs
 
 mul-n : tie.Need-mul-n
 mul-n c = search needs
@@ -75,26 +50,38 @@ add-within c = search needs
 within-requires : tie.Need-within-requires
 within-requires c κs = search needs
 
-enum-told-4 : tie.Need-enum-told-4
-enum-told-4 c = search needs
-
-mul-result-3 : tie.Need-mul-result-3
-mul-result-3 c = search needs
-
-add-result-3 : tie.Need-add-result-3
-add-result-3 c = search needs
-
 returns : tie.Need-returns
-returns c = count-at _ Fps24 (c .enum-told .given .1)
+returns c = drop-count _ _ (drop-rate _ (sym (c .before .before .before .into-bits .ensures) ∙ c .before .before .if1 .taken)) (c .within .ensures)
+
+mul-seconds : tie.Need-mul-seconds
+mul-seconds c = search needs
+
+cast-seconds : tie.Need-cast-seconds
+cast-seconds c = search needs
+
+add-seconds : tie.Need-add-seconds
+add-seconds c = search needs
+
+frames-per-second-requires : tie.Need-frames-per-second-requires
+frames-per-second-requires c κs = search needs
+
+cast-within : tie.Need-cast-within
+cast-within c = search needs
+
+mul-within-2 : tie.Need-mul-within-2
+mul-within-2 c = even-fits _ _ (c .before .before .before .before .before .before .before .args .self .rate) (omega arith) (c .frames-per-second .ensures)
+
+add-within-2 : tie.Need-add-within-2
+add-within-2 c = even-sum-fits _ _ _ (c .before .before .before .before .before .before .before .args .self .rate) (omega arith) (omega arith) (c .frames-per-second .ensures)
+
+day-requires : tie.Need-day-requires
+day-requires c κs = search needs
+
+within-requires-2 : tie.Need-within-requires-2
+within-requires-2 c κs = rw (c .day .ensures) (day-positive (c .before .before .before .before .before .before .before .before .args .self .rate))
 
 returns-2 : tie.Need-returns-2
-returns-2 c = count-at _ Fps25 (c .enum-told2 .given .1)
-
-returns-3 : tie.Need-returns-3
-returns-3 c = drop-count _ _ (c .before .before .enum-told3 .given .1) (c .within .ensures)
-
-returns-4 : tie.Need-returns-4
-returns-4 c = count-at _ Fps30 (c .enum-told4 .given .1)
+returns-2 c = even-count _ _ (λ e. c .before .before .before .before .if1 .left (c .before .before .before .before .before .into-bits .ensures ∙ e)) (c .within2 .ensures ∙ even-told _ _ _ _ (c .before .before .before .before .before .before .before .before .before .args .self .rate) (c .before .before .frames-per-second .ensures) (c .before .day .ensures))
 
 pub to-frame-count-spec : {M : Type 1} → statement M
 to-frame-count-spec =
@@ -104,17 +91,8 @@ to-frame-count-spec =
     mul-minutes
     cast-minutes-2
     add-minutes
-    mul-seconds
-    cast-seconds
-    add-seconds
     cast-frames
-    enum-told
-    mul-result
-    add-result
-    enum-told-2
-    mul-result-2
-    add-result-2
-    enum-told-3
+    into-bits-requires
     mul-n
     cast-n
     mul-n-2
@@ -123,10 +101,14 @@ to-frame-count-spec =
     mul-within
     add-within
     within-requires
-    enum-told-4
-    mul-result-3
-    add-result-3
     returns
-    returns-2
-    returns-3
-    returns-4)
+    mul-seconds
+    cast-seconds
+    add-seconds
+    frames-per-second-requires
+    cast-within
+    mul-within-2
+    add-within-2
+    day-requires
+    within-requires-2
+    returns-2)

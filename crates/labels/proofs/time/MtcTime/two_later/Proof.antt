@@ -1,4 +1,4 @@
--- `mtc::time::MtcTime::two_later` meets its contract. Assumes nothing.
+-- `labels::time::MtcTime::two_later` meets its contract. Assumes nothing.
 use native.Mathlib.Omega.{arith}
 use Rattle.labels.proofs.Short.{two-later, two-fit, was-true}
 use borrow.Author.Needs.{needs}
