@@ -128,7 +128,9 @@ impl TimeCodeStatus {
 }
 
 /// The final byte of a time code: bit i of the frames byte tells the form (p. 8).
+// The mark of the form is a byte, which stands beside the three marks of a time code.
 #[derive(Debug, Clone, Copy, PartialEq, Eq, Hash)]
+#[repr(u8)]
 pub enum FinalByte {
     /// i = 0, {ff}: fractional frames, 0 to 99 (7 bits).
     Subframes(u8),
@@ -220,12 +222,15 @@ impl StandardTimeCode {
     /// the writer.
     #[inline]
     fn word(&self) -> u64 {
-        let FinalByte::Subframes(last) = self.final_byte else {
+        let marks = u32::from_le_bytes([
+            self.color_frame.into(),
+            self.blank.into(),
+            self.negative.into(),
+            matches!(self.final_byte, FinalByte::Status(_)).into(),
+        ]);
+        let (0, FinalByte::Subframes(last)) = (marks, self.final_byte) else {
             return ffi::NO_WORD;
         };
-        if self.color_frame | self.blank | self.negative {
-            return ffi::NO_WORD;
-        }
         let time = &self.time;
         let counts = u32::from_le_bytes([time.hours, time.minutes, time.seconds, time.frames]);
         let rate = u64::from(time.rate.into_bits());

@@ -330,23 +330,14 @@ plain-item n k e = rw e (go (eqb n 0) (eqb n 1) (eqb n 2) (eqb n 3) (eqb n 4) (e
     go false false false false false false false true = refl
     go false false false false false false false false = refl
 
--- ---- the name of a case
-
-pub table-name : (n : ℕ) → n ≤ 8 → getD (1 ∷ 2 ∷ 3 ∷ 4 ∷ 5 ∷ 6 ∷ 7 ∷ 9 ∷ 13 ∷ []) n 0 ≡ plainName n
+-- The first seven names are one more than the case.
+pub low-name : (n : ℕ) → n < 7 → n + 1 ≡ plainName n
 unfolding plainName
-table-name zero h = refl
-table-name (suc zero) h = refl
-table-name (suc (suc zero)) h = refl
-table-name (suc (suc (suc zero))) h = refl
-table-name (suc (suc (suc (suc zero)))) h = refl
-table-name (suc (suc (suc (suc (suc zero))))) h = refl
-table-name (suc (suc (suc (suc (suc (suc zero)))))) h = refl
-table-name (suc (suc (suc (suc (suc (suc (suc zero))))))) h = refl
-table-name (suc (suc (suc (suc (suc (suc (suc (suc zero)))))))) h = refl
-table-name (suc (suc (suc (suc (suc (suc (suc (suc (suc n))))))))) h = absurd (omega arith)
-
--- A case above 8 is taken as 8.
-pub above-name : (n : ℕ) → 8 < n → 13 ≡ plainName n
-unfolding plainName
-above-name n h =
-    rw (ne-eqb n 0 (λ e. omega arith), ne-eqb n 1 (λ e. omega arith), ne-eqb n 2 (λ e. omega arith), ne-eqb n 3 (λ e. omega arith), ne-eqb n 4 (λ e. omega arith), ne-eqb n 5 (λ e. omega arith), ne-eqb n 6 (λ e. omega arith), ne-eqb n 7 (λ e. omega arith))
+low-name zero h = refl
+low-name (suc zero) h = refl
+low-name (suc (suc zero)) h = refl
+low-name (suc (suc (suc zero))) h = refl
+low-name (suc (suc (suc (suc zero)))) h = refl
+low-name (suc (suc (suc (suc (suc zero))))) h = refl
+low-name (suc (suc (suc (suc (suc (suc zero)))))) h = refl
+low-name (suc (suc (suc (suc (suc (suc (suc n))))))) h = absurd (omega arith)

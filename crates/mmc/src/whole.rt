@@ -211,6 +211,11 @@ fn put_whole(out: &mut [u8], at: usize, word: u64) -> usize
     ensures { λ r. ⌜ PutWhole word at (now (out .entry)) r (now (out .exit)) ⌝ }
 {
     let case = word % 256;
+    // Stop to Record Exit, whose names are one more.
+    if case < 7 {
+        put(out, at, case as u8 + 1);
+        return at + 1;
+    }
     if case == LOCATE_TARGET {
         return put_locate(out, at, word);
     }

@@ -17,9 +17,6 @@ ghost use Rattle.mmc.specs.Length.{commandLength};
 ghost use Rattle.codes.specs.TimeCode.{readFinal, finalValue, readStandard};
 ghost use Rattle.mmc.specs.Word.{codeWord, withBytes, commandWord, nextWord, plainName, shortWord};
 
-// The names of the cases that are a name alone.
-const PLAIN_NAMES: [u8; 9] = [0x01, 0x02, 0x03, 0x04, 0x05, 0x06, 0x07, 0x09, 0x0D];
-
 // A command or a refusal, and the place to read on from. The lowest byte is the case of `MmcCommand`, 0 to 13 in its order, or
 // a refusal's number and 128. Above it stand a Locate's register or the five bytes of its time code, a Move's two names, or
 // the lengths of name and data: the name begins at the place that was read, and the data ends at the place to read on from.
@@ -148,10 +145,17 @@ fn refusal_word(error: SysexError) -> u64
 pub(crate) fn plain_name(kind: u8) -> u8
     ensures { λ r. ⌜ r ≡ plainName kind ⌝ }
 {
-    if kind > 8 {
-        return 0x0D;
+    match kind {
+        0 => 0x01,
+        1 => 0x02,
+        2 => 0x03,
+        3 => 0x04,
+        4 => 0x05,
+        5 => 0x06,
+        6 => 0x07,
+        7 => 0x09,
+        _ => 0x0D,
     }
-    PLAIN_NAMES[kind as usize]
 }
 
 // The command of a name without prefixes and data, or 270 where it has either.
