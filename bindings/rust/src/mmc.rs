@@ -833,7 +833,7 @@ pub fn write_commands(
 /// Commands of which one has no word.
 #[cold]
 #[inline(never)]
-fn write_one_by_one(
+pub(crate) fn write_one_by_one(
     out: &mut [u8],
     device_id: u8,
     commands: &[MmcCommand<'_>],

@@ -870,3 +870,72 @@ fn parts_outside_are_empty() {
     assert_eq!(part(1, 3), []);
     assert_eq!(part(usize::MAX, usize::MAX), []);
 }
+
+/// Codes of good and bad labels, with subframes of every range, each mark and a status.
+fn targets() -> Vec<StandardTimeCode> {
+    let label = |hours, minutes, seconds, frames, rate| MtcTime {
+        hours,
+        minutes,
+        seconds,
+        frames,
+        rate,
+    };
+    let mut codes = Vec::new();
+    for rate in RATES {
+        for (minutes, seconds, frames) in
+            [(0, 0, 0), (10, 0, 1), (11, 0, 1), (11, 0, 2), (59, 59, 24)]
+        {
+            for last in [0, 99, 100, 255] {
+                codes.push(code(label(23, minutes, seconds, frames, rate), last));
+            }
+        }
+        codes.push(code(label(40, 70, 70, 40, rate), 0));
+        codes.push(code(label(255, 255, 255, 255, rate), 0));
+    }
+    let plain = code(hour(), 7);
+    codes.push(StandardTimeCode {
+        color_frame: true,
+        ..plain
+    });
+    codes.push(StandardTimeCode {
+        blank: true,
+        ..plain
+    });
+    codes.push(StandardTimeCode {
+        negative: true,
+        ..plain
+    });
+    codes.push(StandardTimeCode {
+        final_byte: FinalByte::Status(TimeCodeStatus::default()),
+        ..plain
+    });
+    codes
+}
+
+/// What a writing answers, and the buffer that it leaves.
+fn left(
+    room: usize,
+    write: impl Fn(&mut [u8]) -> Result<usize, SysexError>,
+) -> (Result<usize, SysexError>, Vec<u8>) {
+    let mut out = vec![0xAA; room];
+    (write(&mut out), out)
+}
+
+#[test]
+fn commands_in_one_call_are_the_calls_one_by_one() {
+    let mut lists: Vec<Vec<MmcCommand<'_>>> = (0..=50).map(|n| vec![MmcCommand::Stop; n]).collect();
+    for code in targets() {
+        let locate = MmcCommand::LocateTarget(code);
+        lists.push(vec![locate.clone(), MmcCommand::Play]);
+        lists.push(vec![MmcCommand::Pause, MmcCommand::Reset, locate]);
+    }
+    for list in &lists {
+        for device in [0, 0x7F, 0x80] {
+            for room in (0..20).chain([52, 53, 64]) {
+                let whole = left(room, |out| write_commands(out, device, list));
+                let single = left(room, |out| write_one_by_one(out, device, list));
+                assert_eq!(whole, single, "{list:?} for {device} into {room}");
+            }
+        }
+    }
+}

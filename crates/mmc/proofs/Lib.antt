@@ -3,6 +3,7 @@ mod Commands
 mod Emitted
 mod Fields
 mod Fronts
+mod Inside
 mod ItemPuts
 mod Moves
 mod Pages

@@ -41,6 +41,8 @@ use Rattle.universal.proofs.Laws.{all-low-byte, then-sent, then-accepted, openi
 use Rattle.mmc.proofs.Backs
 use Rattle.mmc.proofs.Emitted
 use Rattle.mmc.proofs.Fronts
+-- An item that is found lies in the string: its name from the place on, its data up to the place to read on from.
+pub use Rattle.mmc.proofs.Inside.{Inside, found-inside}
 use Rattle.mmc.proofs.Moves
 use Rattle.mmc.proofs.Pages
 use Rattle.mmc.proofs.Walks

@@ -116,18 +116,6 @@ fn put_rest(out: &mut [u8], words: &[u64], at: usize, from: usize) -> WrittenNum
     written_numbers(w.close_message(out))
 }
 
-// The same. Its answer is taken apart, so that the other answers of a caller need no memory.
-fn by_writer(out: &mut [u8], words: &[u64], at: usize, from: usize) -> WrittenNumbers
-    ensures { λ r. ⌜ r ≡ writtenNumbers (wholeMessage (afterWords (going at from) (now (out .entry)) (drop from (now (words .entry))) .writing) (length (now (out .entry)))) ⌝ }
-    ensures { λ _. ⌜ now (out .exit) ≡ closedOut (afterWords (going at from) (now (out .entry)) (drop from (now (words .entry)))) ⌝ }
-{
-    let rest = put_rest(out, words, at, from);
-    WrittenNumbers {
-        refusal: rest.refusal,
-        length: rest.length,
-    }
-}
-
 // True only for a minute that skips no number.
 fn is_tenth(minutes: u8) -> bool
     ensures { λ r. ⌜ (r ≡ true → minutes % 10 ≡ 0) ⌝ }
@@ -234,7 +222,7 @@ fn put_words(out: &mut [u8], words: &[u64]) -> WrittenNumbers
     while i < words.len() {
         let next = put_whole(out, at, words[i]);
         if next == at {
-            return by_writer(out, words, at, i);
+            return put_rest(out, words, at, i);
         }
         at = next;
         i += 1;
@@ -292,11 +280,11 @@ pub fn write_words(out: &mut [u8], device_id: u8, words: &[u64]) -> WrittenNumbe
     // Where the four bytes fit, none is checked for room.
     if out.len() < 4 {
         put_start(out, device_id);
-        return by_writer(out, words, 4, 0);
+        return put_rest(out, words, 4, 0);
     }
     put_start(out, device_id);
     if words.len() > MOST_COMMANDS {
-        return by_writer(out, words, 4, 0);
+        return put_rest(out, words, 4, 0);
     }
     put_words(out, words)
 }

@@ -25,14 +25,14 @@ shared-slice-read-put-whole c = search needs
 put-whole-requires : tie.Need-put-whole-requires Inv-loop μ-loop
 put-whole-requires c κs = search needs
 
-by-writer-requires : tie.Need-by-writer-requires Inv-loop μ-loop
-by-writer-requires c κs = search needs
+put-rest-requires : tie.Need-put-rest-requires Inv-loop μ-loop
+put-rest-requires c κs = search needs
 
 same-length : tie.Need-same-length Inv-loop μ-loop
 same-length c = search needs
 
 returns : tie.Need-returns Inv-loop μ-loop
-returns c = gone-rest _ _ _ _ _ _ _ (gone-still _ _ _ _ _ _ _ _ _ _ (c .before .before .before .before .before .before .before .before .before .before .before .loop .inv .1 .1) (c .before .before .before .before .before .before .before .put-whole .ensures .1) (c .before .before .before .before .if1 .taken)) _ _ (c .before .before .by-writer .ensures)
+returns c = gone-rest _ _ _ _ _ _ _ (gone-still _ _ _ _ _ _ _ _ _ _ (c .before .before .before .before .before .before .before .before .before .before .before .loop .inv .1 .1) (c .before .before .before .before .before .before .before .put-whole .ensures .1) (c .before .before .before .before .if1 .taken)) _ _ (c .before .before .put-rest .ensures)
 
 add-i : tie.Need-add-i Inv-loop μ-loop
 add-i c = search needs
@@ -62,7 +62,7 @@ put-words-spec =
     mul-put-whole
     shared-slice-read-put-whole
     put-whole-requires
-    by-writer-requires
+    put-rest-requires
     same-length
     returns
     add-i

@@ -9,26 +9,26 @@ returns c = refused-words _ _ _ (c .if1 .taken)
 put-start-requires : tie.Need-put-start-requires
 put-start-requires c κs = search needs
 
-by-writer-requires : tie.Need-by-writer-requires
-by-writer-requires c κs = search needs
+put-rest-requires : tie.Need-put-rest-requires
+put-rest-requires c κs = search needs
 
 same-length : tie.Need-same-length
 same-length c = search needs
 
 returns-2 : tie.Need-returns-2
-returns-2 c = opened-words _ _ _ _ _ _ (c .before .before .before .before .before .before .before .before .before .if1 .left) (c .before .before .before .before .before .before .put-start .ensures) (c .before .before .by-writer .ensures)
+returns-2 c = opened-words _ _ _ _ _ _ (c .before .before .before .before .before .before .before .before .before .if1 .left) (c .before .before .before .before .before .before .put-start .ensures) (c .before .before .put-rest .ensures)
 
 put-start-requires-2 : tie.Need-put-start-requires-2
 put-start-requires-2 c κs = search needs
 
-by-writer-requires-2 : tie.Need-by-writer-requires-2
-by-writer-requires-2 c κs = search needs
+put-rest-requires-2 : tie.Need-put-rest-requires-2
+put-rest-requires-2 c κs = search needs
 
 same-length-2 : tie.Need-same-length-2
 same-length-2 c = search needs
 
 returns-3 : tie.Need-returns-3
-returns-3 c = opened-words _ _ _ _ _ _ (c .before .before .before .before .before .before .before .before .before .before .if1 .left) (c .before .before .before .before .before .before .before .put-start2 .ensures) (c .before .before .by-writer2 .ensures)
+returns-3 c = opened-words _ _ _ _ _ _ (c .before .before .before .before .before .before .before .before .before .before .if1 .left) (c .before .before .before .before .before .before .before .put-start2 .ensures) (c .before .before .put-rest2 .ensures)
 
 put-words-requires : tie.Need-put-words-requires
 put-words-requires c κs = search needs
@@ -45,11 +45,11 @@ write-words-spec =
     (tie.spec
     returns
     put-start-requires
-    by-writer-requires
+    put-rest-requires
     same-length
     returns-2
     put-start-requires-2
-    by-writer-requires-2
+    put-rest-requires-2
     same-length-2
     returns-3
     put-words-requires
