@@ -60,12 +60,20 @@ fn commands(device_id: u8, own: u8, body: &[u8], length: usize) -> bool {
     say(b"commands for ");
     say_device(device_id);
     say_length(length);
-    if !addressed(device_id, hears) {
+    say_not_mine(device_id, hears);
+    read_commands(device_id, hears, body)
+}
+
+// A message for another device. An own device above 127 is refused at each command instead.
+fn say_not_mine(device_id: u8, own: u8) {
+    if own > 0x7F {
+        return;
+    }
+    if !addressed(device_id, own) {
         say(b"  Not mine: this is device ");
-        say_byte(hears);
+        say_byte(own);
         say(b". Nothing is done.\n");
     }
-    read_commands(device_id, hears, body)
 }
 
 fn responses(device_id: u8, body: &[u8], length: usize) -> bool {
