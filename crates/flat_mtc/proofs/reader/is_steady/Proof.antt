@@ -1,4 +1,6 @@
 -- `flat_mtc::reader::is_steady` meets its contract. Assumes nothing.
+use Prim.Native.Nat.{_≤_}
+use native.Mathlib.Omega.{arith}
 use Rattle.flat_mtc.proofs.Steady.{two-fit, word-fits, never, told}
 use borrow.Author.Needs.{needs}
 use Rattle.flat_mtc.proofs.reader.is_steady.Statement.{statement}
@@ -41,7 +43,9 @@ label-word-requires : tie.Need-label-word-requires
 label-word-requires c κs = search needs
 
 sub-result : tie.Need-sub-result
-sub-result c = word-fits _ _ (c .label-word .ensures) (c .before .before .before .before .before .before .if4 .left)
+sub-result c =
+    let h : 2 ≤ c .label-word .result = word-fits _ _ (c .label-word .ensures) (c .before .before .before .before .before .before .if4 .left) in
+    omega arith
 
 returns-7 : tie.Need-returns-7
 returns-7 c = (told _ _ _ _ _ _ (c .before .before .before .before .before .before .before .before .before .before .before .before .if1 .left) (c .before .before .before .before .before .before .before .before .before .before .if2 .left) (c .before .before .before .before .before .before .before .before .if3 .left) (c .before .before .before .before .before .before .if4 .left) (c .before .before .before .before .before .frames-per-second .ensures) (c .before .before .before .if5 .left) (c .before .before .rate-mark .ensures .0) (c .before .if6 .left) (c .label-word .ensures), search needs)
