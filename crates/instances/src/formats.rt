@@ -1,5 +1,5 @@
-// The formats of RP-013's pages (commands pp. 20 to 32, fields pp. 8, 9, 44 and 47): each is written as these bytes, and these bytes
-// are read as what is written as them again.
+// The formats of RP-013 (commands pp. 20 to 32, fields pp. 8, 9, 44 and 47, as the source cites them), with values chosen here: no
+// published example. Each is written as these bytes, and these bytes are read as what is written as them again.
 use crate::examples::is_length;
 use crate::strings::target;
 use crate::tally::Tally;

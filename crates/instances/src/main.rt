@@ -1,5 +1,5 @@
-// Runs document 01's instances, the practices' published examples and formats, and demand 3 through the public calls, and writes a
-// line for each group.
+// Runs document 01's instances, RP-004/008's published examples, RP-013's formats and demand 3 through the public calls, and writes
+// a line for each group.
 mod demand3;
 mod examples;
 mod formats;
