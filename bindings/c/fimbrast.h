@@ -215,6 +215,13 @@ typedef struct {
 
 fimbrast_mmc_message fimbrast_mmc_message_read(fimbrast_universal header, const uint8_t *data, size_t length);
 
+/* The same as one number, for a caller that has the device: FIMBRAST_COMMANDS, FIMBRAST_RESPONSES, FIMBRAST_NOT_THIS, or a
+   refusal. */
+#define FIMBRAST_COMMANDS 0
+#define FIMBRAST_RESPONSES 128
+
+uint8_t fimbrast_mmc_kind(bool real_time, uint8_t sub_id1, const uint8_t *data, size_t length);
+
 /* ---- time code fields */
 
 typedef struct {

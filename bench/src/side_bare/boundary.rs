@@ -3,7 +3,7 @@
 use std::hint::black_box;
 
 use super::ffi::{
-    fimbrast_add_frames, fimbrast_feed, fimbrast_from_frame_count, fimbrast_mmc_message_read,
+    fimbrast_add_frames, fimbrast_feed, fimbrast_from_frame_count, fimbrast_mmc_kind,
     fimbrast_next_byte, fimbrast_next_word, fimbrast_receive, fimbrast_to_frame_count,
     fimbrast_write_words,
 };
@@ -12,6 +12,8 @@ pub use super::ffi::{Event, Generator, Reader, Time, Universal, Written};
 
 /// The lowest byte of `next_word`'s number at the end: the refusal 9.
 const END: u8 = 128 + 9;
+/// The kind of a message of commands.
+const COMMANDS: u8 = 0;
 /// An event's number from here on has a report.
 const REPORT: u64 = 512;
 
@@ -62,8 +64,8 @@ pub fn write(out: &mut [u8], device_id: u8, words: &[u64]) -> Written {
 pub fn read(header: &Universal, data: &[u8]) -> usize {
     let (bytes, length) = (data.as_ptr(), data.len());
     // SAFETY: `bytes` and `length` are a live slice.
-    let message = unsafe { fimbrast_mmc_message_read(*header, bytes, length) };
-    if message.answer != 0 || message.responses {
+    let kind = unsafe { fimbrast_mmc_kind(header.real_time, header.sub_id1, bytes, length) };
+    if kind != COMMANDS {
         return 0;
     }
     let (mut items, mut place) = (0, 0);

@@ -24,7 +24,6 @@ records! {
     Fed { reports: usize, discontinuities: usize, last: u64 }
     Universal { real_time: bool, device_id: u8, sub_id1: u8, has_sub_id2: bool, sub_id2: u8 }
     Written { refusal: u8, length: usize }
-    MmcMessage { answer: u8, responses: bool, device_id: u8 }
     NextWord { word: u64, place: usize }
 }
 
@@ -37,11 +36,7 @@ unsafe extern "C" {
     pub safe fn fimbrast_reader_new() -> Reader;
     pub safe fn fimbrast_receive(reader: &mut Reader, byte: u8) -> Event;
     pub fn fimbrast_feed(reader: &mut Reader, bytes: *const u8, length: usize) -> Fed;
-    pub fn fimbrast_mmc_message_read(
-        header: Universal,
-        data: *const u8,
-        length: usize,
-    ) -> MmcMessage;
+    pub fn fimbrast_mmc_kind(real_time: bool, sub_id1: u8, data: *const u8, length: usize) -> u8;
     pub fn fimbrast_next_word(body: *const u8, length: usize, place: usize) -> NextWord;
     pub fn fimbrast_write_words(
         out: *mut u8,

@@ -10,6 +10,9 @@ use crate::mtc::MtcTime;
 
 /// An answer that is no refusal: another kind of message, or a message for another device.
 pub(crate) const NOT_THIS: u8 = 255;
+/// The kinds of a machine control message.
+pub(crate) const COMMANDS: u8 = 0;
+pub(crate) const RESPONSES: u8 = 128;
 pub(crate) const FORWARD: u8 = 0;
 pub(crate) const REVERSE: u8 = 1;
 
@@ -93,6 +96,7 @@ records! {
     UserBits { device_id: u8, groups: [u8; 8], flags: u8 }
     ReadUserBits { answer: u8, bits: UserBits }
     FourBytes { bytes: [u8; 4] }
+    #[cfg(test)]
     MmcMessage { answer: u8, responses: bool, device_id: u8 }
     Status { estimated: bool, invalid: bool, video_field1: bool, no_time_code: bool }
     #[derive(Default)]
@@ -227,6 +231,8 @@ unsafe extern "C" {
     fn fimbrast_user_bits_read(header: Universal, data: *const u8, length: usize) -> ReadUserBits;
     fn fimbrast_user_bits_write(bits: UserBits, out: *mut u8, out_length: usize) -> Written;
     pub(crate) safe fn fimbrast_user_bits_bytes(bits: UserBits) -> FourBytes;
+    fn fimbrast_mmc_kind(real_time: bool, sub_id1: u8, data: *const u8, length: usize) -> u8;
+    #[cfg(test)]
     fn fimbrast_mmc_message_read(header: Universal, data: *const u8, length: usize) -> MmcMessage;
 
     pub(crate) safe fn fimbrast_short_name(field: u8) -> u8;
@@ -332,7 +338,14 @@ pub(crate) fn user_bits_write(bits: UserBits, out: &mut [u8]) -> Written {
     unsafe { fimbrast_user_bits_write(bits, out.as_mut_ptr(), out.len()) }
 }
 
+/// Commands, responses, another kind, or a refusal's number.
 #[inline]
+pub(crate) fn mmc_kind(real_time: bool, sub_id1: u8, data: &[u8]) -> u8 {
+    // SAFETY: `data` is a live slice.
+    unsafe { fimbrast_mmc_kind(real_time, sub_id1, data.as_ptr(), data.len()) }
+}
+
+#[cfg(test)]
 pub(crate) fn mmc_message_read(header: Universal, data: &[u8]) -> MmcMessage {
     // SAFETY: `data` is a live slice.
     unsafe { fimbrast_mmc_message_read(header, data.as_ptr(), data.len()) }

@@ -238,7 +238,7 @@ impl StandardTimeCode {
     }
 
     /// The time code of a Locate that was read: its five bytes above the case (pp. 8, 9).
-    #[inline]
+    #[inline(never)]
     fn of_word(next: ffi::NextWord) -> Self {
         let bytes = (next.word >> 8) as u32;
         // The counts in their bytes, and each mark, bit 6 of a byte, at the start of the byte before.
@@ -438,19 +438,18 @@ impl<'a> MmcCommand<'a> {
     /// A command of another case, whose data ends at the next place of `body`, or a refusal. It is not inlined, so that the
     /// loop of a caller keeps an item where it was put.
     #[inline(never)]
-    fn of(next: ffi::NextWord, body: &'a [u8]) -> Option<Result<Self, SysexError>> {
-        Some(Ok(match next.case() {
-            ffi::WRITE => Self::Write(InfoFields::new(next.data(body)?)),
+    fn of(next: ffi::NextWord, body: &'a [u8]) -> Result<Self, Option<SysexError>> {
+        Ok(match next.case() {
+            ffi::WRITE => Self::Write(InfoFields::new(next.data(body).ok_or(None)?)),
             ffi::LOCATE_FIELD => Self::LocateField {
                 register: next.byte(0),
             },
-            ffi::LOCATE_TARGET => Self::LocateTarget(StandardTimeCode::of_word(next)),
             ffi::MOVE => Self::Move {
                 destination: next.byte(0),
                 source: next.byte(1),
             },
-            refusal => return Some(Err(SysexError::of(refusal & !ffi::REFUSED, 0))),
-        }))
+            refusal => return Err(Some(SysexError::of(refusal & !ffi::REFUSED, 0))),
+        })
     }
 
     /// The command as one number: the case of a name alone, or a Locate's time above it.
@@ -685,10 +684,15 @@ impl<'a> Iterator for Commands<'a> {
         if let Some((name, data)) = item.other() {
             return Some(Ok(MmcCommand::Other { name, data }));
         }
-        match next.case() {
-            ffi::CUT => Some(Err(SysexError::Length)),
-            ffi::END => None,
+        let read = match next.case() {
+            ffi::CUT => return Some(Err(SysexError::Length)),
+            ffi::END => return None,
+            ffi::LOCATE_TARGET => Ok(MmcCommand::LocateTarget(StandardTimeCode::of_word(next))),
             _ => MmcCommand::of(next, self.bytes),
+        };
+        match read {
+            Ok(command) => Some(Ok(command)),
+            Err(stop) => stop.map(Err),
         }
     }
 }
@@ -762,32 +766,22 @@ impl<'a> MmcMessage<'a> {
     /// [`SysexError::Length`] for an empty string.
     #[inline]
     pub fn from_universal(u: &Universal<'a>) -> Result<Option<Self>, SysexError> {
-        // Sub-ID#2 decides nothing here.
-        let header = ffi::Universal {
-            has_sub_id2: false,
-            sub_id2: 0,
-            ..u.flat()
-        };
-        let read = ffi::mmc_message_read(header, u.data);
-        if read.answer == ffi::NOT_THIS {
-            return Ok(None);
-        }
-        SysexError::check(read.answer)?;
-        let device_id = read.device_id;
-        Ok(Some(if read.responses {
-            Self::Responses {
-                device_id,
-                fields: InfoFields { bytes: u.data },
-            }
-        } else {
-            Self::Commands {
-                device_id,
+        // The device ID and Sub-ID#2 decide nothing here.
+        match ffi::mmc_kind(u.real_time, u.sub_id1, u.data) {
+            ffi::COMMANDS => Ok(Some(Self::Commands {
+                device_id: u.device_id,
                 commands: Commands {
                     bytes: u.data,
                     place: 0,
                 },
-            }
-        }))
+            })),
+            ffi::RESPONSES => Ok(Some(Self::Responses {
+                device_id: u.device_id,
+                fields: InfoFields { bytes: u.data },
+            })),
+            ffi::NOT_THIS => Ok(None),
+            refusal => Err(SysexError::of(refusal, 0)),
+        }
     }
 }
 

@@ -676,6 +676,41 @@ fn cut_strings_and_empty_ones() {
     );
 }
 
+/// The crate's message from a kind and its own device is what the library reads from the whole header.
+#[test]
+fn messages_by_their_kind() {
+    for n in 0..=0x7FFF_u32 {
+        let [sub_id1, flags, ..] = n.to_le_bytes();
+        let header = Universal {
+            real_time: flags & 1 != 0,
+            device_id: flags ^ 0x55,
+            sub_id1,
+            sub_id2: (flags & 2 != 0).then_some(sub_id1),
+            data: if flags & 4 != 0 { &[1] } else { &[] },
+        };
+        let read = ffi::mmc_message_read(header.flat(), header.data);
+        let expected = match (read.answer, read.responses) {
+            (0, false) => "commands",
+            (0, true) => "responses",
+            (255, _) => "another kind",
+            (number, _) => {
+                assert_eq!(number, SysexError::Length.number());
+                "refused"
+            }
+        };
+        let (kind, device_id) = match MmcMessage::from_universal(&header) {
+            Ok(Some(MmcMessage::Commands { device_id, .. })) => ("commands", device_id),
+            Ok(Some(MmcMessage::Responses { device_id, .. })) => ("responses", device_id),
+            Ok(None) => ("another kind", 0),
+            Err(refusal) => {
+                assert_eq!(refusal, SysexError::Length);
+                ("refused", 0)
+            }
+        };
+        assert_eq!((kind, device_id), (expected, read.device_id), "{header:?}");
+    }
+}
+
 #[test]
 fn short_buffers() {
     let list = [MmcCommand::LocateTarget(code(hour(), 0)), MmcCommand::Play];

@@ -9,6 +9,7 @@ use flat_mmc::message::bits_of;
 use flat_mmc::message::flat_full_message;
 use flat_mmc::message::flat_mmc_message;
 use flat_mmc::message::flat_user_bits;
+use flat_mmc::message::mmc_kind;
 use flat_mmc::message::universal_of;
 use flat_mtc::time::FlatTime;
 use flat_mtc::time::time_of;
@@ -17,18 +18,20 @@ use mmc::WrittenNumbers;
 use mmc::written_numbers;
 use mtc::FullMessage;
 use mtc::UserBits;
+use universal::MaybeSubId2;
 use universal::Universal;
 ghost use mathlib.Core.Path.{_≡_};
 ghost use lib.ListN.{length};
 ghost use Rattle.universal.specs.Emission.{answer};
-ghost use Rattle.universal.specs.Message.{isAddressed, hasSubId2, message};
+ghost use Rattle.universal.specs.Message.{isAddressed, hasSubId2, header, message};
+ghost use Rattle.universal.specs.declared.message.MaybeSubId2.the-variants.{NoSubId2};
 ghost use Rattle.universal.specs.Overlay.{overlay};
 ghost use Rattle.mtc.specs.FullMessage.{fullMessage, fullMessageFrom, fullMessageWritten};
 ghost use Rattle.mtc.specs.UserBits.{userBitsFrom, userBitsWritten, groupBytes};
 ghost use Rattle.mmc.specs.Numbers.{writtenNumbers};
 ghost use Rattle.mmc.specs.Message.{messageFrom};
 ghost use Rattle.flat_mtc.specs.Time.{timeOf};
-ghost use Rattle.flat_mmc.specs.Message.{universalOf, bitsOf, flatFullMessage, flatUserBits, flatMmcMessage};
+ghost use Rattle.flat_mmc.specs.Message.{universalOf, bitsOf, flatFullMessage, flatUserBits, flatMmcMessage, mmcKind};
 
 // `addressed`.
 #[no_mangle]
@@ -116,4 +119,18 @@ pub extern "C" fn fimbrast_mmc_message_read(header: FlatUniversal, data: &[u8]) 
     ensures { λ r. ⌜ r ≡ flatMmcMessage (messageFrom (universalOf header) (now («data» .entry))) ⌝ }
 {
     flat_mmc_message(MmcMessage::from_universal(universal_of(header), data))
+}
+
+// The same without the device, which decides nothing, as one number.
+#[no_mangle]
+pub extern "C" fn fimbrast_mmc_kind(real_time: bool, sub_id1: u8, data: &[u8]) -> u8
+    ensures { λ r. ⌜ r ≡ mmcKind (messageFrom (header «real_time» 0 «sub_id1» NoSubId2) (now («data» .entry))) ⌝ }
+{
+    let parts = Universal {
+        real_time,
+        device_id: 0,
+        sub_id1,
+        sub_id2: MaybeSubId2::NoSubId2,
+    };
+    mmc_kind(MmcMessage::from_universal(parts, data))
 }

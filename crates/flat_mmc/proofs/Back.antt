@@ -1,6 +1,17 @@
--- Flat time codes, commands and fields stand for one value each: what is flattened and read back is the same. Assumes nothing.
+-- Flat time codes, commands and fields stand for one value each: what is flattened and read back is the same. So does a message's
+-- kind, with its device. Assumes nothing.
+use Prim.Native.Nat.{ℕ}
 use mathlib.Core.Path.{_≡_, refl, ap, ap₂}
 use mathlib.Core.Bool.{Bool, true, false}
+use mathlib.Core.List.{List}
+use lib.Dec.{eqb}
+use lib.ListN.{length}
+use Rattle.flat_mmc.specs.Message.{flatMmcMessage, mmcKind, mmcOf}
+use Rattle.mmc.specs.Message.{messageFrom}
+use Rattle.mmc.proofs.StringLaws.{messageBy, message-by}
+use Rattle.universal.specs.Message.{header}
+use Rattle.universal.specs.declared.message.MaybeSubId2.the-variants.{NoSubId2}
+use Rattle.universal.specs.declared.message.Universal.{Universal}
 use Rattle.flat_mmc.specs.Code.{finalOf, isStatus, flatFinal, codeOf, flatCode, shortOf, flatShort}
 use Rattle.flat_mmc.specs.String.{partAt, flatPart, commandOf, flatCommand, fieldOf, flatField}
 use Rattle.codes.specs.TimeCode.{readStatus, statusByte}
@@ -79,3 +90,20 @@ unfolding fieldOf flatField
 field-back (F.TimeCode n c) = ap (F.TimeCode n) (code-back c)
 field-back (F.Short n c) = ap (F.Short n) (short-back c)
 field-back (F.Other n d) = ap₂ F.Other (part-back n) (part-back d)
+
+-- A message's kind and the header's device say all of it: no other part of the header decides anything.
+pub kind-says : (u : Universal) (d : List ℕ)
+    → flatMmcMessage (messageFrom u d)
+    ≡ mmcOf (u .«device_id») (mmcKind (messageFrom (header (u .«real_time») 0 (u .«sub_id1») NoSubId2) d))
+unfolding flatMmcMessage mmcOf mmcKind
+kind-says u d =
+    rw (message-by u d, message-by (header (u .«real_time») 0 (u .«sub_id1») NoSubId2) d)
+    (go (u .«real_time») (eqb (u .«sub_id1») 6) (eqb (u .«sub_id1») 7) (eqb (length d) 0) (u .«device_id»))
+  where
+    go : (t c r e : Bool) (device : ℕ) → flatMmcMessage (messageBy t c r e device) ≡ mmcOf device (mmcKind (messageBy t c r e 0))
+    go true true r true device = refl
+    go true true r false device = refl
+    go true false true true device = refl
+    go true false true false device = refl
+    go true false false e device = refl
+    go false c r e device = refl

@@ -2,6 +2,7 @@
 use Prim.Native.Nat.{ℕ}
 use mathlib.Core.Bool.{Bool, true, false, cond}
 use mathlib.Core.Option.{Option, none, some}
+use lib.Dec.{eqb}
 use Rattle.flat_mtc.specs.Time.{flatTime, noTime}
 use Rattle.flat_mmc.specs.declared.message.FlatFullMessage.{FlatFullMessage}
 use Rattle.flat_mmc.specs.declared.message.FlatMmcMessage.{FlatMmcMessage}
@@ -65,3 +66,14 @@ flatMmcMessage (gives (some (Commands device))) = flatMmc 0 false device
 flatMmcMessage (gives (some (Responses device))) = flatMmc 0 true device
 flatMmcMessage (gives none) = flatMmc 255 false 0
 flatMmcMessage (refused r) = flatMmc (r .number) false 0
+
+-- The same without the device: 0 for commands, 128 for responses, 255 for another kind, or the refusal.
+unfoldable pub mmcKind : Answer (Option MmcMessage) → ℕ
+mmcKind (gives (some (Commands device))) = 0
+mmcKind (gives (some (Responses device))) = 128
+mmcKind (gives none) = 255
+mmcKind (refused r) = r .number
+
+-- The message of such a number, with the device that the header gives.
+unfoldable pub mmcOf : ℕ → ℕ → FlatMmcMessage
+mmcOf device n = cond (eqb n 0) (flatMmc 0 false device) (cond (eqb n 128) (flatMmc 0 true device) (flatMmc n false 0))

@@ -14,7 +14,7 @@ ghost use mathlib.Core.Path.{_≡_};
 ghost use Rattle.mtc.specs.FullMessage.{readFullMessageOf};
 ghost use Rattle.mtc.specs.UserBits.{answerWith, readUserBitsOf};
 ghost use Rattle.mmc.specs.Message.{readMessageOf};
-ghost use Rattle.flat_mmc.specs.Message.{subId2Of, universalOf, bitsOf, flatBits, flatFullMessage, flatAnswer, flatReadBits, flatMmcMessage};
+ghost use Rattle.flat_mmc.specs.Message.{subId2Of, universalOf, bitsOf, flatBits, flatFullMessage, flatAnswer, flatReadBits, flatMmcMessage, mmcKind};
 
 // The split parts of a Universal message but its data.
 #[repr(C)]
@@ -164,6 +164,20 @@ pub fn flat_mmc_message(read: ReadMmcMessage) -> FlatMmcMessage
             responses: false,
             device_id: 0,
         },
+    }
+}
+
+// The same as one number: 0 for commands, 128 for responses, 255 for another kind, or the refusal.
+pub fn mmc_kind(read: ReadMmcMessage) -> u8
+    ensures { λ r. ⌜ r ≡ mmcKind (readMessageOf read) ⌝ }
+{
+    match read {
+        ReadMmcMessage::Message(m) => match m {
+            MmcMessage::Commands { device_id: _ } => 0,
+            MmcMessage::Responses { device_id: _ } => 128,
+        },
+        ReadMmcMessage::NotThis => 255,
+        ReadMmcMessage::Refused(e) => e.number(),
     }
 }
 

@@ -12,6 +12,7 @@ mod Ranges
 mod Splits
 pub mod StringLaws
 mod Walks
+mod WordAnswers
 mod WordPuts
 mod Words
 mod Writers

@@ -2,14 +2,14 @@
 -- RP-013, and what is written and read back. Assumes nothing.
 use Prim.Native.Nat.{ℕ, zero, suc, _+_, _-_, _≤_, _<_}
 use mathlib.Core.Path.{_≡_, refl, sym, ap, ap₂, subst, _∙_}
-use mathlib.Core.Bool.{true}
+use mathlib.Core.Bool.{Bool, true, false, cond}
 use mathlib.Core.Logic.{_⊎_, inl, _↔_}
 use mathlib.Core.List.{List, [], _∷_, _++_, map, append-nil, map-append}
-use mathlib.Core.Option.{none, some}
+use mathlib.Core.Option.{Option, none, some}
 use native.Mathlib.Nat.{le-refl}
 use native.Mathlib.Omega.{arith}
 use borrow.Author.Tests.{ne-eqb}
-use lib.Dec.{lit≤}
+use lib.Dec.{eqb, lit≤}
 use lib.ListN.{length, take, drop, length-append}
 use lib.Seq.{take-append-seam}
 use Rattle.mmc.specs.declared.command.MmcCommand.{MmcCommand}
@@ -24,6 +24,7 @@ use Rattle.mmc.specs.Command.{CommandCase, readByte, readCommand, locate
 use Rattle.mmc.specs.Field.{FieldCase, readField, placed, nextField}
 use Rattle.mmc.specs.Item.{commandItem, fieldItem}
 use Rattle.mmc.specs.Length.{lengthOf}
+use Rattle.mmc.specs.declared.message.MmcMessage.{MmcMessage}
 use Rattle.mmc.specs.declared.message.MmcMessage.the-variants as M
 use Rattle.mmc.specs.Message.{messageFrom}
 use Rattle.mmc.specs.Named.{nameFits, lastOf}
@@ -36,7 +37,8 @@ use Rattle.codes.specs.declared.time_code.StandardTimeCode.{StandardTimeCode}
 use Rattle.universal.specs.Emission.{Emission, sent, _then_}
 use Rattle.universal.specs.Message.{allLow, header, opening, message}
 use Rattle.universal.specs.declared.message.MaybeSubId2.the-variants.{NoSubId2}
-use Rattle.universal.specs.Refusals.{refusal, gives}
+use Rattle.universal.specs.declared.message.Universal.{Universal}
+use Rattle.universal.specs.Refusals.{Answer, refusal, refused, gives}
 use Rattle.universal.proofs.Laws.{all-low-byte, then-sent, then-accepted, opening-plain, message-whole}
 use Rattle.mmc.proofs.Backs
 use Rattle.mmc.proofs.Emitted
@@ -351,6 +353,33 @@ pub commands-message : (device : ℕ) (string : List ℕ) → 1 ≤ length strin
     → messageFrom (header true device 6 NoSubId2) string ≡ gives (some (M.Commands device))
 unfolding messageFrom
 commands-message device string h = rw (ne-eqb (length string) 0 (λ e. omega arith))
+
+-- A message by its class, by whether its sub-ID 1 is 06H or 07H, and by whether its string is empty.
+abbrev pub messageBy : (realTime commands responses empty : Bool) → ℕ → Answer (Option MmcMessage)
+messageBy true true responses true device = refused (refusal 2)
+messageBy true true responses false device = gives (some (M.Commands device))
+messageBy true false true true device = refused (refusal 2)
+messageBy true false true false device = gives (some (M.Responses device))
+messageBy true false false empty device = gives none
+messageBy false commands responses empty device = gives none
+
+pub message-by : (u : Universal) (d : List ℕ)
+    → messageFrom u d ≡ messageBy (u .«real_time») (eqb (u .«sub_id1») 6) (eqb (u .«sub_id1») 7) (eqb (length d) 0) (u .«device_id»)
+unfolding messageFrom
+message-by u d = go (u .«real_time») (eqb (u .«sub_id1») 6) (eqb (u .«sub_id1») 7) (eqb (length d) 0)
+  where
+    orEmpty : Bool → MmcMessage → Answer (Option MmcMessage)
+    orEmpty empty m = cond empty (refused (refusal 2)) (gives (some m))
+
+    go : (t c r e : Bool)
+        → cond t (cond c (orEmpty e (M.Commands (u .«device_id»))) (cond r (orEmpty e (M.Responses (u .«device_id»))) (gives none))) (gives none)
+        ≡ messageBy t c r e (u .«device_id»)
+    go true true r true = refl
+    go true true r false = refl
+    go true false true true = refl
+    go true false true false = refl
+    go true false false e = refl
+    go false c r e = refl
 
 -- The string of a message stands after the four opening bytes, up to F7H.
 pub message-string : (kind : Kind) (device : ℕ) (string : List ℕ)

@@ -38,12 +38,12 @@ use Rattle.mmc.proofs.Writers.{as-it-is, ready-kept, ready-failed, repe
 -- ---- a word's command
 
 -- A name alone.
-word-plain : (w k : ℕ) → (w % 256 ≡ 11 → ⊥) → k ≡ plainName (w % 256) → commandItem [] (wordCommand w) ≡ sent (k ∷ [])
+pub word-plain : (w k : ℕ) → (w % 256 ≡ 11 → ⊥) → k ≡ plainName (w % 256) → commandItem [] (wordCommand w) ≡ sent (k ∷ [])
 unfolding wordCommand
 word-plain w k n e = rw (ne-eqb (w % 256) 11 n) (plain-item (w % 256) k e)
 
 -- A Locate to a time.
-word-locate : (w : ℕ) → w % 256 ≡ 11 → commandItem [] (wordCommand w) ≡ locateTargetItem (wordCode w)
+pub word-locate : (w : ℕ) → w % 256 ≡ 11 → commandItem [] (wordCommand w) ≡ locateTargetItem (wordCode w)
 unfolding wordCommand commandItem
 word-locate w e = rw (eq-eqb (w % 256) 11 e)
 

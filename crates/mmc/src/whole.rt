@@ -23,7 +23,7 @@ ghost use Rattle.mmc.specs.declared.length.Kind.the-variants.{Commands};
 ghost use Rattle.codes.specs.declared.time_code.FinalByte.the-variants.{Subframes, Status};
 ghost use Rattle.codes.specs.TimeCode.{readStatus};
 ghost use Rattle.mmc.specs.Item.{commandItem};
-ghost use Rattle.mmc.specs.Numbers.{writtenNumbers};
+ghost use Rattle.mmc.specs.Numbers.{numbersIn, writtenNumbers};
 ghost use Rattle.mmc.specs.Write.{writingOf, given, admitted, closedMessage, wholeMessage};
 ghost use Rattle.mmc.specs.Writings.{stringAnswer, stringLeft};
 ghost use Rattle.mmc.specs.Words.{markedCode, wordCode, wordCommand, wordItems, afterWords, closedOut, going, PutWhole, Usual};
@@ -98,9 +98,17 @@ fn put_word(out: &mut [u8], writer: Writer, word: u64) -> Writer
     wrote.writer
 }
 
+// A small answer in one number, which comes back in a register.
+fn one_number(numbers: WrittenNumbers) -> usize
+    requires { ⌜ numbers .length ≤ 53 ⌝ }
+    ensures { λ r. ⌜ numbersIn r ≡ numbers ⌝ }
+{
+    numbers.refusal as usize + numbers.length * 256
+}
+
 // The words from one on, by the writer, from a position on, and the close.
-fn put_rest(out: &mut [u8], words: &[u64], at: usize, from: usize) -> WrittenNumbers
-    ensures { λ r. ⌜ r ≡ writtenNumbers (wholeMessage (afterWords (going at from) (now (out .entry)) (drop from (now (words .entry))) .writing) (length (now (out .entry)))) ⌝ }
+fn put_rest(out: &mut [u8], words: &[u64], at: usize, from: usize) -> usize
+    ensures { λ r. ⌜ numbersIn r ≡ writtenNumbers (wholeMessage (afterWords (going at from) (now (out .entry)) (drop from (now (words .entry))) .writing) (length (now (out .entry)))) ⌝ }
     ensures { λ _. ⌜ now (out .exit) ≡ closedOut (afterWords (going at from) (now (out .entry)) (drop from (now (words .entry)))) ⌝ }
 {
     let mut w = Writer {
@@ -113,22 +121,24 @@ fn put_rest(out: &mut [u8], words: &[u64], at: usize, from: usize) -> WrittenNum
         w = put_word(out, w, words[i]);
         i += 1;
     }
-    written_numbers(w.close_message(out))
+    one_number(written_numbers(w.close_message(out)))
+}
+
+// The refusal and the length of such a number.
+fn numbers_of(number: usize) -> WrittenNumbers
+    ensures { λ r. ⌜ r ≡ numbersIn number ⌝ }
+{
+    WrittenNumbers {
+        refusal: (number % 256) as u8,
+        length: number / 256,
+    }
 }
 
 // True only for a minute that skips no number.
 fn is_tenth(minutes: u8) -> bool
     ensures { λ r. ⌜ (r ≡ true → minutes % 10 ≡ 0) ⌝ }
 {
-    match minutes {
-        0 => true,
-        10 => true,
-        20 => true,
-        30 => true,
-        40 => true,
-        50 => true,
-        _ => false,
-    }
+    minutes % 10 == 0
 }
 
 // True only for a time code that is written as its counts are.
@@ -222,7 +232,7 @@ fn put_words(out: &mut [u8], words: &[u64]) -> WrittenNumbers
     while i < words.len() {
         let next = put_whole(out, at, words[i]);
         if next == at {
-            return put_rest(out, words, at, i);
+            return numbers_of(put_rest(out, words, at, i));
         }
         at = next;
         i += 1;
@@ -280,11 +290,11 @@ pub fn write_words(out: &mut [u8], device_id: u8, words: &[u64]) -> WrittenNumbe
     // Where the four bytes fit, none is checked for room.
     if out.len() < 4 {
         put_start(out, device_id);
-        return put_rest(out, words, 4, 0);
+        return numbers_of(put_rest(out, words, 4, 0));
     }
     put_start(out, device_id);
     if words.len() > MOST_COMMANDS {
-        return put_rest(out, words, 4, 0);
+        return numbers_of(put_rest(out, words, 4, 0));
     }
     put_words(out, words)
 }

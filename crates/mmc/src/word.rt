@@ -145,17 +145,14 @@ fn refusal_word(error: SysexError) -> u64
 pub(crate) fn plain_name(kind: u8) -> u8
     ensures { λ r. ⌜ r ≡ plainName kind ⌝ }
 {
-    match kind {
-        0 => 0x01,
-        1 => 0x02,
-        2 => 0x03,
-        3 => 0x04,
-        4 => 0x05,
-        5 => 0x06,
-        6 => 0x07,
-        7 => 0x09,
-        _ => 0x0D,
+    // Stop to Record Exit, whose names are one more.
+    if kind < 7 {
+        return kind + 1;
     }
+    if kind == 7 {
+        return 0x09;
+    }
+    0x0D
 }
 
 // The command of a name without prefixes and data, or 270 where it has either.

@@ -1,4 +1,5 @@
 use Rattle.mmc.proofs.WordPuts.{refused-words, opened-words}
+use mathlib.Core.Path.{_∙_}
 use borrow.Author.Needs.{needs}
 use Rattle.mmc.proofs.whole.write_words.Statement.{statement}
 use Rattle.mmc.proofs.whole.write_words.Tie as tie
@@ -12,11 +13,14 @@ put-start-requires c κs = search needs
 put-rest-requires : tie.Need-put-rest-requires
 put-rest-requires c κs = search needs
 
+numbers-of-requires : tie.Need-numbers-of-requires
+numbers-of-requires c κs = search needs
+
 same-length : tie.Need-same-length
 same-length c = search needs
 
 returns-2 : tie.Need-returns-2
-returns-2 c = opened-words _ _ _ _ _ _ (c .before .before .before .before .before .before .before .before .before .if1 .left) (c .before .before .before .before .before .before .put-start .ensures) (c .before .before .put-rest .ensures)
+returns-2 c = opened-words _ _ _ _ _ _ (c .before .before .before .before .before .before .before .before .before .before .if1 .left) (c .before .before .before .before .before .before .before .put-start .ensures) (c .numbers-of .ensures ∙ c .before .before .before .put-rest .ensures .0, c .before .before .before .put-rest .ensures .1)
 
 put-start-requires-2 : tie.Need-put-start-requires-2
 put-start-requires-2 c κs = search needs
@@ -24,11 +28,14 @@ put-start-requires-2 c κs = search needs
 put-rest-requires-2 : tie.Need-put-rest-requires-2
 put-rest-requires-2 c κs = search needs
 
+numbers-of-requires-2 : tie.Need-numbers-of-requires-2
+numbers-of-requires-2 c κs = search needs
+
 same-length-2 : tie.Need-same-length-2
 same-length-2 c = search needs
 
 returns-3 : tie.Need-returns-3
-returns-3 c = opened-words _ _ _ _ _ _ (c .before .before .before .before .before .before .before .before .before .before .if1 .left) (c .before .before .before .before .before .before .before .put-start2 .ensures) (c .before .before .put-rest2 .ensures)
+returns-3 c = opened-words _ _ _ _ _ _ (c .before .before .before .before .before .before .before .before .before .before .before .if1 .left) (c .before .before .before .before .before .before .before .before .put-start2 .ensures) (c .numbers-of2 .ensures ∙ c .before .before .before .put-rest2 .ensures .0, c .before .before .before .put-rest2 .ensures .1)
 
 put-words-requires : tie.Need-put-words-requires
 put-words-requires c κs = search needs
@@ -46,10 +53,12 @@ write-words-spec =
     returns
     put-start-requires
     put-rest-requires
+    numbers-of-requires
     same-length
     returns-2
     put-start-requires-2
     put-rest-requires-2
+    numbers-of-requires-2
     same-length-2
     returns-3
     put-words-requires
