@@ -14,6 +14,7 @@ pub mod StringLaws
 mod Walks
 mod WordAnswers
 mod WordPuts
+mod WordRanges
 mod Words
 mod Writers
 pub mod WritingLaws

@@ -348,5 +348,13 @@ unfolding plainName
 high-name n low other =
     let above : (k : ℕ) → k + 1 ≤ 7 → n ≡ k → ⊥ = λ k h e. omega (arith, low, h, e) in
     let below : (k : ℕ) → k + 1 ≤ 7 → eqb n k ≡ false = λ k h. ne-eqb n k (above k h) in
-    sym (rw (below 0 (lit≤ tt), below 1 (lit≤ tt), below 2 (lit≤ tt), below 3 (lit≤ tt), below 4 (lit≤ tt), below 5 (lit≤ tt),
-    below 6 (lit≤ tt), ne-eqb n 7 other))
+    sym (rw (
+      below 0 (lit≤ tt),
+      below 1 (lit≤ tt),
+      below 2 (lit≤ tt),
+      below 3 (lit≤ tt),
+      below 4 (lit≤ tt),
+      below 5 (lit≤ tt),
+      below 6 (lit≤ tt),
+      ne-eqb n 7 other,
+    ))

@@ -1,8 +1,9 @@
 -- A whole command message given as words: names alone, and Locates to a time. Assumes nothing.
-use Prim.Native.Nat.{ℕ, _+_, _*_, _/_, _%_, _≤_}
+use Prim.Native.Nat.{ℕ, _+_, _*_, _/_, _%_, _≤_, _<_}
 use mathlib.Core.Path.{_≡_}
 use mathlib.Core.Bool.{cond, true}
 use mathlib.Core.List.{List, [], _∷_, map}
+use mathlib.Core.Logic.{_⊎_}
 use mathlib.Core.Option.{none}
 use lib.Dec.{eqb}
 use lib.ListN.{length}
@@ -80,3 +81,26 @@ pub record Usual (h m s f last marks : ℕ) : Type 0 where
   pub hours : h ≤ 23
   pub subframes : last ≤ 99
   pub valid : isValid (label (typeOf marks) h m s f) ≡ true
+
+-- The five bytes above the case, each below 128, and no more than two bits above them.
+pub record LowBytes (n : ℕ) : Type 0 where
+  pub most : n / 1125899906842624 ≡ 0
+  pub first : byteAt 256 n ≤ 127
+  pub second : byteAt 65536 n ≤ 127
+  pub third : byteAt 16777216 n ≤ 127
+  pub fourth : byteAt 4294967296 n ≤ 127
+  pub fifth : byteAt 1099511627776 n ≤ 127
+
+-- A time code whose counts are in range at 30 frames, with subframes in range and no mark but the rate.
+pub record InRange (w : ℕ) : Type 0 where
+  pub hours : byteAt 256 w ≤ 23
+  pub minutes : byteAt 65536 w ≤ 59
+  pub seconds : byteAt 16777216 w ≤ 59
+  pub frames : byteAt 4294967296 w ≤ 29
+  pub subframes : byteAt 1099511627776 w ≤ 99
+  pub rate : byteAt 281474976710656 w ≤ 3
+
+-- A label in range at 30 frames that its rate, given in bits, has: frames below 24 or 25, and at drop-frame no skipped number.
+pub record Kept (m s f rate : ℕ) : Type 0 where
+  pub slow : rate < 2 → f < 24 + rate
+  pub fast : 2 ≤ rate → (rate ≡ 3 → ⊥) → (m % 10 ≡ 0) ⊎ (2 ≤ s * 30 + f)

@@ -26,10 +26,12 @@ ghost use Rattle.mmc.specs.Item.{commandItem};
 ghost use Rattle.mmc.specs.Numbers.{numbersIn, writtenNumbers};
 ghost use Rattle.mmc.specs.Write.{writingOf, given, admitted, closedMessage, wholeMessage};
 ghost use Rattle.mmc.specs.Writings.{stringAnswer, stringLeft};
-ghost use Rattle.mmc.specs.Words.{markedCode, wordCode, wordCommand, wordItems, afterWords, closedOut, going, PutWhole, Usual};
+ghost use Rattle.mmc.specs.Words.{markedCode, byteAt, wordCode, wordCommand, wordItems, afterWords, closedOut, going, PutWhole, LowBytes, InRange, Kept};
 
 // The case of a Locate to a time.
 const LOCATE_TARGET: u64 = 11;
+// 104, 68, 68, 98 and 28 in their bytes: above 23 hours, 59 minutes, 59 seconds, 29 frames and 99 subframes they make 128 or more.
+const ABOVE_RANGE: u64 = 0x1C62_4444_6800;
 // The most commands of a message, each a byte or more.
 const MOST_COMMANDS: usize = 48;
 
@@ -141,41 +143,59 @@ fn is_tenth(minutes: u8) -> bool
     minutes % 10 == 0
 }
 
-// True only for a time code that is written as its counts are.
-fn is_usual(hours: u8, minutes: u8, seconds: u8, frames: u8, last: u8, marks: u8) -> bool
-    ensures { λ r. ⌜ (r ≡ true → Usual hours minutes seconds frames last marks) ⌝ }
+// True only where each of the five bytes above the lowest is below 128, and what is above them below 4.
+fn is_low(number: u64) -> bool
+    ensures { λ r. ⌜ (r ≡ true → LowBytes number) ⌝ }
 {
-    if marks > 3 {
+    if number / 0x4_0000_0000_0000 != 0 {
         return false;
     }
-    if hours > 23 {
+    if number / 0x8000 % 2 != 0 {
         return false;
     }
-    if minutes > 59 {
+    if number / 0x80_0000 % 2 != 0 {
         return false;
     }
-    if seconds > 59 {
+    if number / 0x8000_0000 % 2 != 0 {
         return false;
     }
-    if last > 99 {
+    if number / 0x80_0000_0000 % 2 != 0 {
         return false;
     }
+    number / 0x8000_0000_0000 % 2 == 0
+}
+
+// True only where counts, subframes and rate are in range: two sums of bits say it of all at once.
+fn is_in_range(word: u64) -> bool
+    ensures { λ r. ⌜ (r ≡ true → InRange word) ⌝ }
+{
+    if !is_low(word) {
+        return false;
+    }
+    is_low(word + ABOVE_RANGE)
+}
+
+// True only for a label in range that its rate has. What is rarely asked comes first: the compiler asks it last.
+fn is_kept(word: u64) -> bool
+    ensures { λ r. ⌜ (r ≡ true → Kept (byteAt 65536 word) (byteAt 16777216 word) (byteAt 4294967296 word) (byteAt 281474976710656 word)) ⌝ }
+{
+    let marks = (word / 0x1_0000_0000_0000 % 256) as u8;
     if marks < 2 {
+        let frames = (word / 0x1_0000_0000 % 256) as u8;
         return frames < 24 + marks;
     }
-    if frames > 29 {
-        return false;
-    }
-    if seconds > 0 {
-        return true;
-    }
-    if frames > 1 {
+    if is_tenth((word / 0x1_0000 % 256) as u8) {
         return true;
     }
     if marks == 3 {
         return true;
     }
-    is_tenth(minutes)
+    // The seconds, and the frames above them.
+    let in_minute = word / 0x100_0000 % 0x1_0000;
+    if in_minute / 512 != 0 {
+        return true;
+    }
+    in_minute % 256 != 0
 }
 
 // A Locate to a usual time that fits, and the position after it; any other is left, and the position stays.
@@ -188,15 +208,18 @@ fn put_locate(out: &mut [u8], at: usize, word: u64) -> usize
     if out.len() < next {
         return at;
     }
+    if !is_in_range(word) {
+        return at;
+    }
+    if !is_kept(word) {
+        return at;
+    }
     let hours = (word / 0x100 % 256) as u8;
     let minutes = (word / 0x1_0000 % 256) as u8;
     let seconds = (word / 0x100_0000 % 256) as u8;
     let frames = (word / 0x1_0000_0000 % 256) as u8;
     let last = (word / 0x100_0000_0000 % 256) as u8;
     let marks = (word / 0x1_0000_0000_0000 % 256) as u8;
-    if !is_usual(hours, minutes, seconds, frames, last, marks) {
-        return at;
-    }
     let bytes = [hours + marks * 32, minutes, seconds, frames, last];
     put_locate_bytes(out, at, bytes);
     next

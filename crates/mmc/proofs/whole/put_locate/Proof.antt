@@ -2,6 +2,7 @@ use native.Mathlib.Omega.{arith}
 use borrow.Author.Tests.{not-false}
 use Rattle.mmc.specs.Words.{nothing}
 use Rattle.mmc.proofs.WordPuts.{put-usual}
+use Rattle.mmc.proofs.WordRanges.{usual-of}
 use borrow.Author.Needs.{needs}
 use Rattle.mmc.proofs.whole.put_locate.Statement.{statement}
 use Rattle.mmc.proofs.whole.put_locate.Tie as tie
@@ -11,6 +12,18 @@ add-next c = search needs
 
 returns : tie.Need-returns
 returns c = (search needs, nothing)
+
+is-in-range-requires : tie.Need-is-in-range-requires
+is-in-range-requires c κs = search needs
+
+returns-2 : tie.Need-returns-2
+returns-2 c = (search needs, nothing)
+
+is-kept-requires : tie.Need-is-kept-requires
+is-kept-requires c κs = search needs
+
+returns-3 : tie.Need-returns-3
+returns-3 c = (search needs, nothing)
 
 cast-hours : tie.Need-cast-hours
 cast-hours c = search needs
@@ -30,17 +43,11 @@ cast-last c = search needs
 cast-marks : tie.Need-cast-marks
 cast-marks c = search needs
 
-is-usual-requires : tie.Need-is-usual-requires
-is-usual-requires c κs = search needs
-
-returns-2 : tie.Need-returns-2
-returns-2 c = (search needs, nothing)
-
 mul-t17 : tie.Need-mul-t17
-mul-t17 c = omega (arith, c .before .is-usual .ensures (not-false _ (c .if2 .left)) .rate)
+mul-t17 c = omega (arith, c .before .before .before .is-in-range .ensures (not-false _ (c .before .before .if2 .left)) .rate)
 
 add-t18 : tie.Need-add-t18
-add-t18 c = omega (arith, c .before .is-usual .ensures (not-false _ (c .if2 .left)) .rate, c .before .is-usual .ensures (not-false _ (c .if2 .left)) .hours)
+add-t18 c = omega (arith, c .before .before .before .is-in-range .ensures (not-false _ (c .before .before .if2 .left)) .rate, c .before .before .before .is-in-range .ensures (not-false _ (c .before .before .if2 .left)) .hours)
 
 put-locate-bytes-requires : tie.Need-put-locate-bytes-requires
 put-locate-bytes-requires c κs = search needs
@@ -48,8 +55,8 @@ put-locate-bytes-requires c κs = search needs
 same-length : tie.Need-same-length
 same-length c = search needs
 
-returns-3 : tie.Need-returns-3
-returns-3 c = (search needs, put-usual _ _ _ _ (c .before .before .before .before .before .before .before .before .pre .1) (c .before .before .before .before .before .is-usual .ensures (not-false _ (c .before .before .before .before .if2 .left))) (c .before .before .put-locate-bytes .ensures))
+returns-4 : tie.Need-returns-4
+returns-4 c = (search needs, put-usual _ _ _ _ (c .before .before .before .before .before .before .before .before .before .before .pre .1) (usual-of _ (c .before .before .before .before .before .before .before .is-in-range .ensures (not-false _ (c .before .before .before .before .before .before .if2 .left))) (c .before .before .before .before .before .is-kept .ensures (not-false _ (c .before .before .before .before .if3 .left)))) (c .before .before .put-locate-bytes .ensures))
 
 pub put-locate-spec : {M : Type 1} → statement M
 put-locate-spec =
@@ -57,16 +64,18 @@ put-locate-spec =
     (tie.spec
     add-next
     returns
+    is-in-range-requires
+    returns-2
+    is-kept-requires
+    returns-3
     cast-hours
     cast-minutes
     cast-seconds
     cast-frames
     cast-last
     cast-marks
-    is-usual-requires
-    returns-2
     mul-t17
     add-t18
     put-locate-bytes-requires
     same-length
-    returns-3)
+    returns-4)
