@@ -237,7 +237,8 @@ impl StandardTimeCode {
         u64::from(counts) << 8 | u64::from(last) << 40 | rate << 48 | u64::from(ffi::LOCATE_TARGET)
     }
 
-    /// The time code of a Locate that was read: its five bytes above the case (pp. 8, 9).
+    /// The time code of a Locate that was read: its five bytes above the case (pp. 8, 9). It is not inlined: a caller's loop would
+    /// move an item byte by byte.
     #[inline(never)]
     fn of_word(next: ffi::NextWord) -> Self {
         let bytes = (next.word >> 8) as u32;
@@ -435,8 +436,8 @@ impl<'a> MmcCommand<'a> {
         }
     }
 
-    /// A command of another case, whose data ends at the next place of `body`, or a refusal. It is not inlined, so that the
-    /// loop of a caller keeps an item where it was put.
+    /// A command of another case, whose data ends at the next place of `body`; else a refusal, or `None` for the end. It is not
+    /// inlined, and its type is not that of an item: so a caller's loop makes the other items in registers.
     #[inline(never)]
     fn of(next: ffi::NextWord, body: &'a [u8]) -> Result<Self, Option<SysexError>> {
         Ok(match next.case() {
