@@ -128,7 +128,8 @@ pub fn next_byte(g: &mut [u8; 8]) -> FlatByte
 fn move_on(g: &mut [u8; 8], direction: Direction)
     ensures { λ _. ⌜ generatorIn (now (g .exit)) ≡ movedTo (generatorIn (now (g .entry))) (addFrames (generatorIn (now (g .entry)) .time) (move direction)) ⌝ }
 {
-    let time = flat_time(direction.next_time(time_in(*g)));
+    has_eight(*g);
+    let time = flat_time(direction.next_time(time_in(g)));
     g[0] = time.hours;
     g[1] = time.minutes;
     g[2] = time.seconds;
@@ -141,7 +142,8 @@ fn send(g: &mut [u8; 8], piece: u8) -> FlatByte
     requires { ⌜ piece ≤ 7 ⌝ }
     ensures { λ r. ⌜ (r ≡ flatByte (gives (getD (pieces (generatorIn (now (g .entry)) .time)) piece 0))) × (generatorIn (now (g .exit)) ≡ sentBy (generatorIn (now (g .entry))) piece) ⌝ }
 {
-    let time = time_in(*g);
+    has_eight(*g);
+    let time = time_in(g);
     g[LAST] = piece;
     FlatByte {
         refusal: 0,
@@ -149,8 +151,14 @@ fn send(g: &mut [u8; 8], piece: u8) -> FlatByte
     }
 }
 
-fn time_in(g: [u8; 8]) -> MtcTime
-    ensures { λ r. ⌜ (r ≡ generatorIn g .time) × (length g ≡ 8) ⌝ }
+// For the proof alone: an array that is lent is not known by its length. It compiles to nothing.
+fn has_eight(bytes: [u8; 8])
+    ensures { λ _. ⌜ length bytes ≡ 8 ⌝ }
+{}
+
+// Only the label's bytes are read: a read of all eight would wait for the store of the last piece.
+fn time_in(g: &[u8; 8]) -> MtcTime
+    ensures { λ r. ⌜ r ≡ generatorIn (now (g .entry)) .time ⌝ }
 {
     MtcTime {
         hours: g[0],

@@ -6,6 +6,9 @@ use borrow.Author.Needs.{needs}
 use Rattle.flat_mtc.proofs.generator.move_on.Statement.{statement}
 use Rattle.flat_mtc.proofs.generator.move_on.Tie as tie
 
+has-eight-requires : tie.Need-has-eight-requires
+has-eight-requires c κs = search needs
+
 time-in-requires : tie.Need-time-in-requires
 time-in-requires c κs = search needs
 
@@ -32,12 +35,13 @@ element-write-g-5 c = search needs
 
 returns : tie.Need-returns
 returns c =
-    moved-in _ _ _ (c .before .before .time-in .ensures .1) (c .flat-time .ensures ∙ rw (c .before .next-time .ensures, c .before .before .time-in .ensures .0))
+    moved-in _ _ _ (c .before .before .before .before .has-eight .ensures) (c .flat-time .ensures ∙ rw (c .before .next-time .ensures, c .before .before .time-in .ensures))
 
 pub move-on-spec : {M : Type 1} → statement M
 move-on-spec =
     tie.close
     (tie.spec
+    has-eight-requires
     time-in-requires
     next-time-requires
     flat-time-requires

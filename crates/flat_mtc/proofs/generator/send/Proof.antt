@@ -7,6 +7,9 @@ use borrow.Author.Needs.{needs}
 use Rattle.flat_mtc.proofs.generator.send.Statement.{statement}
 use Rattle.flat_mtc.proofs.generator.send.Tie as tie
 
+has-eight-requires : tie.Need-has-eight-requires
+has-eight-requires c κs = search needs
+
 time-in-requires : tie.Need-time-in-requires
 time-in-requires c κs = search needs
 
@@ -19,7 +22,7 @@ piece-requires c κs = search needs
 returns : tie.Need-returns
 unfolding flatByte
 returns c =
-    (rw (c .piece .ensures, c .before .time-in .ensures .0), sent-in _ _ (c .before .time-in .ensures .1) (c .before .before .before .pre))
+    (rw (c .piece .ensures, c .before .time-in .ensures), sent-in _ _ (c .before .before .before .has-eight .ensures) (c .before .before .before .before .before .pre))
 
 pub send-spec : {M : Type 1} → statement M
-send-spec = tie.close (tie.spec time-in-requires element-write-g piece-requires returns)
+send-spec = tie.close (tie.spec has-eight-requires time-in-requires element-write-g piece-requires returns)

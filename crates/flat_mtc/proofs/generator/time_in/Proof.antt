@@ -5,37 +5,36 @@ use borrow.Author.Needs.{needs}
 use Rattle.flat_mtc.proofs.generator.time_in.Statement.{statement}
 use Rattle.flat_mtc.proofs.generator.time_in.Tie as tie
 
-array-read-t5 : tie.Need-array-read-t5
-array-read-t5 c = search needs
+element-copy-out-t4 : tie.Need-element-copy-out-t4
+element-copy-out-t4 c = search needs
 
-array-read-t8 : tie.Need-array-read-t8
-array-read-t8 c = search needs
+element-copy-out-t7 : tie.Need-element-copy-out-t7
+element-copy-out-t7 c = search needs
 
-array-read-t11 : tie.Need-array-read-t11
-array-read-t11 c = search needs
+element-copy-out-t10 : tie.Need-element-copy-out-t10
+element-copy-out-t10 c = search needs
 
-array-read-t14 : tie.Need-array-read-t14
-array-read-t14 c = search needs
+element-copy-out-t13 : tie.Need-element-copy-out-t13
+element-copy-out-t13 c = search needs
 
-array-read-from-bits : tie.Need-array-read-from-bits
-array-read-from-bits c = search needs
+element-copy-out-from-bits : tie.Need-element-copy-out-from-bits
+element-copy-out-from-bits c = search needs
 
 from-bits-requires : tie.Need-from-bits-requires
 from-bits-requires c κs = search needs
 
 returns : tie.Need-returns
 unfolding generatorIn timeAt
-returns c =
-    (rw (c .from-bits .ensures), search needs)
+returns c = rw (c .from-bits .ensures)
 
 pub time-in-spec : {M : Type 1} → statement M
 time-in-spec =
     tie.close
     (tie.spec
-    array-read-t5
-    array-read-t8
-    array-read-t11
-    array-read-t14
-    array-read-from-bits
+    element-copy-out-t4
+    element-copy-out-t7
+    element-copy-out-t10
+    element-copy-out-t13
+    element-copy-out-from-bits
     from-bits-requires
     returns)
