@@ -12,7 +12,8 @@ use crate::inputs::{self, BODIES, BODY, LIST, LOCATE_PLAY, ROOM, ROUND};
 /// Every case, in the order of the tables.
 pub fn all() -> Vec<Case> {
     vec![
-        receive(),
+        receive("receive", inputs::stream(ROUND)),
+        receive("receive_back", inputs::stream_back(ROUND)),
         receive_list(),
         next_byte(),
         to_frame_count(),
@@ -51,10 +52,10 @@ fn number(time: MtcTime) -> u64 {
     u64::from(time.frames) + u64::from(time.seconds) * 32 + u64::from(time.hours) * 4096
 }
 
-fn receive() -> Case {
-    let bytes: Box<[u8; ROUND]> = inputs::stream(ROUND).try_into().expect("a whole round");
+fn receive(name: &'static str, bytes: Vec<u8>) -> Case {
+    let bytes: Box<[u8; ROUND]> = bytes.try_into().expect("a whole round");
     let mut reader = MtcReader::new();
-    Case::new("receive", move |turn| {
+    Case::new(name, move |turn| {
         let byte = black_box(bytes[turn % ROUND]);
         let event = black_box(boundary::receive(black_box(&mut reader), byte));
         u64::from(event.piece) + event.sequence.map_or(0, |s| number(s.current))

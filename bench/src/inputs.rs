@@ -32,6 +32,15 @@ impl Rng {
 
 /// The data bytes of a running generator at 30 drop-frame, from 00:59:30:00.
 pub fn stream(length: usize) -> Vec<u8> {
+    running(length, Direction::Forward)
+}
+
+/// The same in reverse.
+pub fn stream_back(length: usize) -> Vec<u8> {
+    running(length, Direction::Reverse)
+}
+
+fn running(length: usize, direction: Direction) -> Vec<u8> {
     let start = MtcTime {
         hours: 0,
         minutes: 59,
@@ -39,7 +48,7 @@ pub fn stream(length: usize) -> Vec<u8> {
         frames: 0,
         rate: TimeCodeType::Fps30Drop,
     };
-    let mut generator = MtcGenerator::new(start, Direction::Forward);
+    let mut generator = MtcGenerator::new(start, direction);
     (0..length).filter_map(|_| generator.next_byte()).collect()
 }
 

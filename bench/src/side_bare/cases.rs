@@ -23,7 +23,8 @@ pub const COMMANDS: Universal = Universal {
 /// Every case, in the order of the tables.
 pub fn all() -> Vec<Case> {
     vec![
-        receive(),
+        receive("receive", inputs::stream(ROUND)),
+        receive("receive_back", inputs::stream_back(ROUND)),
         receive_list(),
         next_byte(),
         to_frame_count(),
@@ -56,10 +57,10 @@ fn current(event: u64) -> u64 {
     (event >> 40) % 32 + (event >> 46) % 64 * 32 + (event >> 58) * 4096
 }
 
-fn receive() -> Case {
-    let bytes: Box<[u8; ROUND]> = inputs::stream(ROUND).try_into().expect("a whole round");
+fn receive(name: &'static str, bytes: Vec<u8>) -> Case {
+    let bytes: Box<[u8; ROUND]> = bytes.try_into().expect("a whole round");
     let mut reader = boundary::fimbrast_reader_new();
-    Case::new("receive", move |turn| {
+    Case::new(name, move |turn| {
         let byte = black_box(bytes[turn % ROUND]);
         let event = black_box(boundary::receive(black_box(&mut reader), byte));
         event % 8 + current(event)
