@@ -2,7 +2,7 @@
 use Prim.Native.Nat.{ℕ, zero, suc, _+_, _-_, _*_, _/_, _%_, _≤_, _<_}
 use mathlib.Core.Bool.{true, cond}
 use mathlib.Core.List.{List, [], _∷_}
-use mathlib.Core.Path.{_≡_, refl, sym, subst, ap, _∙_}
+use mathlib.Core.Path.{_≡_, refl, sym, ap, _∙_}
 use native.Mathlib.Omega.{arith}
 use borrow.Author.Tests.{ne-eqb}
 use lib.Dec.{eqb, lit≤}
@@ -10,14 +10,15 @@ use lib.ListN.{length, getD, set}
 use Rattle.mtc.proofs.Laws.{next-piece}
 use Rattle.mtc.specs.Generator.{after}
 use Rattle.mtc.specs.QuarterFrame.{pieceOf, valueOf}
-use Rattle.mtc.specs.Reader.{ordered, numberAfter, stored, eventWith, afterByte, eventOf}
+use Rattle.mtc.specs.Reader.{ordered, numberAfter, readerBy, reportBy, stored, completed, sequenceOf, eventWith, afterByte, eventOf}
 use Rattle.mtc.specs.declared.generator.Direction.the-variants.{Reverse}
 use Rattle.mtc.specs.declared.generator.MaybePiece.the-variants.{Piece}
 use Rattle.mtc.specs.declared.reader.MaybeDirection.the-variants.{Going}
-use Rattle.mtc.specs.declared.reader.MaybeSequence.the-variants.{NoSequence}
+use Rattle.mtc.specs.declared.reader.MaybeSequence.the-variants.{NoSequence, Sequence}
+use Rattle.mtc.specs.declared.reader.MtcReader.{MtcReader}
 use Rattle.flat_mtc.specs.Generator.{directionAt}
 use Rattle.flat_mtc.specs.Reader.{wayAt, digits, around, lastAt, readerAt, readerIn, flatEvent}
-use Rattle.flat_mtc.proofs.Words.{sound-at, count-is, next-is, turn-is, way-is, running-is, first-is, as-low, word-digits, low, last-is, with-piece}
+use Rattle.flat_mtc.proofs.Words.{sound-at, endNext, Held, holds, word-digits, low, last-is, with-piece, control-put}
 
 -- ---- the nibbles
 
@@ -40,6 +41,14 @@ back-digits n v hn hv =
     spread =
         joined n (n % 16777216) (n % 16) (n / 16 % 16) (n / 256 % 16) (n / 4096 % 16) (n / 65536 % 16) (n / 1048576 % 16) (n / 268435456 % 16) (n / 16) (n / 256) (n / 4096) (n / 65536) (n / 1048576) (n / 16777216) (n / 268435456) v
         (omega arith) (omega arith) (omega arith) (omega arith) (omega arith) (omega arith) (omega arith) (omega arith)
+
+-- After piece 0, whose nibble stands highest, they are brought into order.
+pub in-place-back : (n : ℕ) → n < 4294967296 → digits (n % 268435456 * 16 + n / 268435456) ≡ around (8 - endNext Reverse) (digits n)
+unfolding around digits
+in-place-back n h = ap digits spread ∙ back-digits n (n / 16777216 % 16) h (low (n / 16777216))
+  where
+    spread : n % 268435456 * 16 + n / 268435456 ≡ n % 16777216 * 16 + n / 268435456 + n / 16777216 % 16 * 268435456
+    spread = omega arith
 
 -- Turned by one the other way, with the piece's own nibble put in.
 turn : (a b c d e f g h v k : ℕ) → k ≤ 7
@@ -65,36 +74,11 @@ turned n v k hn hv hk =
 -- ---- the control
 
 -- With this count and this next piece forward, on the way back from piece 7.
-record Back (c count next : ℕ) : Type 0 where
-  count-at : c % 8 ≡ count
-  next-at : c / 8 % 16 ≡ next
-  turn-at : c / 8 % 8 ≡ next
-  way : c / 128 % 4 ≡ 1
-  running : c / 512 % 2 ≡ 0
-  first : c / 1024 % 8 ≡ 7
+abbrev Back : ℕ → ℕ → ℕ → Type 0
+Back c count next = Held c count next 1 7
 
 back : (c a b : ℕ) → a ≤ 7 → b ≤ 7 → c % 65536 ≡ 7296 + (a + b * 8) → Back c a b
-back c a b ha hb e = subst (λ (x : ℕ). Back x a b) apart fields
-  where
-    q : ℕ
-    q = c / 65536
-
-    apart : a + b * 8 + 1 * 128 + 0 * 512 + 7 * 1024 + q * 65536 ≡ c
-    apart = omega arith
-
-    within : b ≤ 8
-    within = omega arith
-
-    fields : Back (a + b * 8 + 1 * 128 + 0 * 512 + 7 * 1024 + q * 65536) a b
-    fields =
-        record {
-          count-at = count-is a b 1 0 7 q ha within (lit≤ tt) (lit≤ tt) (lit≤ tt);
-          next-at = next-is a b 1 0 7 q ha within (lit≤ tt) (lit≤ tt) (lit≤ tt);
-          turn-at = turn-is a b 1 0 7 q ha within (lit≤ tt) (lit≤ tt) (lit≤ tt) ∙ as-low b hb;
-          way = way-is a b 1 0 7 q ha within (lit≤ tt) (lit≤ tt) (lit≤ tt);
-          running = running-is a b 1 0 7 q ha within (lit≤ tt) (lit≤ tt) (lit≤ tt);
-          first = first-is a b 1 0 7 q ha within (lit≤ tt) (lit≤ tt) (lit≤ tt);
-        }
+back c a b ha hb e = holds c a b 1 7 ha hb (lit≤ tt) (lit≤ tt) (omega arith)
 
 -- One count and next piece in place of another, with the same marks.
 exchanged : (c a b : ℕ) → c % 65536 ≡ 7296 + a → a ≤ 63 → b ≤ 63 → ((c - a + b) % 65536 ≡ 7296 + b) × ((c - a + b) / 65536 ≡ c / 65536)
@@ -112,7 +96,7 @@ held (suc (suc (suc (suc (suc (suc zero)))))) h = refl
 held (suc (suc (suc (suc (suc (suc (suc zero))))))) h = refl
 held (suc (suc (suc (suc (suc (suc (suc (suc k)))))))) h = absurd (omega arith)
 
-left : (k : ℕ) → k ≤ 7 → (k ≡ 0 → ⊥) → (16 + k * 7) % 64 ≡ (8 - k) + (k + 1) % 8 * 8
+left : (k : ℕ) → k ≤ 7 → (k ≡ 0 → ⊥) → (16 + k * 7) % 64 ≡ (8 - k) % 8 + (k + 1) % 8 * 8
 left zero h z = absurd (z refl)
 left (suc zero) h z = refl
 left (suc (suc zero)) h z = refl
@@ -149,16 +133,12 @@ reverse : wayAt 1 ≡ Going Reverse
 unfolding wayAt directionAt
 reverse = refl
 
-same : (k : ℕ) → (8 - k) ≤ 7 → 8 - k ≡ (8 - k) % 8
-same k h = omega arith
-
-module _ (n c x p t k v : ℕ) (hn : n < 4294967296) (hv : v ≤ 15) (hk : k ≤ 7) (b : Back c (7 - k) ((k + 2) % 8)) (a : Back x (8 - k) ((k + 1) % 8))
-    (h8 : 8 - k ≤ 7) (u : x / 65536 ≡ c / 65536) where
+module _ (n c x p t k v : ℕ) (hn : n < 4294967296) (hv : v ≤ 15) (hk : k ≤ 7) (b : Back c (7 - k) ((k + 2) % 8))
+    (a : Back x ((8 - k) % 8) ((k + 1) % 8)) (u : x / 65536 ≡ c / 65536) where
   stored-is : readerAt (n % 16777216 * 16 + n / 268435456 + v * 268435456) x p t ≡ stored (readerAt n c p t) (ordered true (Going Reverse) true) (8 - k) k v
   unfolding readerAt
   stored-is =
-      rw (a .count-at, a .next-at, a .turn-at, a .way, a .running, a .first, u, b .turn-at, b .first, turned n v k hn hv hk, last-is k hk, reverse, began k hk)
-      (ap (λ (m : ℕ). record { nibbles = set (around (8 - (k + 2) % 8) (digits n)) k v; count = m; first = 7; last = Piece k; direction = Going Reverse; locked = readerAt n c p t .locked; running = true; previous = readerAt n c p t .previous; time = readerAt n c p t .time }) (same k h8))
+      rw (a .count-at, a .next-at, a .turn-at, a .way-at, a .running-at, a .first-at, u, b .turn-at, b .first-at, turned n v k hn hv hk, last-is k hk, reverse, began k hk)
 
 two-on : (k : ℕ) → k ≤ 7 → (k + 2) % 8 ≡ ((k + 1) % 8 + 1) % 8
 two-on k h = omega arith
@@ -172,35 +152,79 @@ not-none k h x = omega arith
 not-last : (k : ℕ) → k ≤ 7 → (k ≡ 0 → ⊥) → 8 - k ≡ 8 → ⊥
 not-last k h z x = z (omega arith)
 
+module _ (n c p t b : ℕ) (e : c % 65536 ≡ 7296 + (23 + pieceOf b * 7) % 64) where
+  abbrev reader : MtcReader
+  reader = readerAt n c p t
+
+  small-piece : pieceOf b ≤ 7
+  small-piece = omega arith
+
+  small-value : valueOf b ≤ 15
+  small-value = omega arith
+
+  here : Back c (7 - pieceOf b) ((pieceOf b + 2) % 8)
+  here =
+      back c (7 - pieceOf b) ((pieceOf b + 2) % 8) (omega arith) (omega arith)
+      (e ∙ ap (λ (m : ℕ). 7296 + m) (held (pieceOf b) small-piece))
+
+  told : (afterByte reader b ≡ readerBy reader (ordered true (Going Reverse) true) (8 - pieceOf b) (pieceOf b) (valueOf b))
+      × (eventOf reader b ≡ eventWith (pieceOf b) (reportBy reader (ordered true (Going Reverse) true) (8 - pieceOf b) (pieceOf b) (valueOf b)))
+  unfolding readerAt
+  told =
+      next-piece reader (sound-at n c p t) b ((pieceOf b + 1) % 8) (8 - pieceOf b) Reverse
+      (ap lastAt (here .next-at ∙ two-on (pieceOf b) small-piece) ∙ last-is ((pieceOf b + 1) % 8) (omega arith))
+      (ap wayAt (here .way-at) ∙ reverse) (comes-after (pieceOf b) small-piece)
+      (ap (λ (j : ℕ). numberAfter j (eqb (pieceOf b) 7)) (here .count-at) ∙ number-is (pieceOf b) small-piece)
+
 -- A piece before the last one.
 pub goes-back : (ws : List ℕ) (b x y : ℕ) → length ws ≡ 4 → getD ws 1 0 % 65536 ≡ 7296 + (23 + pieceOf b * 7) % 64 → (pieceOf b ≡ 0 → ⊥)
     → getD ws 0 0 < 4294967296 → x ≡ getD ws 0 0 % 16777216 * 16 + getD ws 0 0 / 268435456 + valueOf b * 268435456
     → y ≡ getD ws 1 0 - (23 + pieceOf b * 7) % 64 + (16 + pieceOf b * 7) % 64
     → (flatEvent (eventWith (pieceOf b) NoSequence) ≡ flatEvent (eventOf (readerIn ws) b)) × (readerIn (set (set ws 0 x) 1 y) ≡ afterByte (readerIn ws) b)
-unfolding readerIn readerAt
+unfolding readerIn
 goes-back ws b x y l e z hn ex ey =
     let n : ℕ = getD ws 0 0 in
     let c : ℕ = getD ws 1 0 in
     let p : ℕ = getD ws 2 0 in
     let t : ℕ = getD ws 3 0 in
     let k : ℕ = pieceOf b in
-    let hk : k ≤ 7 = omega arith in
-    let hv : valueOf b ≤ 15 = omega arith in
-    let h7 : 7 - k ≤ 7 = omega arith in
-    let h8 : 8 - k ≤ 7 = omega (arith, z) in
-    let i₀ : (23 + k * 7) % 64 ≡ (7 - k) + (k + 2) % 8 * 8 = held k hk in
-    let i₁ : (16 + k * 7) % 64 ≡ (8 - k) + (k + 1) % 8 * 8 = left k hk z in
-    let e₀ : c % 65536 ≡ 7296 + ((7 - k) + (k + 2) % 8 * 8) = e ∙ ap (λ (m : ℕ). 7296 + m) i₀ in
+    let hk : k ≤ 7 = small-piece n c p t b e in
     let o = exchanged c ((23 + k * 7) % 64) ((16 + k * 7) % 64) e (omega arith) (omega arith) in
-    let e₁ : y % 65536 ≡ 7296 + ((8 - k) + (k + 1) % 8 * 8) = ap (λ (m : ℕ). m % 65536) ey ∙ o .0 ∙ ap (λ (m : ℕ). 7296 + m) i₁ in
+    let e₁ : y % 65536 ≡ 7296 + ((8 - k) % 8 + (k + 1) % 8 * 8) = ap (λ (m : ℕ). m % 65536) ey ∙ o .0 ∙ ap (λ (m : ℕ). 7296 + m) (left k hk z) in
     let u : y / 65536 ≡ c / 65536 = ap (λ (m : ℕ). m / 65536) ey ∙ o .1 in
-    let m₀ : Back c (7 - k) ((k + 2) % 8) = back c (7 - k) ((k + 2) % 8) h7 (omega arith) e₀ in
-    let m₁ : Back y (8 - k) ((k + 1) % 8) = back y (8 - k) ((k + 1) % 8) h8 (omega arith) e₁ in
-    let s = next-piece (readerAt n c p t) (sound-at n c p t) b ((k + 1) % 8) (8 - k) Reverse
-    (ap lastAt (m₀ .next-at ∙ two-on k hk) ∙ last-is ((k + 1) % 8) (omega arith)) (ap wayAt (m₀ .way) ∙ reverse) (comes-after k hk)
-    (ap (λ (j : ℕ). numberAfter j (eqb k 7)) (m₀ .count-at) ∙ number-is k hk) in
+    let m₁ : Back y ((8 - k) % 8) ((k + 1) % 8) = back y ((8 - k) % 8) ((k + 1) % 8) (omega arith) (omega arith) e₁ in
+    let s = told n c p t b e in
     let i : readerIn (set (set ws 0 x) 1 y) ≡ stored (readerIn ws) (ordered true (Going Reverse) true) (8 - k) k (valueOf b)
-    = with-piece ws x y l ∙ rw ex (stored-is n c y p t k (valueOf b) hn hv hk m₀ m₁ h8 u) in (
+    = with-piece ws x y l ∙ rw ex (stored-is n c y p t k (valueOf b) hn (small-value n c p t b e) hk (here n c p t b e) m₁ u) in (
       ap flatEvent (sym (s .1 ∙ rw (ne-eqb (8 - k) 8 (not-last k hk z)))),
       i ∙ sym (s .0 ∙ rw (ne-eqb (8 - k) 0 (not-none k hk), ne-eqb (8 - k) 8 (not-last k hk z))),
+    )
+
+-- The control after the last one.
+pub held-back : (c : ℕ) → c % 65536 ≡ 7319 → 15 ≤ c
+held-back c e = omega arith
+
+pub round-back : (ws : List ℕ) (x : ℕ) → length ws ≡ 4 → getD ws 1 0 % 65536 ≡ 7319
+    → getD (set (set ws 0 x) 1 (getD ws 1 0 - 15)) 1 0 % 65536 ≡ 7304
+round-back ws x l e = rw (control-put ws x (getD ws 1 0 - 15) l) (omega arith)
+
+-- The last one.
+pub ends-back : (ws : List ℕ) (b x y f : ℕ) (q : MtcReader) → length ws ≡ 4 → getD ws 1 0 % 65536 ≡ 7319 → pieceOf b ≡ 0
+    → getD ws 0 0 < 4294967296 → x ≡ getD ws 0 0 % 16777216 * 16 + getD ws 0 0 / 268435456 + valueOf b * 268435456 → y ≡ getD ws 1 0 - 15
+    → (f ≡ flatEvent (eventWith 0 (Sequence (sequenceOf (readerIn (set (set ws 0 x) 1 y)))))) × (q ≡ completed (readerIn (set (set ws 0 x) 1 y)))
+    → (f ≡ flatEvent (eventOf (readerIn ws) b)) × (q ≡ afterByte (readerIn ws) b)
+unfolding readerIn
+ends-back ws b x y f q l e z hn ex ey h =
+    let n : ℕ = getD ws 0 0 in
+    let c : ℕ = getD ws 1 0 in
+    let p : ℕ = getD ws 2 0 in
+    let t : ℕ = getD ws 3 0 in
+    let e′ : c % 65536 ≡ 7296 + (23 + pieceOf b * 7) % 64 = e ∙ ap (λ (k : ℕ). 7296 + (23 + k * 7) % 64) (sym z) in
+    let s = told n c p t b e′ in
+    let e₁ : (c - 15) % 65536 ≡ 7296 + (0 + 1 * 8) = omega arith in
+    let u : (c - 15) / 65536 ≡ c / 65536 = omega arith in
+    let i : readerIn (set (set ws 0 x) 1 y) ≡ stored (readerIn ws) (ordered true (Going Reverse) true) 8 0 (valueOf b)
+    = with-piece ws x y l ∙ rw (ex, ey) (stored-is n c (c - 15) p t 0 (valueOf b) hn (small-value n c p t b e′) (lit≤ tt) (back c 7 2 (lit≤ tt) (lit≤ tt) e) (back (c - 15) 0 1 (lit≤ tt) (lit≤ tt) e₁) u) in (
+      h .0 ∙ ap (λ (r : MtcReader). flatEvent (eventWith 0 (Sequence (sequenceOf r)))) i ∙ ap flatEvent (sym (s .1 ∙ rw z)),
+      h .1 ∙ ap completed i ∙ sym (s .0 ∙ rw z),
     )

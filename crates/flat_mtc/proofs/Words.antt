@@ -13,6 +13,7 @@ use Rattle.mtc.specs.Generator.{first, after}
 use Rattle.mtc.specs.QuarterFrame.{pieceOf, valueOf}
 use Rattle.mtc.specs.Reader.{fresh, informed, afterFullMessage, isSound, pieceFits, ordered, numberAfter, readerBy, reportBy, stored, completed, eventWith, reported, sequenceOf, rawOf, afterByte, eventOf}
 use Rattle.labels.specs.Time.{bitsOf, typeOf, rawTime}
+use Rattle.mtc.specs.declared.generator.Direction.{Direction}
 use Rattle.mtc.specs.declared.generator.Direction.the-variants.{Forward, Reverse}
 use Rattle.mtc.specs.declared.generator.MaybePiece.{MaybePiece}
 use Rattle.mtc.specs.declared.generator.MaybePiece.the-variants.{NoPiece, Piece}
@@ -27,7 +28,7 @@ use Rattle.labels.specs.declared.time.MtcTime.{MtcTime}
 use Rattle.labels.specs.declared.time.TimeCodeType.{TimeCodeType}
 use Rattle.labels.specs.declared.time.TimeCodeType.the-variants.{Fps24, Fps25, Fps30Drop, Fps30}
 use Rattle.flat_mtc.specs.Generator.{directionAt, flatDirection, isSet}
-use Rattle.flat_mtc.specs.Reader.{wayAt, flatWay, bit, digits, nibblesIn, around, lastAt, nextOf, labelIn, timeIn, timeMark, readerAt, readerIn, flatEvent}
+use Rattle.flat_mtc.specs.Reader.{wayAt, flatWay, bit, digits, nibblesIn, around, lastAt, nextOf, labelIn, timeIn, timeMark, readerAt, readerIn, flatEvent, heldAfter}
 
 -- ---- any words stand for a sound reader
 
@@ -370,7 +371,7 @@ unfolding readerIn
 with-labels ws x y z =
     four (λ (l : List ℕ). readerIn (set (set (set l 1 x) 2 y) 3 z) ≡ readerAt (getD l 0 0) x y z) (λ a b c d. refl) ws
 
-control-put : (ws : List ℕ) (x y : ℕ) → length ws ≡ 4 → getD (set (set ws 0 x) 1 y) 1 0 ≡ y
+pub control-put : (ws : List ℕ) (x y : ℕ) → length ws ≡ 4 → getD (set (set ws 0 x) 1 y) 1 0 ≡ y
 control-put ws x y = four (λ (l : List ℕ). getD (set (set l 0 x) 1 y) 1 0 ≡ y) (λ a b c d. refl) ws
 
 -- ---- the next piece of a sequence that runs forward
@@ -421,40 +422,44 @@ turned n v k hn hv hk =
     rw (put-0 n v hn hv, put-1 n v hn hv, put-2 n v hn hv, put-3 n v hn hv, put-4 n v hn hv, put-5 n v hn hv, put-6 n v hn hv, put-7 n v hn hv)
     (turn (n % 16) (n / 16 % 16) (n / 256 % 16) (n / 4096 % 16) (n / 65536 % 16) (n / 1048576 % 16) (n / 16777216 % 16) (n / 268435456 % 16) v k hk)
 
--- What the control says before piece k.
-record Before (c k : ℕ) : Type 0 where
-  count : c % 8 ≡ k
-  next : c / 8 % 16 ≡ k
-  turn : c / 8 % 8 ≡ k
-  way : c / 128 % 4 ≡ 0
-  running : c / 512 % 2 ≡ 0
-  first : c / 1024 % 8 ≡ 0
+-- What the control says of a sequence that runs: count, next piece, direction, first piece.
+pub record Held (c count next way first : ℕ) : Type 0 where
+  pub count-at : c % 8 ≡ count
+  pub next-at : c / 8 % 16 ≡ next
+  pub turn-at : c / 8 % 8 ≡ next
+  pub way-at : c / 128 % 4 ≡ way
+  pub running-at : c / 512 % 2 ≡ 0
+  pub first-at : c / 1024 % 8 ≡ first
 
-before : (c k : ℕ) → k ≤ 7 → c % 65536 ≡ k * 9 → Before c k
-before c k h e = subst (λ (x : ℕ). Before x k) apart fields
+pub holds : (c a b w f : ℕ) → a ≤ 7 → b ≤ 7 → w ≤ 3 → f ≤ 7 → c % 65536 ≡ a + b * 8 + w * 128 + f * 1024 → Held c a b w f
+holds c a b w f ha hb hw hf e = subst (λ (x : ℕ). Held x a b w f) apart fields
   where
     q : ℕ
     q = c / 65536
 
-    apart : k + k * 8 + 0 * 128 + 0 * 512 + 0 * 1024 + q * 65536 ≡ c
+    apart : a + b * 8 + w * 128 + 0 * 512 + f * 1024 + q * 65536 ≡ c
     apart = omega arith
 
-    within : k ≤ 8
+    within : b ≤ 8
     within = omega arith
 
-    none : 0 ≤ 7
-    none = lit≤ tt
-
-    fields : Before (k + k * 8 + 0 * 128 + 0 * 512 + 0 * 1024 + q * 65536) k
+    fields : Held (a + b * 8 + w * 128 + 0 * 512 + f * 1024 + q * 65536) a b w f
     fields =
         record {
-          count = count-is k k 0 0 0 q h within (lit≤ tt) (lit≤ tt) none;
-          next = next-is k k 0 0 0 q h within (lit≤ tt) (lit≤ tt) none;
-          turn = turn-is k k 0 0 0 q h within (lit≤ tt) (lit≤ tt) none ∙ as-low k h;
-          way = way-is k k 0 0 0 q h within (lit≤ tt) (lit≤ tt) none;
-          running = running-is k k 0 0 0 q h within (lit≤ tt) (lit≤ tt) none;
-          first = first-is k k 0 0 0 q h within (lit≤ tt) (lit≤ tt) none;
+          count-at = count-is a b w 0 f q ha within hw (lit≤ tt) hf;
+          next-at = next-is a b w 0 f q ha within hw (lit≤ tt) hf;
+          turn-at = turn-is a b w 0 f q ha within hw (lit≤ tt) hf ∙ as-low b hb;
+          way-at = way-is a b w 0 f q ha within hw (lit≤ tt) hf;
+          running-at = running-is a b w 0 f q ha within hw (lit≤ tt) hf;
+          first-at = first-is a b w 0 f q ha within hw (lit≤ tt) hf;
         }
+
+-- Before piece k of one that runs forward from piece 0.
+abbrev Before : ℕ → ℕ → Type 0
+Before c k = Held c k k 0 0
+
+before : (c k : ℕ) → k ≤ 7 → c % 65536 ≡ k * 9 → Before c k
+before c k h e = holds c k k 0 0 h h (lit≤ tt) (lit≤ tt) (omega arith)
 
 -- The control after it, with the same marks.
 on : (c k : ℕ) → k ≤ 6 → c % 65536 ≡ k * 9 → Before (c + 9) ((k + 1) % 8) × ((c + 9) / 65536 ≡ c / 65536)
@@ -483,7 +488,7 @@ module _ (n c x p t k v : ℕ) (hn : n < 4294967296) (hv : v ≤ 15) (hk : k ≤
   stored-is : readerAt (n / 16 + v * 268435456) x p t ≡ stored (readerAt n c p t) (ordered true (Going Forward) true) (k + 1) k v
   unfolding readerAt
   stored-is =
-      rw (a .count, a .next, a .turn, a .way, a .running, a .first, u, b .turn, b .first, turned n v k hn hv hk, last-is k hk, forward, began k)
+      rw (a .count-at, a .next-at, a .turn-at, a .way-at, a .running-at, a .first-at, u, b .turn-at, b .first-at, turned n v k hn hv hk, last-is k hk, forward, began k)
 
 number-is : (k : ℕ) → numberAfter k (eqb k 0) ≡ k + 1
 number-is zero = refl
@@ -517,8 +522,8 @@ module _ (n c p t b : ℕ) (e : c % 65536 ≡ pieceOf b * 9) where
   unfolding readerAt
   told =
       next-piece reader (sound-at n c p t) b ((pieceOf b + 7) % 8) (pieceOf b + 1) Forward
-      (ap lastAt (here .next) ∙ last-before (pieceOf b) small-piece) (ap wayAt (here .way) ∙ forward) (comes-after (pieceOf b) small-piece)
-      (ap (λ (k : ℕ). numberAfter k (eqb (pieceOf b) 0)) (here .count) ∙ number-is (pieceOf b))
+      (ap lastAt (here .next-at) ∙ last-before (pieceOf b) small-piece) (ap wayAt (here .way-at) ∙ forward) (comes-after (pieceOf b) small-piece)
+      (ap (λ (k : ℕ). numberAfter k (eqb (pieceOf b) 0)) (here .count-at) ∙ number-is (pieceOf b))
 
 not-none : (k : ℕ) → k + 1 ≡ 0 → ⊥
 not-none k x = omega arith
@@ -591,29 +596,60 @@ raw-is n =
     let s : n / 256 % 256 ≡ n / 256 % 16 + n / 4096 % 16 * 16 = omega arith in
     rw (h, m, s, raw-bytes n)
 
-in-place : (n : ℕ) → around 8 (digits n) ≡ digits n
+-- The pieces that come next and came first.
+abbrev pub endNext : Direction → ℕ
+endNext Forward = 0
+endNext Reverse = 1
+
+abbrev endFirst : Direction → ℕ
+endFirst Forward = 0
+endFirst Reverse = 7
+
+end-held : (d : Direction) → 0 + endNext d * 8 + flatDirection d * 128 + 0 * 512 + endFirst d * 1024 ≡ heldAfter d
+unfolding flatDirection
+end-held Forward = refl
+end-held Reverse = refl
+
+record Ends (d : Direction) : Type 0 where
+  next : endNext d ≤ 7
+  way : flatDirection d ≤ 3
+  first : endFirst d ≤ 7
+  going : wayAt (flatDirection d) ≡ Going d
+
+ends-in : (d : Direction) → Ends d
+unfolding flatDirection wayAt directionAt
+ends-in Forward = record { next = lit≤ tt; way = lit≤ tt; first = lit≤ tt; going = refl }
+ends-in Reverse = record { next = lit≤ tt; way = lit≤ tt; first = lit≤ tt; going = refl }
+
+-- The nibbles from piece 0 on.
+pub in-place : (n : ℕ) → digits n ≡ around (8 - endNext Forward) (digits n)
 unfolding around digits
 in-place n = refl
 
-module _ (ws : List ℕ) (e : getD ws 1 0 % 65536 ≡ 0) where
-  at-end : Before (getD ws 1 0) 0
-  at-end = before (getD ws 1 0) 0 (lit≤ tt) e
+module _ (d : Direction) (ws : List ℕ) (e : getD ws 1 0 % 65536 ≡ heldAfter d) where
+  at-end : Held (getD ws 1 0) 0 (endNext d) (flatDirection d) (endFirst d)
+  at-end =
+      let i = ends-in d in
+      holds (getD ws 1 0) 0 (endNext d) (flatDirection d) (endFirst d) (lit≤ tt) (i .next) (i .way) (i .first) (omega (arith, e, end-held d))
 
-  pub reports : (raw : MtcTime) (m : MaybeTime) (s : MtcSequence) → raw ≡ rawOf (digits (getD ws 0 0))
-      → m ≡ timeIn (getD ws 1 0 / 65536 / 2 % 8) (getD ws 2 0) → s ≡ reported raw Forward m → s ≡ sequenceOf (readerIn ws)
+  pub reports : (raw : MtcTime) (m : MaybeTime) (s : MtcSequence) → raw ≡ rawOf (around (8 - endNext d) (digits (getD ws 0 0)))
+      → m ≡ timeIn (getD ws 1 0 / 65536 / 2 % 8) (getD ws 2 0) → s ≡ reported raw d m → s ≡ sequenceOf (readerIn ws)
   unfolding readerIn readerAt
   reports raw m s er em es =
-      es ∙ rw (er, em) (sym (sym (sequence-of (readerIn ws)) ∙ rw (at-end .turn, at-end .way, in-place (getD ws 0 0), forward)))
+      es ∙ rw (er, em) (sym (sym (sequence-of (readerIn ws)) ∙ rw (at-end .turn-at, at-end .way-at, ends-in d .going)))
 
-  pub completes : (s : MtcSequence) (x a b y z : ℕ) → length ws ≡ 4 → x ≡ (1 + a * 2 + b * 16) * 65536 → a ≡ 1 + 2 * bitsOf (s .raw .rate)
-      → b ≡ 1 + 2 * bitsOf (s .current .rate) → labelIn (s .raw .rate) y ≡ s .raw → labelIn (s .current .rate) z ≡ s .current
-      → s ≡ sequenceOf (readerIn ws) → readerIn (set (set (set ws 1 x) 2 y) 3 z) ≡ completed (readerIn ws)
+  pub completes : (s : MtcSequence) (x a b k y z : ℕ) → length ws ≡ 4 → k ≡ heldAfter d → x ≡ (1 + a * 2 + b * 16) * 65536 + k
+      → a ≡ 1 + 2 * bitsOf (s .raw .rate) → b ≡ 1 + 2 * bitsOf (s .current .rate) → labelIn (s .raw .rate) y ≡ s .raw
+      → labelIn (s .current .rate) z ≡ s .current → s ≡ sequenceOf (readerIn ws)
+      → readerIn (set (set (set ws 1 x) 2 y) 3 z) ≡ completed (readerIn ws)
   unfolding readerIn readerAt
-  completes s x a b y z l ex ea eb ey ez es =
+  completes s x a b k y z l ek ex ea eb ey ez es =
       let ha : a ≤ 7 = rw ea (omega (arith, bits-small (s .raw .rate))) in
       let hb : b ≤ 7 = rw eb (omega (arith, bits-small (s .current .rate))) in
-      let whole : x ≡ 0 + 0 * 8 + 0 * 128 + 0 * 512 + 0 * 1024 + (1 + a * 2 + b * 16) * 65536 = omega arith in
+      let i = ends-in d in
+      let whole : x ≡ 0 + endNext d * 8 + flatDirection d * 128 + 0 * 512 + endFirst d * 1024 + (1 + a * 2 + b * 16) * 65536
+      = omega (arith, ek, ex, end-held d) in
       with-labels ws x y z l
-      ∙ ap (λ (k : ℕ). readerAt (getD ws 0 0) k y z) whole
-      ∙ at-control 0 0 0 0 0 1 a b (lit≤ tt) (lit≤ tt) (lit≤ tt) (lit≤ tt) (lit≤ tt) (lit≤ tt) ha hb (getD ws 0 0) y z
-      ∙ rw (ea, eb, marked (s .raw) y ey, marked (s .current) z ez, sym es, at-end .turn, at-end .count, at-end .first, at-end .next, at-end .way, at-end .running)
+      ∙ ap (λ (j : ℕ). readerAt (getD ws 0 0) j y z) whole
+      ∙ at-control 0 (endNext d) (flatDirection d) 0 (endFirst d) 1 a b (lit≤ tt) (omega (arith, i .next)) (i .way) (lit≤ tt) (i .first) (lit≤ tt) ha hb (getD ws 0 0) y z
+      ∙ rw (as-low (endNext d) (i .next), ea, eb, marked (s .raw) y ey, marked (s .current) z ez, sym es, at-end .turn-at, at-end .count-at, at-end .first-at, at-end .next-at, at-end .way-at, at-end .running-at)

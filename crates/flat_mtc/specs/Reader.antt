@@ -12,7 +12,8 @@ use Rattle.flat_mtc.specs.declared.reader.FlatReaderFields.{FlatReaderFi
 use Rattle.flat_mtc.specs.declared.reader.FlatSequence.{FlatSequence}
 use Rattle.labels.specs.St12.{label}
 use Rattle.labels.specs.Time.{bitsOf, typeOf}
-use Rattle.mtc.specs.declared.generator.Direction.the-variants.{Forward}
+use Rattle.mtc.specs.declared.generator.Direction.{Direction}
+use Rattle.mtc.specs.declared.generator.Direction.the-variants.{Forward, Reverse}
 use Rattle.mtc.specs.declared.generator.MaybePiece.{MaybePiece}
 use Rattle.mtc.specs.declared.generator.MaybePiece.the-variants.{NoPiece, Piece}
 use Rattle.mtc.specs.declared.reader.MaybeDirection.{MaybeDirection}
@@ -188,12 +189,29 @@ unfoldable pub flatMaybeSequence : MaybeSequence → FlatMaybeSequence
 flatMaybeSequence NoSequence = record { present = false; sequence = noSequence }
 flatMaybeSequence (Sequence s) = record { present = true; sequence = flatSequence s }
 
--- The report of a label that comes two frames after the previous one and two before another, all in one second.
-unfoldable pub steady : MtcTime → MtcSequence
-steady t =
+-- ---- the end of a sequence
+
+-- Count, next piece, direction and first piece in the control then.
+abbrev pub heldAfter : Direction → ℕ
+heldAfter Forward = 0
+heldAfter Reverse = 7304
+
+-- The least frames of a label that is told without arithmetic: the one two frames before it, or the one before it, is not skipped.
+abbrev pub leastSteady : Direction → ℕ
+leastSteady Forward = 2
+leastSteady Reverse = 3
+
+-- The current frames, by a label's in the same second.
+abbrev pub nearby : Direction → ℕ → ℕ
+nearby Forward f = f + 2
+nearby Reverse f = f - 1
+
+-- The report of a label that comes a sequence after the previous one, with the current one, all in one second.
+unfoldable pub steady : Direction → MtcTime → MtcSequence
+steady d t =
     record {
       raw = t;
-      current = label (t .rate) (t .hours) (t .minutes) (t .seconds) (t .frames + 2);
-      direction = Forward;
+      current = label (t .rate) (t .hours) (t .minutes) (t .seconds) (nearby d (t .frames));
+      direction = d;
       discontinuity = false;
     }

@@ -23,11 +23,12 @@ ghost use mathlib.Core.Bool.{true};
 ghost use Prim.Native.Nat.{_+_, _-_, _*_, _/_, _%_, _≤_, _<_};
 ghost use lib.Dec.{T, eqb};
 ghost use lib.ListN.{length, getD};
+ghost use Rattle.mtc.specs.Generator.{final};
 ghost use Rattle.mtc.specs.QuarterFrame.{pieceOf};
 ghost use Rattle.labels.specs.Time.{bitsOf, typeOf};
 ghost use Rattle.flat_mtc.specs.Time.{flatTime};
 ghost use Rattle.mtc.specs.Reader.{fresh, isSound, rawOf, reported, sequenceOf, completed, eventWith, afterByte, eventOf, afterFullMessage};
-ghost use Rattle.flat_mtc.specs.Reader.{wayAt, flatWay, flatMaybeTime, bit, digits, nibblesIn, around, lastAt, nextOf, labelIn, timeIn, timeMark, readerIn, readerFields, sixes, flatReport, flatEvent, sixesAt, reportAt, flatMaybeSequence, steady};
+ghost use Rattle.flat_mtc.specs.Reader.{wayAt, flatWay, flatMaybeTime, bit, digits, nibblesIn, around, lastAt, nextOf, labelIn, timeIn, timeMark, readerIn, readerFields, sixes, flatReport, flatEvent, sixesAt, reportAt, flatMaybeSequence, steady, heldAfter, leastSteady};
 
 // A time, where `present`; elsewhere all zeros.
 #[repr(C)]
@@ -530,7 +531,7 @@ fn receive_back(r: &mut [u32; 4], byte: u8) -> u64
 {
     let p = byte as u32 / 16 % 8;
     if p == 0 {
-        return receive_any(r, byte);
+        return receive_first(r, byte);
     }
     if !runs_back(*r, p) {
         return receive_any(r, byte);
@@ -567,6 +568,21 @@ fn put_back(nibbles: u32, value: u8) -> u32
     nibbles % 16777216 * 16 + nibbles / 268435456 + value as u32 * 268435456
 }
 
+// Piece 0, which ends a sequence that runs in reverse.
+fn receive_first(r: &mut [u32; 4], byte: u8) -> u64
+    requires { ⌜ pieceOf byte ≡ 0 ⌝ }
+    ensures { λ e. ⌜ (e ≡ flatEvent (eventOf (readerIn (now (r .entry))) byte)) × (readerIn (now (r .exit)) ≡ afterByte (readerIn (now (r .entry))) byte) ⌝ }
+{
+    if !runs_back(*r, 0) {
+        return receive_any(r, byte);
+    }
+    let nibbles = put_back(r[NIBBLES], byte % 16);
+    let control = r[CONTROL] - 15;
+    r[NIBBLES] = nibbles;
+    r[CONTROL] = control;
+    complete_back(r)
+}
+
 // Any data byte, by the record.
 fn receive_any(r: &mut [u32; 4], byte: u8) -> u64
     ensures { λ e. ⌜ (e ≡ flatEvent (eventOf (readerIn (now (r .entry))) byte)) × (readerIn (now (r .exit)) ≡ afterByte (readerIn (now (r .entry))) byte) ⌝ }
@@ -584,32 +600,63 @@ fn complete(r: &mut [u32; 4]) -> u64
     ensures { λ e. ⌜ (e ≡ flatEvent (eventWith 7 (MaybeSequence.Sequence (sequenceOf (readerIn (now (r .entry))))))) × (readerIn (now (r .exit)) ≡ completed (readerIn (now (r .entry)))) ⌝ }
 {
     let raw = raw_in(r[NIBBLES]);
-    if is_steady(*r, raw) {
-        return keep(r, steady(raw));
+    if is_steady(*r, raw, Direction::Forward) {
+        return keep(r, steady(raw, Direction::Forward), Direction::Forward);
     }
     let s = report(raw, Direction::Forward, previous_in(*r));
-    keep(r, s)
+    keep(r, s, Direction::Forward)
+}
+
+// The end of a sequence that ran in reverse, at piece 0.
+fn complete_back(r: &mut [u32; 4]) -> u64
+    requires { ⌜ getD (now r) 1 0 % 65536 ≡ 7304 ⌝ }
+    ensures { λ e. ⌜ (e ≡ flatEvent (eventWith 0 (MaybeSequence.Sequence (sequenceOf (readerIn (now (r .entry))))))) × (readerIn (now (r .exit)) ≡ completed (readerIn (now (r .entry)))) ⌝ }
+{
+    let raw = raw_in(in_order(r[NIBBLES]));
+    if is_steady(*r, raw, Direction::Reverse) {
+        return keep(r, steady(raw, Direction::Reverse), Direction::Reverse);
+    }
+    let s = report(raw, Direction::Reverse, previous_in(*r));
+    keep(r, s, Direction::Reverse)
+}
+
+// The nibbles from piece 0 on, which stands highest when it came last.
+fn in_order(nibbles: u32) -> u32
+    ensures { λ r. ⌜ digits r ≡ around 7 (digits nibbles) ⌝ }
+{
+    nibbles % 268435456 * 16 + nibbles / 268435456
 }
 
 // The report of a full sequence, and the record with both labels.
-fn keep(r: &mut [u32; 4], s: MtcSequence) -> u64
-    requires { ⌜ (getD (now r) 1 0 % 65536 ≡ 0) × (length (now r) ≡ 4) ⌝ }
-    ensures { λ e. ⌜ (e ≡ flatEvent (eventWith 7 (MaybeSequence.Sequence s))) × (s ≡ sequenceOf (readerIn (now (r .entry))) → readerIn (now (r .exit)) ≡ completed (readerIn (now (r .entry)))) ⌝ }
+fn keep(r: &mut [u32; 4], s: MtcSequence, direction: Direction) -> u64
+    requires { ⌜ (getD (now r) 1 0 % 65536 ≡ heldAfter direction) × (length (now r) ≡ 4) ⌝ }
+    ensures { λ e. ⌜ (e ≡ flatEvent (eventWith (final direction) (MaybeSequence.Sequence s))) × (s ≡ sequenceOf (readerIn (now (r .entry))) → readerIn (now (r .exit)) ≡ completed (readerIn (now (r .entry)))) ⌝ }
 {
     let raw = s.raw;
     let current = s.current;
     let rate = raw.rate;
     let after = current.rate;
     let marks = 1 + rate_mark(rate) * PREVIOUS_MARK + rate_mark(after) * TIME_MARK;
-    r[CONTROL] = marks * MARKS;
+    r[CONTROL] = marks * MARKS + held_after(direction);
     r[PREVIOUS] = label_word(raw);
     r[TIME] = label_word(current);
-    flat_event(event(7, MaybeSequence::Sequence(s)))
+    flat_event(event(direction.last(), MaybeSequence::Sequence(s)))
 }
 
-// True only where the label comes two frames after the previous one and two before another, all in one second.
-fn is_steady(words: [u32; 4], raw: MtcTime) -> bool
-    ensures { λ b. ⌜ (b ≡ true → (raw .frames ≤ 27) × (reported raw Direction.Forward (timeIn (getD words 1 0 / 65536 / 2 % 8) (getD words 2 0)) ≡ steady raw)) × (length words ≡ 4) ⌝ }
+// Count, next piece, direction and first piece at the end of a sequence.
+fn held_after(direction: Direction) -> u32
+    ensures { λ r. ⌜ r ≡ heldAfter direction ⌝ }
+{
+    match direction {
+        Direction::Forward => 0,
+        Direction::Reverse => NEXT + DIRECTION + FIRST * 7,
+    }
+}
+
+// True only where the label comes a sequence after the previous one, with the current one, all in one second and past the numbers that
+// drop-frame skips.
+fn is_steady(words: [u32; 4], raw: MtcTime, direction: Direction) -> bool
+    ensures { λ b. ⌜ (b ≡ true → (raw .frames ≤ 27) × ((1 ≤ raw .frames) × (reported raw direction (timeIn (getD words 1 0 / 65536 / 2 % 8) (getD words 2 0)) ≡ steady direction raw))) × (length words ≡ 4) ⌝ }
 {
     let rate = raw.rate;
     if raw.hours > 23 {
@@ -621,7 +668,7 @@ fn is_steady(words: [u32; 4], raw: MtcTime) -> bool
     if raw.seconds > 59 {
         return false;
     }
-    if raw.frames < 2 {
+    if raw.frames < least(direction) {
         return false;
     }
     if raw.frames >= rate.frames_per_second() - 2 {
@@ -630,20 +677,37 @@ fn is_steady(words: [u32; 4], raw: MtcTime) -> bool
     if words[CONTROL] / MARKS / PREVIOUS_MARK % 8 != rate_mark(rate) {
         return false;
     }
-    words[PREVIOUS] == label_word(raw) - 2
+    let word = label_word(raw);
+    match direction {
+        Direction::Forward => words[PREVIOUS] == word - 2,
+        Direction::Reverse => words[PREVIOUS] == word + 2,
+    }
+}
+
+// The frames from which on a label may be steady: two after another, or one after a number that is not skipped.
+fn least(direction: Direction) -> u8
+    ensures { λ r. ⌜ r ≡ leastSteady direction ⌝ }
+{
+    match direction {
+        Direction::Forward => 2,
+        Direction::Reverse => 3,
+    }
 }
 
 // The report of such a label.
-fn steady(raw: MtcTime) -> MtcSequence
-    requires { ⌜ raw .frames ≤ 27 ⌝ }
-    ensures { λ s. ⌜ s ≡ steady raw ⌝ }
+fn steady(raw: MtcTime, direction: Direction) -> MtcSequence
+    requires { ⌜ (raw .frames ≤ 27) × (1 ≤ raw .frames) ⌝ }
+    ensures { λ s. ⌜ s ≡ steady direction raw ⌝ }
 {
     let mut current = raw;
-    current.frames = raw.frames + 2;
+    current.frames = match direction {
+        Direction::Forward => raw.frames + 2,
+        Direction::Reverse => raw.frames - 1,
+    };
     MtcSequence {
         raw,
         current,
-        direction: Direction::Forward,
+        direction,
         discontinuity: false,
     }
 }

@@ -66,7 +66,12 @@ moved-by-sum = Moving.moved-by-sum
 pub moved-by-none : (t : MtcTime) → T (isValid t) → addFrames t (pos 0) ≡ t
 moved-by-none = Moving.moved-by-none
 
--- Two frames later in the same second is a sum.
+-- Frames later in the same second, where the label is valid, are a sum.
+pub frames-later : (r : TimeCodeType) (h m s f k : ℕ) → h ≤ 23 → m ≤ 59 → s ≤ 59 → f + k < framesPerSecond r
+    → T (isValid (label r h m s (f + k))) → label r h m s (f + k) ≡ addFrames (label r h m s f) (pos k)
+frames-later = Short.frames-later
+
+-- So are two frames, where the label is always valid.
 pub two-later : (r : TimeCodeType) (h m s f : ℕ) → h ≤ 23 → m ≤ 59 → s ≤ 59 → f + 2 < framesPerSecond r
     → label r h m s (f + 2) ≡ addFrames (label r h m s f) (pos 2)
 two-later = Short.two-later

@@ -184,11 +184,11 @@ past-skipped r h m s f = rw (le-ltb (f + 2) 2 (omega arith)) (none (isDropFrame 
     none true false = refl
     none true true = refl
 
-two-more : (r : TimeCodeType) (m s f : ℕ) → formula r m s f + 2 ≡ formula r m s (f + 2)
-two-more Fps24 m s f = omega arith
-two-more Fps25 m s f = omega arith
-two-more Fps30Drop m s f = omega arith
-two-more Fps30 m s f = omega arith
+more-frames : (r : TimeCodeType) (m s f k : ℕ) → formula r m s f + k ≡ formula r m s (f + k)
+more-frames Fps24 m s f k = omega arith
+more-frames Fps25 m s f k = omega arith
+more-frames Fps30Drop m s f k = omega arith
+more-frames Fps30 m s f k = omega arith
 
 pub two-fit : (r : TimeCodeType) → 2 ≤ framesPerSecond r
 two-fit Fps24 = lit≤ tt
@@ -196,27 +196,26 @@ two-fit Fps25 = lit≤ tt
 two-fit Fps30Drop = lit≤ tt
 two-fit Fps30 = lit≤ tt
 
-two-of-day : (r : TimeCodeType) → modZ (pos 2) (dayOf r) ≡ 2
-unfolding modZ
-two-of-day Fps24 = refl
-two-of-day Fps25 = refl
-two-of-day Fps30Drop = refl
-two-of-day Fps30 = refl
-
 pub was-true : (b : Bool) → not b ≡ false → b ≡ true
 was-true true e = refl
 was-true false e = sym e
 
--- Two frames on in the same second.
+-- Frames on in the same second, to a valid label.
+pub frames-later : (r : TimeCodeType) (h m s f k : ℕ) → h ≤ 23 → m ≤ 59 → s ≤ 59 → f + k < framesPerSecond r
+    → T (isValid (label r h m s (f + k))) → label r h m s (f + k) ≡ addFrames (label r h m s f) (pos k)
+unfolding addFrames frameCount modZ
+frames-later r h m s f k hh hm hs hf valid =
+    let more : formula r (h * 60 + m) s f + k ≡ formula r (h * 60 + m) s (f + k) = more-frames r (h * 60 + m) s f k in
+    let below : formula r (h * 60 + m) s (f + k) < dayOf r = formula-below r h m s (f + k) hh hm hs hf in
+    let small : formula r (h * 60 + m) s f < dayOf r = omega (arith, more, below) in
+    let few : k < dayOf r = omega (arith, more, below) in
+    let count : frameCount (label r h m s (f + k)) ≡ formula r (h * 60 + m) s f % dayOf r + k % dayOf r
+    = count-is-formula (label r h m s (f + k)) valid ∙ sym more ∙ sym (ap₂ (λ (a b : ℕ). a + b) (mod-eq-of-lt small) (mod-eq-of-lt few)) in
+    sym (label-of-count (label r h m s (f + k)) valid) ∙ ap (λ (n : ℕ). labelAt n r) count
+
+-- Two frames on no number is skipped.
 pub two-later : (r : TimeCodeType) (h m s f : ℕ) → h ≤ 23 → m ≤ 59 → s ≤ 59 → f + 2 < framesPerSecond r
     → label r h m s (f + 2) ≡ addFrames (label r h m s f) (pos 2)
-unfolding addFrames frameCount
 two-later r h m s f hh hm hs hf =
-    let valid : T (isValid (label r h m s (f + 2)))
-    = facts-valid (label r h m s (f + 2)) (record { hours = hh; minutes = hm; seconds = hs; frames = hf; kept = past-skipped r h m s f }) in
-    let more : formula r (h * 60 + m) s f + 2 ≡ formula r (h * 60 + m) s (f + 2) = two-more r (h * 60 + m) s f in
-    let below : formula r (h * 60 + m) s (f + 2) < dayOf r = formula-below r h m s (f + 2) hh hm hs hf in
-    let small : formula r (h * 60 + m) s f < dayOf r = omega (arith, more, below) in
-    let count : frameCount (label r h m s (f + 2)) ≡ formula r (h * 60 + m) s f % dayOf r + modZ (pos 2) (dayOf r)
-    = count-is-formula (label r h m s (f + 2)) valid ∙ sym more ∙ sym (ap₂ (λ (a b : ℕ). a + b) (mod-eq-of-lt small) (two-of-day r)) in
-    sym (label-of-count (label r h m s (f + 2)) valid) ∙ ap (λ (k : ℕ). labelAt k r) count
+    frames-later r h m s f 2 hh hm hs hf
+    (facts-valid (label r h m s (f + 2)) (record { hours = hh; minutes = hm; seconds = hs; frames = hf; kept = past-skipped r h m s f }))

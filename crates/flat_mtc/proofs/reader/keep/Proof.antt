@@ -27,6 +27,12 @@ add-marks-2 c = search needs
 mul-r : tie.Need-mul-r
 mul-r c = search needs
 
+held-after-requires : tie.Need-held-after-requires
+held-after-requires c κs = search needs
+
+add-r : tie.Need-add-r
+add-r c = search needs
+
 element-write-r : tie.Need-element-write-r
 element-write-r c = search needs
 
@@ -42,6 +48,9 @@ label-word-requires-2 c κs = search needs
 element-write-r-3 : tie.Need-element-write-r-3
 element-write-r-3 c = search needs
 
+last-requires : tie.Need-last-requires
+last-requires c κs = search needs
+
 event-requires : tie.Need-event-requires
 event-requires c κs = search needs
 
@@ -49,7 +58,8 @@ flat-event-requires : tie.Need-flat-event-requires
 flat-event-requires c κs = search needs
 
 returns : tie.Need-returns
-returns c = (c .flat-event .ensures ∙ ap flatEvent (c .before .event .ensures), completes _ (c .before .before .before .before .before .before .before .before .pre .0) _ _ _ _ _ _ (c .before .before .before .before .before .before .before .before .pre .1) refl (c .before .before .before .before .before .rate-mark .ensures .0) (c .before .before .before .before .rate-mark2 .ensures .0) (c .before .before .before .label-word .ensures) (c .before .before .label-word2 .ensures))
+returns c =
+    (c .flat-event .ensures ∙ ap flatEvent (c .before .event .ensures) ∙ rw (c .before .before .last .ensures), completes (c .before .before .before .before .before .before .before .before .before .before .args .direction) _ (c .before .before .before .before .before .before .before .before .before .before .pre .0) _ _ _ _ _ _ _ (c .before .before .before .before .before .before .before .before .before .before .pre .1) (c .before .before .before .before .before .held-after .ensures) refl (c .before .before .before .before .before .before .before .rate-mark .ensures .0) (c .before .before .before .before .before .before .rate-mark2 .ensures .0) (c .before .before .before .before .label-word .ensures) (c .before .before .before .label-word2 .ensures))
 
 pub keep-spec : {M : Type 1} → statement M
 keep-spec =
@@ -62,11 +72,14 @@ keep-spec =
     mul-marks-2
     add-marks-2
     mul-r
+    held-after-requires
+    add-r
     element-write-r
     label-word-requires
     element-write-r-2
     label-word-requires-2
     element-write-r-3
+    last-requires
     event-requires
     flat-event-requires
     returns)

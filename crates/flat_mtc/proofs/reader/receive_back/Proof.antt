@@ -7,8 +7,8 @@ use borrow.Author.Needs.{needs}
 use Rattle.flat_mtc.proofs.reader.receive_back.Statement.{statement}
 use Rattle.flat_mtc.proofs.reader.receive_back.Tie as tie
 
-receive-any-requires : tie.Need-receive-any-requires
-receive-any-requires c κs = search needs
+receive-first-requires : tie.Need-receive-first-requires
+receive-first-requires c κs = search needs
 
 returns : tie.Need-returns
 returns c = search needs
@@ -16,8 +16,8 @@ returns c = search needs
 runs-back-requires : tie.Need-runs-back-requires
 runs-back-requires c κs = search needs
 
-receive-any-requires-2 : tie.Need-receive-any-requires-2
-receive-any-requires-2 c κs = search needs
+receive-any-requires : tie.Need-receive-any-requires
+receive-any-requires c κs = search needs
 
 returns-2 : tie.Need-returns-2
 returns-2 c = search needs
@@ -52,10 +52,10 @@ pub receive-back-spec : {M : Type 1} → statement M
 receive-back-spec =
     tie.close
     (tie.spec
-    receive-any-requires
+    receive-first-requires
     returns
     runs-back-requires
-    receive-any-requires-2
+    receive-any-requires
     returns-2
     element-copy-out-put-back
     put-back-requires
