@@ -1,4 +1,6 @@
 -- `fimbrast::apply::fimbrast_apply` meets its contract. Assumes nothing.
+use mathlib.Core.Path.{ap, _∙_}
+use Rattle.flat_mmc.specs.Apply.{flatApplied}
 use borrow.Author.Needs.{needs}
 use Rattle.fimbrast.proofs.apply.fimbrast_apply.Statement.{statement}
 use Rattle.fimbrast.proofs.apply.fimbrast_apply.Tie as tie
@@ -16,7 +18,7 @@ flat-applied-requires : tie.Need-flat-applied-requires
 flat-applied-requires c κs = search needs
 
 returns : tie.Need-returns
-returns c = cc
+returns c = c .flat-applied .ensures ∙ ap flatApplied (rw (c .before .before .before .generator-of .ensures, c .before .before .command-of .ensures) at (c .before .apply .ensures))
 
 pub fimbrast-apply-spec : {M : Type 1} → statement M
 fimbrast-apply-spec =

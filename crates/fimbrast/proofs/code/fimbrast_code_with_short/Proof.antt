@@ -1,4 +1,6 @@
 -- `fimbrast::code::fimbrast_code_with_short` meets its contract. Assumes nothing.
+use mathlib.Core.Path.{ap, _∙_}
+use Rattle.flat_mmc.specs.Code.{flatCode}
 use borrow.Author.Needs.{needs}
 use Rattle.fimbrast.proofs.code.fimbrast_code_with_short.Statement.{statement}
 use Rattle.fimbrast.proofs.code.fimbrast_code_with_short.Tie as tie
@@ -16,7 +18,7 @@ flat-code-requires : tie.Need-flat-code-requires
 flat-code-requires c κs = search needs
 
 returns : tie.Need-returns
-returns c = cc
+returns c = c .flat-code .ensures ∙ ap flatCode (rw (c .before .before .before .code-of .ensures, c .before .before .short-of .ensures) at (c .before .with-short .ensures))
 
 pub fimbrast-code-with-short-spec : {M : Type 1} → statement M
 fimbrast-code-with-short-spec =

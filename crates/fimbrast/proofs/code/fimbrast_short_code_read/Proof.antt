@@ -1,4 +1,6 @@
 -- `fimbrast::code::fimbrast_short_code_read` meets its contract. Assumes nothing.
+use mathlib.Core.Path.{ap, _∙_}
+use Rattle.flat_mmc.specs.Code.{flatShort}
 use borrow.Author.Needs.{needs}
 use Rattle.fimbrast.proofs.code.fimbrast_short_code_read.Statement.{statement}
 use Rattle.fimbrast.proofs.code.fimbrast_short_code_read.Tie as tie
@@ -10,7 +12,7 @@ flat-short-requires : tie.Need-flat-short-requires
 flat-short-requires c κs = search needs
 
 returns : tie.Need-returns
-returns c = cc
+returns c = c .flat-short .ensures ∙ ap flatShort (c .before .from-bytes .ensures)
 
 pub fimbrast-short-code-read-spec : {M : Type 1} → statement M
 fimbrast-short-code-read-spec =

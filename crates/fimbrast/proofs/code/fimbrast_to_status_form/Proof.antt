@@ -1,4 +1,6 @@
 -- `fimbrast::code::fimbrast_to_status_form` meets its contract. Assumes nothing.
+use mathlib.Core.Path.{ap, _∙_}
+use Rattle.flat_mmc.specs.Code.{flatCode}
 use borrow.Author.Needs.{needs}
 use Rattle.fimbrast.proofs.code.fimbrast_to_status_form.Statement.{statement}
 use Rattle.fimbrast.proofs.code.fimbrast_to_status_form.Tie as tie
@@ -13,7 +15,7 @@ flat-code-requires : tie.Need-flat-code-requires
 flat-code-requires c κs = search needs
 
 returns : tie.Need-returns
-returns c = cc
+returns c = c .flat-code .ensures ∙ ap flatCode (rw (c .before .before .code-of .ensures) at (c .before .to-status-form .ensures))
 
 pub fimbrast-to-status-form-spec : {M : Type 1} → statement M
 fimbrast-to-status-form-spec =

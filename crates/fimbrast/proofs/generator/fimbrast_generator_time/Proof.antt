@@ -1,4 +1,6 @@
 -- `fimbrast::generator::fimbrast_generator_time` meets its contract. Assumes nothing.
+use mathlib.Core.Path.{ap, _∙_}
+use Rattle.flat_mtc.specs.Time.{flatTime}
 use borrow.Author.Needs.{needs}
 use Rattle.fimbrast.proofs.generator.fimbrast_generator_time.Statement.{statement}
 use Rattle.fimbrast.proofs.generator.fimbrast_generator_time.Tie as tie
@@ -13,7 +15,7 @@ flat-time-requires : tie.Need-flat-time-requires
 flat-time-requires c κs = search needs
 
 returns : tie.Need-returns
-returns c = cc
+returns c = c .flat-time .ensures ∙ ap flatTime (rw (c .before .before .generator-of .ensures) at (c .before .time .ensures))
 
 pub fimbrast-generator-time-spec : {M : Type 1} → statement M
 fimbrast-generator-time-spec =

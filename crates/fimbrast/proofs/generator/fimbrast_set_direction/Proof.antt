@@ -1,4 +1,6 @@
 -- `fimbrast::generator::fimbrast_set_direction` meets its contract. Assumes nothing.
+use mathlib.Core.Path.{ap, _∙_}
+use Rattle.flat_mtc.specs.Generator.{flatGenerator}
 use borrow.Author.Needs.{needs}
 use Rattle.fimbrast.proofs.generator.fimbrast_set_direction.Statement.{statement}
 use Rattle.fimbrast.proofs.generator.fimbrast_set_direction.Tie as tie
@@ -16,7 +18,7 @@ flat-generator-requires : tie.Need-flat-generator-requires
 flat-generator-requires c κs = search needs
 
 returns : tie.Need-returns
-returns c = cc
+returns c = c .flat-generator .ensures ∙ ap flatGenerator (rw (c .before .before .before .generator-of .ensures, c .before .before .direction-at .ensures) at (c .before .set-direction .ensures))
 
 pub fimbrast-set-direction-spec : {M : Type 1} → statement M
 fimbrast-set-direction-spec =

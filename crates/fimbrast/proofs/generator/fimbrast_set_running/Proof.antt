@@ -1,4 +1,6 @@
 -- `fimbrast::generator::fimbrast_set_running` meets its contract. Assumes nothing.
+use mathlib.Core.Path.{ap, _∙_}
+use Rattle.flat_mtc.specs.Generator.{flatGenerator}
 use borrow.Author.Needs.{needs}
 use Rattle.fimbrast.proofs.generator.fimbrast_set_running.Statement.{statement}
 use Rattle.fimbrast.proofs.generator.fimbrast_set_running.Tie as tie
@@ -13,7 +15,7 @@ flat-generator-requires : tie.Need-flat-generator-requires
 flat-generator-requires c κs = search needs
 
 returns : tie.Need-returns
-returns c = cc
+returns c = c .flat-generator .ensures ∙ ap flatGenerator (rw (c .before .before .generator-of .ensures) at (c .before .set-running .ensures))
 
 pub fimbrast-set-running-spec : {M : Type 1} → statement M
 fimbrast-set-running-spec =

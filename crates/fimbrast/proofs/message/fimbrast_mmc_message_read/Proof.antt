@@ -1,4 +1,6 @@
 -- `fimbrast::message::fimbrast_mmc_message_read` meets its contract. Assumes nothing.
+use mathlib.Core.Path.{ap, _∙_}
+use Rattle.flat_mmc.specs.Message.{flatMmcMessage}
 use borrow.Author.Needs.{needs}
 use Rattle.fimbrast.proofs.message.fimbrast_mmc_message_read.Statement.{statement}
 use Rattle.fimbrast.proofs.message.fimbrast_mmc_message_read.Tie as tie
@@ -13,7 +15,7 @@ flat-mmc-message-requires : tie.Need-flat-mmc-message-requires
 flat-mmc-message-requires c κs = search needs
 
 returns : tie.Need-returns
-returns c = cc
+returns c = c .flat-mmc-message .ensures ∙ ap flatMmcMessage (rw (c .before .before .universal-of .ensures) at (c .before .from-universal .ensures))
 
 pub fimbrast-mmc-message-read-spec : {M : Type 1} → statement M
 fimbrast-mmc-message-read-spec =

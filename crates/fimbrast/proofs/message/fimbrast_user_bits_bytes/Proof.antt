@@ -10,7 +10,7 @@ to-bytes-requires : tie.Need-to-bytes-requires
 to-bytes-requires c κs = search needs
 
 returns : tie.Need-returns
-returns c = cc
+returns c = rw (c .before .bits-of .ensures) at (c .to-bytes .ensures)
 
 pub fimbrast-user-bits-bytes-spec : {M : Type 1} → statement M
 fimbrast-user-bits-bytes-spec = tie.close (tie.spec bits-of-requires to-bytes-requires returns)

@@ -1,4 +1,6 @@
 -- `fimbrast::message::fimbrast_user_bits_read` meets its contract. Assumes nothing.
+use mathlib.Core.Path.{ap₂, _∙_}
+use Rattle.flat_mmc.specs.Message.{flatReadBits}
 use borrow.Author.Needs.{needs}
 use Rattle.fimbrast.proofs.message.fimbrast_user_bits_read.Statement.{statement}
 use Rattle.fimbrast.proofs.message.fimbrast_user_bits_read.Tie as tie
@@ -13,7 +15,7 @@ flat-user-bits-requires : tie.Need-flat-user-bits-requires
 flat-user-bits-requires c κs = search needs
 
 returns : tie.Need-returns
-returns c = cc
+returns c = c .flat-user-bits .ensures ∙ ap₂ flatReadBits (rw (c .before .before .universal-of .ensures) at (c .before .from-universal .ensures .0)) (rw (c .before .before .universal-of .ensures) at (c .before .from-universal .ensures .1))
 
 pub fimbrast-user-bits-read-spec : {M : Type 1} → statement M
 fimbrast-user-bits-read-spec =

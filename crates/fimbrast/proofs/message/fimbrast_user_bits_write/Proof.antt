@@ -1,4 +1,6 @@
 -- `fimbrast::message::fimbrast_user_bits_write` meets its contract. Assumes nothing.
+use mathlib.Core.Path.{ap, _∙_}
+use Rattle.mmc.specs.Numbers.{writtenNumbers}
 use borrow.Author.Needs.{needs}
 use Rattle.fimbrast.proofs.message.fimbrast_user_bits_write.Statement.{statement}
 use Rattle.fimbrast.proofs.message.fimbrast_user_bits_write.Tie as tie
@@ -16,7 +18,7 @@ same-length : tie.Need-same-length
 same-length c = search needs
 
 returns : tie.Need-returns
-returns c = (cc, cc)
+returns c = (c .written-numbers .ensures ∙ ap writtenNumbers (rw (c .before .before .before .before .before .bits-of .ensures) at (c .before .before .before .write .ensures .0)), rw (c .before .before .before .before .before .bits-of .ensures) at (c .before .before .before .write .ensures .1))
 
 pub fimbrast-user-bits-write-spec : {M : Type 1} → statement M
 fimbrast-user-bits-write-spec =

@@ -10,7 +10,7 @@ obey-all-requires : tie.Need-obey-all-requires
 obey-all-requires c κs = search needs
 
 returns : tie.Need-returns
-returns c = cc
+returns c = rw (c .before .generator-of .ensures) at (c .obey-all .ensures)
 
 pub fimbrast-obey-spec : {M : Type 1} → statement M
 fimbrast-obey-spec = tie.close (tie.spec generator-of-requires obey-all-requires returns)

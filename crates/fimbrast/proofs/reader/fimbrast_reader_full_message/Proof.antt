@@ -10,7 +10,7 @@ informed-requires : tie.Need-informed-requires
 informed-requires c κs = search needs
 
 returns : tie.Need-returns
-returns c = cc
+returns c = rw (c .before .time-of .ensures) at (c .informed .ensures)
 
 pub fimbrast-reader-full-message-spec : {M : Type 1} → statement M
 fimbrast-reader-full-message-spec = tie.close (tie.spec time-of-requires informed-requires returns)

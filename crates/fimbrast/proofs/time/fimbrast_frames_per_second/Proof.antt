@@ -10,7 +10,7 @@ frames-per-second-requires : tie.Need-frames-per-second-requires
 frames-per-second-requires c κs = search needs
 
 returns : tie.Need-returns
-returns c = cc
+returns c = rw (c .before .from-bits .ensures) at (c .frames-per-second .ensures)
 
 pub fimbrast-frames-per-second-spec : {M : Type 1} → statement M
 fimbrast-frames-per-second-spec =

@@ -10,7 +10,7 @@ is-valid-requires : tie.Need-is-valid-requires
 is-valid-requires c κs = search needs
 
 returns : tie.Need-returns
-returns c = cc
+returns c = rw (c .before .time-of .ensures) at (c .is-valid .ensures)
 
 pub fimbrast-is-valid-spec : {M : Type 1} → statement M
 fimbrast-is-valid-spec = tie.close (tie.spec time-of-requires is-valid-requires returns)

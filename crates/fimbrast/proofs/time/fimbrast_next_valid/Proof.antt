@@ -1,4 +1,6 @@
 -- `fimbrast::time::fimbrast_next_valid` meets its contract. Assumes nothing.
+use mathlib.Core.Path.{ap, _∙_}
+use Rattle.flat_mtc.specs.Time.{flatTime}
 use borrow.Author.Needs.{needs}
 use Rattle.fimbrast.proofs.time.fimbrast_next_valid.Statement.{statement}
 use Rattle.fimbrast.proofs.time.fimbrast_next_valid.Tie as tie
@@ -13,7 +15,7 @@ flat-time-requires : tie.Need-flat-time-requires
 flat-time-requires c κs = search needs
 
 returns : tie.Need-returns
-returns c = cc
+returns c = c .flat-time .ensures ∙ ap flatTime (rw (c .before .before .time-of .ensures) at (c .before .next-valid .ensures))
 
 pub fimbrast-next-valid-spec : {M : Type 1} → statement M
 fimbrast-next-valid-spec =

@@ -10,7 +10,7 @@ pieces-requires : tie.Need-pieces-requires
 pieces-requires c κs = search needs
 
 returns : tie.Need-returns
-returns c = cc
+returns c = rw (c .before .time-of .ensures) at (c .pieces .ensures)
 
 pub fimbrast-pieces-spec : {M : Type 1} → statement M
 fimbrast-pieces-spec = tie.close (tie.spec time-of-requires pieces-requires returns)

@@ -10,7 +10,7 @@ to-byte-requires : tie.Need-to-byte-requires
 to-byte-requires c κs = search needs
 
 returns : tie.Need-returns
-returns c = cc
+returns c = rw (c .before .frame-of .ensures) at (c .to-byte .ensures)
 
 pub fimbrast-quarter-frame-byte-spec : {M : Type 1} → statement M
 fimbrast-quarter-frame-byte-spec = tie.close (tie.spec frame-of-requires to-byte-requires returns)

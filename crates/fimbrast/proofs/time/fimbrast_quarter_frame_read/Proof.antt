@@ -1,4 +1,6 @@
 -- `fimbrast::time::fimbrast_quarter_frame_read` meets its contract. Assumes nothing.
+use mathlib.Core.Path.{ap, _∙_}
+use Rattle.flat_mtc.specs.Time.{flatFrame}
 use borrow.Author.Needs.{needs}
 use Rattle.fimbrast.proofs.time.fimbrast_quarter_frame_read.Statement.{statement}
 use Rattle.fimbrast.proofs.time.fimbrast_quarter_frame_read.Tie as tie
@@ -10,7 +12,7 @@ flat-frame-requires : tie.Need-flat-frame-requires
 flat-frame-requires c κs = search needs
 
 returns : tie.Need-returns
-returns c = cc
+returns c = c .flat-frame .ensures ∙ ap flatFrame (c .before .from-byte .ensures)
 
 pub fimbrast-quarter-frame-read-spec : {M : Type 1} → statement M
 fimbrast-quarter-frame-read-spec =

@@ -1,4 +1,6 @@
 -- `fimbrast::time::fimbrast_time_new` meets its contract. Assumes nothing.
+use mathlib.Core.Path.{ap, _∙_}
+use Rattle.flat_mtc.specs.Refusal.{refusalIn}
 use borrow.Author.Needs.{needs}
 use Rattle.fimbrast.proofs.time.fimbrast_time_new.Statement.{statement}
 use Rattle.fimbrast.proofs.time.fimbrast_time_new.Tie as tie
@@ -13,7 +15,7 @@ flat-new-requires : tie.Need-flat-new-requires
 flat-new-requires c κs = search needs
 
 returns : tie.Need-returns
-returns c = cc
+returns c = c .flat-new .ensures ∙ ap refusalIn (rw (c .before .before .time-of .ensures) at (c .before .new .ensures))
 
 pub fimbrast-time-new-spec : {M : Type 1} → statement M
 fimbrast-time-new-spec =

@@ -1,4 +1,6 @@
 -- `fimbrast::write::fimbrast_close_fields` meets its contract. Assumes nothing.
+use mathlib.Core.Path.{ap, _∙_}
+use Rattle.mmc.specs.Numbers.{writtenNumbers}
 use borrow.Author.Needs.{needs}
 use Rattle.fimbrast.proofs.write.fimbrast_close_fields.Statement.{statement}
 use Rattle.fimbrast.proofs.write.fimbrast_close_fields.Tie as tie
@@ -13,7 +15,7 @@ written-numbers-requires : tie.Need-written-numbers-requires
 written-numbers-requires c κs = search needs
 
 returns : tie.Need-returns
-returns c = cc
+returns c = c .written-numbers .ensures ∙ ap writtenNumbers (rw (c .before .before .writer-of .ensures) at (c .before .close-fields .ensures))
 
 pub fimbrast-close-fields-spec : {M : Type 1} → statement M
 fimbrast-close-fields-spec =

@@ -1,4 +1,6 @@
 -- `fimbrast::write::fimbrast_close_message` meets its contract. Assumes nothing.
+use mathlib.Core.Path.{ap, _∙_}
+use Rattle.mmc.specs.Numbers.{writtenNumbers}
 use borrow.Author.Needs.{needs}
 use Rattle.fimbrast.proofs.write.fimbrast_close_message.Statement.{statement}
 use Rattle.fimbrast.proofs.write.fimbrast_close_message.Tie as tie
@@ -16,7 +18,7 @@ same-length : tie.Need-same-length
 same-length c = search needs
 
 returns : tie.Need-returns
-returns c = (cc, cc)
+returns c = (c .written-numbers .ensures ∙ ap writtenNumbers (rw (c .before .before .before .before .before .writer-of .ensures) at (c .before .before .before .close-message .ensures .0)), rw (c .before .before .before .before .before .writer-of .ensures) at (c .before .before .before .close-message .ensures .1))
 
 pub fimbrast-close-message-spec : {M : Type 1} → statement M
 fimbrast-close-message-spec =

@@ -1,4 +1,6 @@
 -- `fimbrast::write::fimbrast_open_responses` meets its contract. Assumes nothing.
+use mathlib.Core.Path.{ap, _∙_}
+use Rattle.flat_mmc.specs.Write.{flatWriter}
 use borrow.Author.Needs.{needs}
 use Rattle.fimbrast.proofs.write.fimbrast_open_responses.Statement.{statement}
 use Rattle.fimbrast.proofs.write.fimbrast_open_responses.Tie as tie
@@ -13,7 +15,7 @@ same-length : tie.Need-same-length
 same-length c = search needs
 
 returns : tie.Need-returns
-returns c = (cc, cc)
+returns c = (c .flat-writer .ensures ∙ ap flatWriter (c .before .before .before .open-responses .ensures .0), c .before .before .before .open-responses .ensures .1)
 
 pub fimbrast-open-responses-spec : {M : Type 1} → statement M
 fimbrast-open-responses-spec =

@@ -1,4 +1,6 @@
 -- `fimbrast::write::fimbrast_put_command` meets its contract. Assumes nothing.
+use mathlib.Core.Path.{ap, _∙_}
+use Rattle.flat_mmc.specs.Write.{flatWriter}
 use borrow.Author.Needs.{needs}
 use Rattle.fimbrast.proofs.write.fimbrast_put_command.Statement.{statement}
 use Rattle.fimbrast.proofs.write.fimbrast_put_command.Tie as tie
@@ -19,7 +21,7 @@ same-length : tie.Need-same-length
 same-length c = search needs
 
 returns : tie.Need-returns
-returns c = (cc, cc)
+returns c = (c .flat-writer .ensures ∙ ap flatWriter (rw (c .before .before .before .before .before .before .before .writer-of .ensures, c .before .before .before .before .before .command-of .ensures) at (c .before .before .before .before .put-command .ensures .0 .0)), rw (c .before .before .before .before .before .before .before .writer-of .ensures, c .before .before .before .before .before .command-of .ensures) at (c .before .before .before .before .put-command .ensures .1))
 
 pub fimbrast-put-command-spec : {M : Type 1} → statement M
 fimbrast-put-command-spec =
