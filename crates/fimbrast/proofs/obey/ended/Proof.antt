@@ -9,7 +9,7 @@ flat-generator-requires c κs = search needs
 
 returns : tie.Need-returns
 unfolding ended
-returns c = cc
+returns c = rw (c .flat-generator .ensures)
 
 pub ended-spec : {M : Type 1} → statement M
 ended-spec = tie.close (tie.spec flat-generator-requires returns)
