@@ -1,5 +1,5 @@
 -- The reader as four words: what the next piece of a sequence that runs in reverse does to the words. Assumes nothing.
-use Prim.Native.Nat.{ℕ, zero, suc, _+_, _-_, _*_, _/_, _%_, _≤_, _<_}
+use Prim.Native.Nat.{ℕ, _+_, _-_, _*_, _/_, _%_, _≤_, _<_}
 use mathlib.Core.Bool.{true, cond}
 use mathlib.Core.List.{List, [], _∷_}
 use mathlib.Core.Path.{_≡_, refl, sym, ap, _∙_}
@@ -18,7 +18,7 @@ use Rattle.mtc.specs.declared.reader.MaybeSequence.the-variants.{NoSequence, Se
 use Rattle.mtc.specs.declared.reader.MtcReader.{MtcReader}
 use Rattle.flat_mtc.specs.Generator.{directionAt}
 use Rattle.flat_mtc.specs.Reader.{wayAt, digits, around, lastAt, readerAt, readerIn, flatEvent}
-use Rattle.flat_mtc.proofs.Words.{sound-at, endNext, Held, holds, word-digits, low, last-is, with-piece, control-put}
+use Rattle.flat_mtc.proofs.Words.{sound-at, by-piece, endNext, Held, holds, word-digits, low, last-is, with-piece, control-put}
 
 -- ---- the nibbles
 
@@ -54,15 +54,10 @@ in-place-back n h = ap digits spread ∙ back-digits n (n / 16777216 % 16) h (lo
 turn : (a b c d e f g h v k : ℕ) → k ≤ 7
     → around (8 - (k + 1) % 8) (h ∷ a ∷ b ∷ c ∷ d ∷ e ∷ f ∷ v ∷ []) ≡ set (around (8 - (k + 2) % 8) (a ∷ b ∷ c ∷ d ∷ e ∷ f ∷ g ∷ h ∷ [])) k v
 unfolding around
-turn a b c d e f g h v zero l = refl
-turn a b c d e f g h v (suc zero) l = refl
-turn a b c d e f g h v (suc (suc zero)) l = refl
-turn a b c d e f g h v (suc (suc (suc zero))) l = refl
-turn a b c d e f g h v (suc (suc (suc (suc zero)))) l = refl
-turn a b c d e f g h v (suc (suc (suc (suc (suc zero))))) l = refl
-turn a b c d e f g h v (suc (suc (suc (suc (suc (suc zero)))))) l = refl
-turn a b c d e f g h v (suc (suc (suc (suc (suc (suc (suc zero))))))) l = refl
-turn a b c d e f g h v (suc (suc (suc (suc (suc (suc (suc (suc k)))))))) l = absurd (omega arith)
+turn a b c d e f g h v =
+    by-piece
+    (λ k. around (8 - (k + 1) % 8) (h ∷ a ∷ b ∷ c ∷ d ∷ e ∷ f ∷ v ∷ []) ≡ set (around (8 - (k + 2) % 8) (a ∷ b ∷ c ∷ d ∷ e ∷ f ∷ g ∷ h ∷ [])) k v)
+    refl refl refl refl refl refl refl refl
 
 turned : (n v k : ℕ) → n < 4294967296 → v ≤ 15 → k ≤ 7
     → around (8 - (k + 1) % 8) (digits (n % 16777216 * 16 + n / 268435456 + v * 268435456)) ≡ set (around (8 - (k + 2) % 8) (digits n)) k v
@@ -86,48 +81,18 @@ exchanged c a b e ha hb = (omega arith, omega arith)
 
 -- Count and next piece before piece k, and after it, as the code has them.
 held : (k : ℕ) → k ≤ 7 → (23 + k * 7) % 64 ≡ (7 - k) + (k + 2) % 8 * 8
-held zero h = refl
-held (suc zero) h = refl
-held (suc (suc zero)) h = refl
-held (suc (suc (suc zero))) h = refl
-held (suc (suc (suc (suc zero)))) h = refl
-held (suc (suc (suc (suc (suc zero))))) h = refl
-held (suc (suc (suc (suc (suc (suc zero)))))) h = refl
-held (suc (suc (suc (suc (suc (suc (suc zero))))))) h = refl
-held (suc (suc (suc (suc (suc (suc (suc (suc k)))))))) h = absurd (omega arith)
+held = by-piece (λ k. (23 + k * 7) % 64 ≡ (7 - k) + (k + 2) % 8 * 8) refl refl refl refl refl refl refl refl
 
 left : (k : ℕ) → k ≤ 7 → (k ≡ 0 → ⊥) → (16 + k * 7) % 64 ≡ (8 - k) % 8 + (k + 1) % 8 * 8
-left zero h z = absurd (z refl)
-left (suc zero) h z = refl
-left (suc (suc zero)) h z = refl
-left (suc (suc (suc zero))) h z = refl
-left (suc (suc (suc (suc zero)))) h z = refl
-left (suc (suc (suc (suc (suc zero))))) h z = refl
-left (suc (suc (suc (suc (suc (suc zero)))))) h z = refl
-left (suc (suc (suc (suc (suc (suc (suc zero))))))) h z = refl
-left (suc (suc (suc (suc (suc (suc (suc (suc k)))))))) h z = absurd (omega arith)
+left =
+    by-piece (λ k. (k ≡ 0 → ⊥) → (16 + k * 7) % 64 ≡ (8 - k) % 8 + (k + 1) % 8 * 8) (λ z. absurd (z refl)) (λ z. refl) (λ z. refl)
+    (λ z. refl) (λ z. refl) (λ z. refl) (λ z. refl) (λ z. refl)
 
 number-is : (k : ℕ) → k ≤ 7 → numberAfter (7 - k) (eqb k 7) ≡ 8 - k
-number-is zero h = refl
-number-is (suc zero) h = refl
-number-is (suc (suc zero)) h = refl
-number-is (suc (suc (suc zero))) h = refl
-number-is (suc (suc (suc (suc zero)))) h = refl
-number-is (suc (suc (suc (suc (suc zero))))) h = refl
-number-is (suc (suc (suc (suc (suc (suc zero)))))) h = refl
-number-is (suc (suc (suc (suc (suc (suc (suc zero))))))) h = refl
-number-is (suc (suc (suc (suc (suc (suc (suc (suc k)))))))) h = absurd (omega arith)
+number-is = by-piece (λ k. numberAfter (7 - k) (eqb k 7) ≡ 8 - k) refl refl refl refl refl refl refl refl
 
 began : (k : ℕ) → k ≤ 7 → cond (eqb (8 - k) 1) k 7 ≡ 7
-began zero h = refl
-began (suc zero) h = refl
-began (suc (suc zero)) h = refl
-began (suc (suc (suc zero))) h = refl
-began (suc (suc (suc (suc zero)))) h = refl
-began (suc (suc (suc (suc (suc zero))))) h = refl
-began (suc (suc (suc (suc (suc (suc zero)))))) h = refl
-began (suc (suc (suc (suc (suc (suc (suc zero))))))) h = refl
-began (suc (suc (suc (suc (suc (suc (suc (suc k)))))))) h = absurd (omega arith)
+began = by-piece (λ k. cond (eqb (8 - k) 1) k 7 ≡ 7) refl refl refl refl refl refl refl refl
 
 reverse : wayAt 1 ≡ Going Reverse
 unfolding wayAt directionAt

@@ -401,19 +401,26 @@ module _ (n v : ℕ) (hn : n < 4294967296) (hv : v ≤ 15) where
   put-7 : (n / 16 + v * 268435456) / 268435456 % 16 ≡ v
   put-7 = omega arith
 
+-- What holds of each of the eight pieces holds of any.
+pub by-piece : (P : ℕ → Type 0) → P 0 → P 1 → P 2 → P 3 → P 4 → P 5 → P 6 → P 7 → (k : ℕ) → k ≤ 7 → P k
+by-piece P a b c d e f g h zero l = a
+by-piece P a b c d e f g h (suc zero) l = b
+by-piece P a b c d e f g h (suc (suc zero)) l = c
+by-piece P a b c d e f g h (suc (suc (suc zero))) l = d
+by-piece P a b c d e f g h (suc (suc (suc (suc zero)))) l = e
+by-piece P a b c d e f g h (suc (suc (suc (suc (suc zero))))) l = f
+by-piece P a b c d e f g h (suc (suc (suc (suc (suc (suc zero)))))) l = g
+by-piece P a b c d e f g h (suc (suc (suc (suc (suc (suc (suc zero))))))) l = h
+by-piece P a b c d e f g h (suc (suc (suc (suc (suc (suc (suc (suc k)))))))) l = absurd (omega arith)
+
 -- Turned by one, with the piece's own nibble put in.
 turn : (a b c d e f g h v k : ℕ) → k ≤ 7
     → around (8 - (k + 1) % 8) (b ∷ c ∷ d ∷ e ∷ f ∷ g ∷ h ∷ v ∷ []) ≡ set (around (8 - k) (a ∷ b ∷ c ∷ d ∷ e ∷ f ∷ g ∷ h ∷ [])) k v
 unfolding around
-turn a b c d e f g h v zero l = refl
-turn a b c d e f g h v (suc zero) l = refl
-turn a b c d e f g h v (suc (suc zero)) l = refl
-turn a b c d e f g h v (suc (suc (suc zero))) l = refl
-turn a b c d e f g h v (suc (suc (suc (suc zero)))) l = refl
-turn a b c d e f g h v (suc (suc (suc (suc (suc zero))))) l = refl
-turn a b c d e f g h v (suc (suc (suc (suc (suc (suc zero)))))) l = refl
-turn a b c d e f g h v (suc (suc (suc (suc (suc (suc (suc zero))))))) l = refl
-turn a b c d e f g h v (suc (suc (suc (suc (suc (suc (suc (suc k)))))))) l = absurd (omega arith)
+turn a b c d e f g h v =
+    by-piece
+    (λ k. around (8 - (k + 1) % 8) (b ∷ c ∷ d ∷ e ∷ f ∷ g ∷ h ∷ v ∷ []) ≡ set (around (8 - k) (a ∷ b ∷ c ∷ d ∷ e ∷ f ∷ g ∷ h ∷ [])) k v)
+    refl refl refl refl refl refl refl refl
 
 turned : (n v k : ℕ) → n < 4294967296 → v ≤ 15 → k ≤ 7
     → around (8 - (k + 1) % 8) (digits (n / 16 + v * 268435456)) ≡ set (around (8 - k) (digits n)) k v

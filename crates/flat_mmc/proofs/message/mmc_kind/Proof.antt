@@ -1,51 +1,39 @@
+-- `flat_mmc::message::mmc_kind` meets its contract. Assumes nothing.
 use Rattle.flat_mmc.specs.Message.{mmcKind}
 use borrow.Author.Needs.{needs}
 use Rattle.flat_mmc.proofs.message.mmc_kind.Statement.{statement}
 use Rattle.flat_mmc.proofs.message.mmc_kind.Tie as tie
-use Rattle.flat_mmc.proofs.message.mmc_kind.Reads as reads
-use Rattle.flat_mmc.proofs.message.mmc_kind.Lts as lts
-use Rattle.universal.proofs.error.SysexError.number.Reads as number-reads
 
--- src/message.rt:175:33
 enum-known-read : tie.Need-enum-known-read
 enum-known-read c = search needs
 
--- src/message.rt:176:54
 enum-told : tie.Need-enum-told
 enum-told c = search needs
 
--- src/message.rt:177:55
 enum-told-2 : tie.Need-enum-told-2
 enum-told-2 c = search needs
 
--- src/message.rt:179:36
 enum-told-3 : tie.Need-enum-told-3
 enum-told-3 c = search needs
 
--- src/message.rt:180:33
 enum-known-read-2 : tie.Need-enum-known-read-2
 enum-known-read-2 c = search needs
 
--- src/message.rt:180:39
 number-requires : tie.Need-number-requires
 number-requires c κs = search needs
 
--- src/message.rt:171:1
 returns : tie.Need-returns
 unfolding mmcKind
 returns c = cc
 
--- src/message.rt:171:1
 returns-2 : tie.Need-returns-2
 unfolding mmcKind
 returns-2 c = cc
 
--- src/message.rt:171:1
 returns-3 : tie.Need-returns-3
 unfolding mmcKind
 returns-3 c = cc
 
--- src/message.rt:171:1
 returns-4 : tie.Need-returns-4
 unfolding mmcKind
 returns-4 c = cc
