@@ -4,7 +4,7 @@ use mathlib.Core.Bool.{true, cond}
 use mathlib.Core.List.{List, [], _∷_}
 use mathlib.Core.Path.{_≡_, refl, sym, ap, _∙_}
 use native.Mathlib.Omega.{arith}
-use borrow.Author.Tests.{ne-eqb}
+use borrow.Author.Tests.{le-leb, ne-eqb}
 use lib.Dec.{eqb, lit≤}
 use lib.ListN.{length, getD, set}
 use Rattle.mtc.proofs.Laws.{next-piece}
@@ -18,7 +18,7 @@ use Rattle.mtc.specs.declared.reader.MaybeSequence.the-variants.{NoSequence, Se
 use Rattle.mtc.specs.declared.reader.MtcReader.{MtcReader}
 use Rattle.flat_mtc.specs.Generator.{directionAt}
 use Rattle.flat_mtc.specs.Reader.{wayAt, digits, around, lastAt, readerAt, readerIn, flatEvent}
-use Rattle.flat_mtc.proofs.Words.{sound-at, by-piece, endNext, Held, holds, word-digits, low, last-is, with-piece, control-put}
+use Rattle.flat_mtc.proofs.Words.{sound-at, by-piece, endTurn, Held, holds, word-digits, low, with-piece, control-put}
 
 -- ---- the nibbles
 
@@ -43,7 +43,7 @@ back-digits n v hn hv =
         (omega arith) (omega arith) (omega arith) (omega arith) (omega arith) (omega arith) (omega arith) (omega arith)
 
 -- After piece 0, whose nibble stands highest, they are brought into order.
-pub in-place-back : (n : ℕ) → n < 4294967296 → digits (n % 268435456 * 16 + n / 268435456) ≡ around (8 - endNext Reverse) (digits n)
+pub in-place-back : (n : ℕ) → n < 4294967296 → digits (n % 268435456 * 16 + n / 268435456) ≡ around (8 - endTurn Reverse) (digits n)
 unfolding around digits
 in-place-back n h = ap digits spread ∙ back-digits n (n / 16777216 % 16) h (low (n / 16777216))
   where
@@ -68,25 +68,12 @@ turned n v k hn hv hk =
 
 -- ---- the control
 
--- With this count and this next piece forward, on the way back from piece 7.
+-- With this count and this next piece forward, which is not reduced, on the way back from piece 7.
 abbrev Back : ℕ → ℕ → ℕ → Type 0
-Back c count next = Held c count next 1 7
+Back c count next = Held c count next (next % 8) 1 7
 
-back : (c a b : ℕ) → a ≤ 7 → b ≤ 7 → c % 65536 ≡ 7296 + (a + b * 8) → Back c a b
+back : (c a b : ℕ) → a ≤ 7 → b ≤ 15 → c % 65536 ≡ 7296 + (a + b * 8) → Back c a b
 back c a b ha hb e = holds c a b 1 7 ha hb (lit≤ tt) (lit≤ tt) (omega arith)
-
--- One count and next piece in place of another, with the same marks.
-exchanged : (c a b : ℕ) → c % 65536 ≡ 7296 + a → a ≤ 63 → b ≤ 63 → ((c - a + b) % 65536 ≡ 7296 + b) × ((c - a + b) / 65536 ≡ c / 65536)
-exchanged c a b e ha hb = (omega arith, omega arith)
-
--- Count and next piece before piece k, and after it, as the code has them.
-held : (k : ℕ) → k ≤ 7 → (23 + k * 7) % 64 ≡ (7 - k) + (k + 2) % 8 * 8
-held = by-piece (λ k. (23 + k * 7) % 64 ≡ (7 - k) + (k + 2) % 8 * 8) refl refl refl refl refl refl refl refl
-
-left : (k : ℕ) → k ≤ 7 → (k ≡ 0 → ⊥) → (16 + k * 7) % 64 ≡ (8 - k) % 8 + (k + 1) % 8 * 8
-left =
-    by-piece (λ k. (k ≡ 0 → ⊥) → (16 + k * 7) % 64 ≡ (8 - k) % 8 + (k + 1) % 8 * 8) (λ z. absurd (z refl)) (λ z. refl) (λ z. refl)
-    (λ z. refl) (λ z. refl) (λ z. refl) (λ z. refl) (λ z. refl)
 
 number-is : (k : ℕ) → k ≤ 7 → numberAfter (7 - k) (eqb k 7) ≡ 8 - k
 number-is = by-piece (λ k. numberAfter (7 - k) (eqb k 7) ≡ 8 - k) refl refl refl refl refl refl refl refl
@@ -98,15 +85,17 @@ reverse : wayAt 1 ≡ Going Reverse
 unfolding wayAt directionAt
 reverse = refl
 
-module _ (n c x p t k v : ℕ) (hn : n < 4294967296) (hv : v ≤ 15) (hk : k ≤ 7) (b : Back c (7 - k) ((k + 2) % 8))
-    (a : Back x ((8 - k) % 8) ((k + 1) % 8)) (u : x / 65536 ≡ c / 65536) where
+module _ (n c x p t k v : ℕ) (hn : n < 4294967296) (hv : v ≤ 15) (hk : k ≤ 7) (b : Back c (7 - k) (k + 2))
+    (j : ℕ) (ej : lastAt j ≡ Piece k) (et : j % 8 ≡ (k + 1) % 8) (a : Back x ((8 - k) % 8) j) (u : x / 65536 ≡ c / 65536) where
   stored-is : readerAt (n % 16777216 * 16 + n / 268435456 + v * 268435456) x p t ≡ stored (readerAt n c p t) (ordered true (Going Reverse) true) (8 - k) k v
   unfolding readerAt
   stored-is =
-      rw (a .count-at, a .next-at, a .turn-at, a .way-at, a .running-at, a .first-at, u, b .turn-at, b .first-at, turned n v k hn hv hk, last-is k hk, reverse, began k hk)
+      rw (a .count-at, a .next-at, a .turn-at, a .way-at, a .running-at, a .first-at, u, b .turn-at, b .first-at, et, turned n v k hn hv hk, ej, reverse, began k hk)
 
-two-on : (k : ℕ) → k ≤ 7 → (k + 2) % 8 ≡ ((k + 1) % 8 + 1) % 8
-two-on k h = omega arith
+-- The last piece, by the one that follows it, not reduced.
+last-past : (j k : ℕ) → j ≤ 14 → k ≡ (j + 7) % 8 → lastAt j ≡ Piece k
+unfolding lastAt
+last-past j k h e = rw (le-leb j 14 h, e)
 
 comes-after : (k : ℕ) → k ≤ 7 → after Reverse ((k + 1) % 8) ≡ k
 comes-after k h = omega arith
@@ -117,7 +106,7 @@ not-none k h x = omega arith
 not-last : (k : ℕ) → k ≤ 7 → (k ≡ 0 → ⊥) → 8 - k ≡ 8 → ⊥
 not-last k h z x = z (omega arith)
 
-module _ (n c p t b : ℕ) (e : c % 65536 ≡ 7296 + (23 + pieceOf b * 7) % 64) where
+module _ (n c p t b : ℕ) (e : c % 65536 ≡ 7319 + pieceOf b * 7) where
   abbrev reader : MtcReader
   reader = readerAt n c p t
 
@@ -127,24 +116,31 @@ module _ (n c p t b : ℕ) (e : c % 65536 ≡ 7296 + (23 + pieceOf b * 7) % 64) 
   small-value : valueOf b ≤ 15
   small-value = omega arith
 
-  here : Back c (7 - pieceOf b) ((pieceOf b + 2) % 8)
-  here =
-      back c (7 - pieceOf b) ((pieceOf b + 2) % 8) (omega arith) (omega arith)
-      (e ∙ ap (λ (m : ℕ). 7296 + m) (held (pieceOf b) small-piece))
+  here : Back c (7 - pieceOf b) (pieceOf b + 2)
+  here = back c (7 - pieceOf b) (pieceOf b + 2) (omega arith) (omega (arith, small-piece)) (omega (arith, small-piece))
 
   told : (afterByte reader b ≡ readerBy reader (ordered true (Going Reverse) true) (8 - pieceOf b) (pieceOf b) (valueOf b))
       × (eventOf reader b ≡ eventWith (pieceOf b) (reportBy reader (ordered true (Going Reverse) true) (8 - pieceOf b) (pieceOf b) (valueOf b)))
   unfolding readerAt
   told =
       next-piece reader (sound-at n c p t) b ((pieceOf b + 1) % 8) (8 - pieceOf b) Reverse
-      (ap lastAt (here .next-at ∙ two-on (pieceOf b) small-piece) ∙ last-is ((pieceOf b + 1) % 8) (omega arith))
+      (ap lastAt (here .next-at) ∙ last-past (pieceOf b + 2) ((pieceOf b + 1) % 8) (omega (arith, small-piece)) (omega arith))
       (ap wayAt (here .way-at) ∙ reverse) (comes-after (pieceOf b) small-piece)
       (ap (λ (j : ℕ). numberAfter j (eqb (pieceOf b) 7)) (here .count-at) ∙ number-is (pieceOf b) small-piece)
 
+-- Seven less in the control.
+seven-less : (c k : ℕ) → k ≤ 7 → c % 65536 ≡ 7319 + k * 7 → ((c - 7) % 65536 ≡ 7312 + k * 7) × ((c - 7) / 65536 ≡ c / 65536)
+seven-less c k h e = (omega arith, omega arith)
+
+after-seven : (k : ℕ) → k ≤ 7 → (k ≡ 0 → ⊥) → 7312 + k * 7 ≡ 7296 + ((8 - k) % 8 + (k + 1) * 8)
+after-seven =
+    by-piece (λ k. (k ≡ 0 → ⊥) → 7312 + k * 7 ≡ 7296 + ((8 - k) % 8 + (k + 1) * 8)) (λ z. absurd (z refl)) (λ z. refl) (λ z. refl)
+    (λ z. refl) (λ z. refl) (λ z. refl) (λ z. refl) (λ z. refl)
+
 -- A piece before the last one.
-pub goes-back : (ws : List ℕ) (b x y : ℕ) → length ws ≡ 4 → getD ws 1 0 % 65536 ≡ 7296 + (23 + pieceOf b * 7) % 64 → (pieceOf b ≡ 0 → ⊥)
+pub goes-back : (ws : List ℕ) (b x y : ℕ) → length ws ≡ 4 → getD ws 1 0 % 65536 ≡ 7319 + pieceOf b * 7 → (pieceOf b ≡ 0 → ⊥)
     → getD ws 0 0 < 4294967296 → x ≡ getD ws 0 0 % 16777216 * 16 + getD ws 0 0 / 268435456 + valueOf b * 268435456
-    → y ≡ getD ws 1 0 - (23 + pieceOf b * 7) % 64 + (16 + pieceOf b * 7) % 64
+    → y ≡ getD ws 1 0 - 7
     → (flatEvent (eventWith (pieceOf b) NoSequence) ≡ flatEvent (eventOf (readerIn ws) b)) × (readerIn (set (set ws 0 x) 1 y) ≡ afterByte (readerIn ws) b)
 unfolding readerIn
 goes-back ws b x y l e z hn ex ey =
@@ -154,28 +150,25 @@ goes-back ws b x y l e z hn ex ey =
     let t : ℕ = getD ws 3 0 in
     let k : ℕ = pieceOf b in
     let hk : k ≤ 7 = small-piece n c p t b e in
-    let o = exchanged c ((23 + k * 7) % 64) ((16 + k * 7) % 64) e (omega arith) (omega arith) in
-    let e₁ : y % 65536 ≡ 7296 + ((8 - k) % 8 + (k + 1) % 8 * 8) = ap (λ (m : ℕ). m % 65536) ey ∙ o .0 ∙ ap (λ (m : ℕ). 7296 + m) (left k hk z) in
+    let o = seven-less c k hk e in
+    let e₁ : y % 65536 ≡ 7296 + ((8 - k) % 8 + (k + 1) * 8) = ap (λ (m : ℕ). m % 65536) ey ∙ o .0 ∙ after-seven k hk z in
     let u : y / 65536 ≡ c / 65536 = ap (λ (m : ℕ). m / 65536) ey ∙ o .1 in
-    let m₁ : Back y ((8 - k) % 8) ((k + 1) % 8) = back y ((8 - k) % 8) ((k + 1) % 8) (omega arith) (omega arith) e₁ in
+    let m₁ : Back y ((8 - k) % 8) (k + 1) = back y ((8 - k) % 8) (k + 1) (omega arith) (omega (arith, hk)) e₁ in
     let s = told n c p t b e in
     let i : readerIn (set (set ws 0 x) 1 y) ≡ stored (readerIn ws) (ordered true (Going Reverse) true) (8 - k) k (valueOf b)
-    = with-piece ws x y l ∙ rw ex (stored-is n c y p t k (valueOf b) hn (small-value n c p t b e) hk (here n c p t b e) m₁ u) in (
+    = with-piece ws x y l ∙ rw ex (stored-is n c y p t k (valueOf b) hn (small-value n c p t b e) hk (here n c p t b e) (k + 1) (last-past (k + 1) k (omega (arith, hk)) (omega (arith, hk))) refl m₁ u) in (
       ap flatEvent (sym (s .1 ∙ rw (ne-eqb (8 - k) 8 (not-last k hk z)))),
       i ∙ sym (s .0 ∙ rw (ne-eqb (8 - k) 0 (not-none k hk), ne-eqb (8 - k) 8 (not-last k hk z))),
     )
 
 -- The control after the last one.
-pub held-back : (c : ℕ) → c % 65536 ≡ 7319 → 15 ≤ c
-held-back c e = omega arith
-
-pub round-back : (ws : List ℕ) (x : ℕ) → length ws ≡ 4 → getD ws 1 0 % 65536 ≡ 7319
-    → getD (set (set ws 0 x) 1 (getD ws 1 0 - 15)) 1 0 % 65536 ≡ 7304
-round-back ws x l e = rw (control-put ws x (getD ws 1 0 - 15) l) (omega arith)
+pub round-back : (ws : List ℕ) (x y : ℕ) → length ws ≡ 4 → getD ws 1 0 % 65536 ≡ 7319 → y ≡ getD ws 1 0 + 49
+    → getD (set (set ws 0 x) 1 y) 1 0 % 65536 ≡ 7368
+round-back ws x y l e ey = rw (control-put ws x y l) (omega arith)
 
 -- The last one.
 pub ends-back : (ws : List ℕ) (b x y f : ℕ) (q : MtcReader) → length ws ≡ 4 → getD ws 1 0 % 65536 ≡ 7319 → pieceOf b ≡ 0
-    → getD ws 0 0 < 4294967296 → x ≡ getD ws 0 0 % 16777216 * 16 + getD ws 0 0 / 268435456 + valueOf b * 268435456 → y ≡ getD ws 1 0 - 15
+    → getD ws 0 0 < 4294967296 → x ≡ getD ws 0 0 % 16777216 * 16 + getD ws 0 0 / 268435456 + valueOf b * 268435456 → y ≡ getD ws 1 0 + 49
     → (f ≡ flatEvent (eventWith 0 (Sequence (sequenceOf (readerIn (set (set ws 0 x) 1 y)))))) × (q ≡ completed (readerIn (set (set ws 0 x) 1 y)))
     → (f ≡ flatEvent (eventOf (readerIn ws) b)) × (q ≡ afterByte (readerIn ws) b)
 unfolding readerIn
@@ -184,12 +177,12 @@ ends-back ws b x y f q l e z hn ex ey h =
     let c : ℕ = getD ws 1 0 in
     let p : ℕ = getD ws 2 0 in
     let t : ℕ = getD ws 3 0 in
-    let e′ : c % 65536 ≡ 7296 + (23 + pieceOf b * 7) % 64 = e ∙ ap (λ (k : ℕ). 7296 + (23 + k * 7) % 64) (sym z) in
+    let e′ : c % 65536 ≡ 7319 + pieceOf b * 7 = e ∙ ap (λ (k : ℕ). 7319 + k * 7) (sym z) in
     let s = told n c p t b e′ in
-    let e₁ : (c - 15) % 65536 ≡ 7296 + (0 + 1 * 8) = omega arith in
-    let u : (c - 15) / 65536 ≡ c / 65536 = omega arith in
+    let e₁ : (c + 49) % 65536 ≡ 7296 + (0 + 9 * 8) = omega (arith, e) in
+    let u : (c + 49) / 65536 ≡ c / 65536 = omega (arith, e) in
     let i : readerIn (set (set ws 0 x) 1 y) ≡ stored (readerIn ws) (ordered true (Going Reverse) true) 8 0 (valueOf b)
-    = with-piece ws x y l ∙ rw (ex, ey) (stored-is n c (c - 15) p t 0 (valueOf b) hn (small-value n c p t b e′) (lit≤ tt) (back c 7 2 (lit≤ tt) (lit≤ tt) e) (back (c - 15) 0 1 (lit≤ tt) (lit≤ tt) e₁) u) in (
+    = with-piece ws x y l ∙ rw (ex, ey) (stored-is n c (c + 49) p t 0 (valueOf b) hn (small-value n c p t b e′) (lit≤ tt) (back c 7 2 (lit≤ tt) (lit≤ tt) e) 9 (last-past 9 0 (lit≤ tt) refl) refl (back (c + 49) 0 9 (lit≤ tt) (lit≤ tt) e₁) u) in (
       h .0 ∙ ap (λ (r : MtcReader). flatEvent (eventWith 0 (Sequence (sequenceOf r)))) i ∙ ap flatEvent (sym (s .1 ∙ rw z)),
       h .1 ∙ ap completed i ∙ sym (s .0 ∙ rw z),
     )

@@ -5,7 +5,7 @@ use mathlib.Core.Bool.{Bool, true, false, not, cond}
 use mathlib.Core.List.{List, [], _∷_}
 use mathlib.Core.Path.{_≡_, refl, sym, subst, ap, _∙_}
 use native.Mathlib.Omega.{arith}
-use borrow.Author.Tests.{le-leb, ne-eqb}
+use borrow.Author.Tests.{le-leb, leb-true, leb-false, ne-eqb}
 use lib.Dec.{T, leb, eqb, lit≤}
 use lib.ListN.{length, getD, set}
 use Rattle.mtc.proofs.Laws.{Sound, as-is, sound-by, Bounds, bounds, byte-sound, next-piece, sequence-of, calls-none, calls-sound}
@@ -58,7 +58,7 @@ around-small k w (suc (suc (suc (suc (suc (suc (suc (suc j)))))))) = omega arith
 
 last-fits : (n : ℕ) → T (pieceFits (lastAt n))
 unfolding lastAt
-last-fits n = go (leb n 7)
+last-fits n = go (leb n 14)
   where
     within : leb ((n + 7) % 8) 7 ≡ true
     within = le-leb ((n + 7) % 8) 7 (omega arith)
@@ -191,19 +191,36 @@ eight (a ∷ b ∷ c ∷ d ∷ e ∷ f ∷ g ∷ []) x = absurd (omega arith)
 eight (a ∷ b ∷ c ∷ d ∷ e ∷ f ∷ g ∷ h ∷ []) x = refl
 eight (a ∷ b ∷ c ∷ d ∷ e ∷ f ∷ g ∷ h ∷ i ∷ n) x = absurd (omega arith)
 
+-- What holds of each of the eight pieces holds of any.
+pub by-piece : (P : ℕ → Type 0) → P 0 → P 1 → P 2 → P 3 → P 4 → P 5 → P 6 → P 7 → (k : ℕ) → k ≤ 7 → P k
+by-piece P a b c d e f g h zero l = a
+by-piece P a b c d e f g h (suc zero) l = b
+by-piece P a b c d e f g h (suc (suc zero)) l = c
+by-piece P a b c d e f g h (suc (suc (suc zero))) l = d
+by-piece P a b c d e f g h (suc (suc (suc (suc zero)))) l = e
+by-piece P a b c d e f g h (suc (suc (suc (suc (suc zero))))) l = f
+by-piece P a b c d e f g h (suc (suc (suc (suc (suc (suc zero)))))) l = g
+by-piece P a b c d e f g h (suc (suc (suc (suc (suc (suc (suc zero))))))) l = h
+by-piece P a b c d e f g h (suc (suc (suc (suc (suc (suc (suc (suc k)))))))) l = absurd (omega arith)
+
 -- Turned and turned back.
-around-back : (n : List ℕ) → length n ≡ 8 → (k : ℕ) → k ≤ 8 → around (8 - k % 8) (around k n) ≡ n
+around-back : (n : List ℕ) → length n ≡ 8 → (k : ℕ) → k ≤ 15 → around (8 - k % 8) (around k n) ≡ n
 unfolding around
-around-back n e zero h = eight n e
-around-back n e (suc zero) h = eight n e
-around-back n e (suc (suc zero)) h = eight n e
-around-back n e (suc (suc (suc zero))) h = eight n e
-around-back n e (suc (suc (suc (suc zero)))) h = eight n e
-around-back n e (suc (suc (suc (suc (suc zero))))) h = eight n e
-around-back n e (suc (suc (suc (suc (suc (suc zero)))))) h = eight n e
-around-back n e (suc (suc (suc (suc (suc (suc (suc zero))))))) h = eight n e
-around-back n e (suc (suc (suc (suc (suc (suc (suc (suc zero)))))))) h = eight n e
-around-back n e (suc (suc (suc (suc (suc (suc (suc (suc (suc k))))))))) h = absurd (omega arith)
+around-back n e k h = go (leb k 7) refl
+  where
+    above : (j : ℕ) → j ≤ 7 → around (8 - (j + 8) % 8) (around (j + 8) n) ≡ n
+    above =
+        by-piece (λ j. around (8 - (j + 8) % 8) (around (j + 8) n) ≡ n) (eight n e) (eight n e) (eight n e) (eight n e) (eight n e)
+        (eight n e) (eight n e) (eight n e)
+
+    go : (b : Bool) → leb k 7 ≡ b → around (8 - k % 8) (around k n) ≡ n
+    go true l =
+        by-piece (λ j. around (8 - j % 8) (around j n) ≡ n) (eight n e) (eight n e) (eight n e) (eight n e) (eight n e) (eight n e)
+        (eight n e) (eight n e) k (leb-true k 7 l)
+    go false l =
+        let m : 7 < k = leb-false k 7 l in
+        let j : k - 8 + 8 ≡ k = omega arith in
+        subst (λ (x : ℕ). around (8 - x % 8) (around x n) ≡ n) j (above (k - 8) (omega arith))
 
 small : (n : ℕ) → n ≤ 15 → n % 16 ≡ n
 small n h = omega arith
@@ -219,7 +236,7 @@ nibbles-around r b k =
 
 -- ---- a sound reader is kept by its words
 
-module _ (a b d u f g : ℕ) (ha : a ≤ 7) (hb : b ≤ 8) (hd : d ≤ 3) (hu : u ≤ 1) (hf : f ≤ 7) where
+module _ (a b d u f g : ℕ) (ha : a ≤ 7) (hb : b ≤ 15) (hd : d ≤ 3) (hu : u ≤ 1) (hf : f ≤ 7) where
   abbrev control : ℕ
   control = a + b * 8 + d * 128 + u * 512 + f * 1024 + g * 65536
 
@@ -254,7 +271,7 @@ module _ (l m t : ℕ) (hl : l ≤ 1) (hm : m ≤ 7) (ht : t ≤ 7) where
   time-is : (l + m * 2 + t * 16) / 16 % 8 ≡ t
   time-is = omega arith
 
-at-control : (a b d u f l m t : ℕ) → a ≤ 7 → b ≤ 8 → d ≤ 3 → u ≤ 1 → f ≤ 7 → l ≤ 1 → m ≤ 7 → t ≤ 7
+at-control : (a b d u f l m t : ℕ) → a ≤ 7 → b ≤ 15 → d ≤ 3 → u ≤ 1 → f ≤ 7 → l ≤ 1 → m ≤ 7 → t ≤ 7
     → (n p w : ℕ) → readerAt n (a + b * 8 + d * 128 + u * 512 + f * 1024 + (l + m * 2 + t * 16) * 65536) p w
     ≡ record { nibbles = around (8 - b % 8) (digits n); count = a; first = f; last = lastAt b; direction = wayAt d; locked = isSet l; running = eqb u 0; previous = timeIn m p; time = timeIn t w }
 unfolding readerAt
@@ -274,7 +291,7 @@ stopped-back : (b : Bool) → eqb (bit (not b)) 0 ≡ b
 stopped-back true = refl
 stopped-back false = refl
 
-next-small : (m : MaybePiece) → nextOf m ≤ 8
+next-small : (m : MaybePiece) → nextOf m ≤ 15
 unfolding nextOf
 next-small NoPiece = lit≤ tt
 next-small (Piece p) = omega arith
@@ -284,7 +301,7 @@ round p h = omega arith
 
 pub last-is : (p : ℕ) → p ≤ 7 → lastAt ((p + 1) % 8) ≡ Piece p
 unfolding lastAt
-last-is p h = let w : (p + 1) % 8 ≤ 7 = omega arith in rw (le-leb ((p + 1) % 8) 7 w, round p h)
+last-is p h = let w : (p + 1) % 8 ≤ 7 = omega arith in rw (le-leb ((p + 1) % 8) 14 (omega (arith, w)), round p h)
 
 last-back : (r : MtcReader) → Bounds r → (m : MaybePiece) → r .last ≡ m → lastAt (nextOf m) ≡ m
 unfolding nextOf lastAt
@@ -401,18 +418,6 @@ module _ (n v : ℕ) (hn : n < 4294967296) (hv : v ≤ 15) where
   put-7 : (n / 16 + v * 268435456) / 268435456 % 16 ≡ v
   put-7 = omega arith
 
--- What holds of each of the eight pieces holds of any.
-pub by-piece : (P : ℕ → Type 0) → P 0 → P 1 → P 2 → P 3 → P 4 → P 5 → P 6 → P 7 → (k : ℕ) → k ≤ 7 → P k
-by-piece P a b c d e f g h zero l = a
-by-piece P a b c d e f g h (suc zero) l = b
-by-piece P a b c d e f g h (suc (suc zero)) l = c
-by-piece P a b c d e f g h (suc (suc (suc zero))) l = d
-by-piece P a b c d e f g h (suc (suc (suc (suc zero)))) l = e
-by-piece P a b c d e f g h (suc (suc (suc (suc (suc zero))))) l = f
-by-piece P a b c d e f g h (suc (suc (suc (suc (suc (suc zero)))))) l = g
-by-piece P a b c d e f g h (suc (suc (suc (suc (suc (suc (suc zero))))))) l = h
-by-piece P a b c d e f g h (suc (suc (suc (suc (suc (suc (suc (suc k)))))))) l = absurd (omega arith)
-
 -- Turned by one, with the piece's own nibble put in.
 turn : (a b c d e f g h v k : ℕ) → k ≤ 7
     → around (8 - (k + 1) % 8) (b ∷ c ∷ d ∷ e ∷ f ∷ g ∷ h ∷ v ∷ []) ≡ set (around (8 - k) (a ∷ b ∷ c ∷ d ∷ e ∷ f ∷ g ∷ h ∷ [])) k v
@@ -430,16 +435,16 @@ turned n v k hn hv hk =
     (turn (n % 16) (n / 16 % 16) (n / 256 % 16) (n / 4096 % 16) (n / 65536 % 16) (n / 1048576 % 16) (n / 16777216 % 16) (n / 268435456 % 16) v k hk)
 
 -- What the control says of a sequence that runs: count, next piece, direction, first piece.
-pub record Held (c count next way first : ℕ) : Type 0 where
+pub record Held (c count next turn way first : ℕ) : Type 0 where
   pub count-at : c % 8 ≡ count
   pub next-at : c / 8 % 16 ≡ next
-  pub turn-at : c / 8 % 8 ≡ next
+  pub turn-at : c / 8 % 8 ≡ turn
   pub way-at : c / 128 % 4 ≡ way
   pub running-at : c / 512 % 2 ≡ 0
   pub first-at : c / 1024 % 8 ≡ first
 
-pub holds : (c a b w f : ℕ) → a ≤ 7 → b ≤ 7 → w ≤ 3 → f ≤ 7 → c % 65536 ≡ a + b * 8 + w * 128 + f * 1024 → Held c a b w f
-holds c a b w f ha hb hw hf e = subst (λ (x : ℕ). Held x a b w f) apart fields
+pub holds : (c a b w f : ℕ) → a ≤ 7 → b ≤ 15 → w ≤ 3 → f ≤ 7 → c % 65536 ≡ a + b * 8 + w * 128 + f * 1024 → Held c a b (b % 8) w f
+holds c a b w f ha hb hw hf e = subst (λ (x : ℕ). Held x a b (b % 8) w f) apart fields
   where
     q : ℕ
     q = c / 65536
@@ -447,26 +452,24 @@ holds c a b w f ha hb hw hf e = subst (λ (x : ℕ). Held x a b w f) apart field
     apart : a + b * 8 + w * 128 + 0 * 512 + f * 1024 + q * 65536 ≡ c
     apart = omega arith
 
-    within : b ≤ 8
-    within = omega arith
-
-    fields : Held (a + b * 8 + w * 128 + 0 * 512 + f * 1024 + q * 65536) a b w f
+    fields : Held (a + b * 8 + w * 128 + 0 * 512 + f * 1024 + q * 65536) a b (b % 8) w f
     fields =
         record {
-          count-at = count-is a b w 0 f q ha within hw (lit≤ tt) hf;
-          next-at = next-is a b w 0 f q ha within hw (lit≤ tt) hf;
-          turn-at = turn-is a b w 0 f q ha within hw (lit≤ tt) hf ∙ as-low b hb;
-          way-at = way-is a b w 0 f q ha within hw (lit≤ tt) hf;
-          running-at = running-is a b w 0 f q ha within hw (lit≤ tt) hf;
-          first-at = first-is a b w 0 f q ha within hw (lit≤ tt) hf;
+          count-at = count-is a b w 0 f q ha hb hw (lit≤ tt) hf;
+          next-at = next-is a b w 0 f q ha hb hw (lit≤ tt) hf;
+          turn-at = turn-is a b w 0 f q ha hb hw (lit≤ tt) hf;
+          way-at = way-is a b w 0 f q ha hb hw (lit≤ tt) hf;
+          running-at = running-is a b w 0 f q ha hb hw (lit≤ tt) hf;
+          first-at = first-is a b w 0 f q ha hb hw (lit≤ tt) hf;
         }
 
 -- Before piece k of one that runs forward from piece 0.
 abbrev Before : ℕ → ℕ → Type 0
-Before c k = Held c k k 0 0
+Before c k = Held c k k k 0 0
 
 before : (c k : ℕ) → k ≤ 7 → c % 65536 ≡ k * 9 → Before c k
-before c k h e = holds c k k 0 0 h h (lit≤ tt) (lit≤ tt) (omega arith)
+before c k h e =
+    subst (λ (j : ℕ). Held c k k j 0 0) (as-low k h) (holds c k k 0 0 h (omega arith) (lit≤ tt) (lit≤ tt) (omega arith))
 
 -- The control after it, with the same marks.
 on : (c k : ℕ) → k ≤ 6 → c % 65536 ≡ k * 9 → Before (c + 9) ((k + 1) % 8) × ((c + 9) / 65536 ≡ c / 65536)
@@ -509,7 +512,7 @@ comes-after k h = omega arith
 
 last-before : (k : ℕ) → k ≤ 7 → lastAt k ≡ Piece ((k + 7) % 8)
 unfolding lastAt
-last-before k h = rw (le-leb k 7 h)
+last-before k h = rw (le-leb k 14 (omega arith))
 
 module _ (n c p t b : ℕ) (e : c % 65536 ≡ pieceOf b * 9) where
   abbrev reader : MtcReader
@@ -603,10 +606,14 @@ raw-is n =
     let s : n / 256 % 256 ≡ n / 256 % 16 + n / 4096 % 16 * 16 = omega arith in
     rw (h, m, s, raw-bytes n)
 
--- The pieces that come next and came first.
-abbrev pub endNext : Direction → ℕ
+-- The piece that comes next, as the control has it, and by itself; and the one that came first.
+abbrev endNext : Direction → ℕ
 endNext Forward = 0
-endNext Reverse = 1
+endNext Reverse = 9
+
+abbrev pub endTurn : Direction → ℕ
+endTurn Forward = 0
+endTurn Reverse = 1
 
 abbrev endFirst : Direction → ℕ
 endFirst Forward = 0
@@ -618,32 +625,33 @@ end-held Forward = refl
 end-held Reverse = refl
 
 record Ends (d : Direction) : Type 0 where
-  next : endNext d ≤ 7
+  next : endNext d ≤ 15
+  turn : endNext d % 8 ≡ endTurn d
   way : flatDirection d ≤ 3
   first : endFirst d ≤ 7
   going : wayAt (flatDirection d) ≡ Going d
 
 ends-in : (d : Direction) → Ends d
 unfolding flatDirection wayAt directionAt
-ends-in Forward = record { next = lit≤ tt; way = lit≤ tt; first = lit≤ tt; going = refl }
-ends-in Reverse = record { next = lit≤ tt; way = lit≤ tt; first = lit≤ tt; going = refl }
+ends-in Forward = record { next = lit≤ tt; turn = refl; way = lit≤ tt; first = lit≤ tt; going = refl }
+ends-in Reverse = record { next = lit≤ tt; turn = refl; way = lit≤ tt; first = lit≤ tt; going = refl }
 
 -- The nibbles from piece 0 on.
-pub in-place : (n : ℕ) → digits n ≡ around (8 - endNext Forward) (digits n)
+pub in-place : (n : ℕ) → digits n ≡ around (8 - endTurn Forward) (digits n)
 unfolding around digits
 in-place n = refl
 
 module _ (d : Direction) (ws : List ℕ) (e : getD ws 1 0 % 65536 ≡ heldAfter d) where
-  at-end : Held (getD ws 1 0) 0 (endNext d) (flatDirection d) (endFirst d)
+  at-end : Held (getD ws 1 0) 0 (endNext d) (endNext d % 8) (flatDirection d) (endFirst d)
   at-end =
       let i = ends-in d in
       holds (getD ws 1 0) 0 (endNext d) (flatDirection d) (endFirst d) (lit≤ tt) (i .next) (i .way) (i .first) (omega (arith, e, end-held d))
 
-  pub reports : (raw : MtcTime) (m : MaybeTime) (s : MtcSequence) → raw ≡ rawOf (around (8 - endNext d) (digits (getD ws 0 0)))
+  pub reports : (raw : MtcTime) (m : MaybeTime) (s : MtcSequence) → raw ≡ rawOf (around (8 - endTurn d) (digits (getD ws 0 0)))
       → m ≡ timeIn (getD ws 1 0 / 65536 / 2 % 8) (getD ws 2 0) → s ≡ reported raw d m → s ≡ sequenceOf (readerIn ws)
   unfolding readerIn readerAt
   reports raw m s er em es =
-      es ∙ rw (er, em) (sym (sym (sequence-of (readerIn ws)) ∙ rw (at-end .turn-at, at-end .way-at, ends-in d .going)))
+      es ∙ rw (er, em) (sym (sym (sequence-of (readerIn ws)) ∙ rw (at-end .turn-at, ends-in d .turn, at-end .way-at, ends-in d .going)))
 
   pub completes : (s : MtcSequence) (x a b k y z : ℕ) → length ws ≡ 4 → k ≡ heldAfter d → x ≡ (1 + a * 2 + b * 16) * 65536 + k
       → a ≡ 1 + 2 * bitsOf (s .raw .rate) → b ≡ 1 + 2 * bitsOf (s .current .rate) → labelIn (s .raw .rate) y ≡ s .raw
@@ -658,5 +666,5 @@ module _ (d : Direction) (ws : List ℕ) (e : getD ws 1 0 % 65536 ≡ heldAfter 
       = omega (arith, ek, ex, end-held d) in
       with-labels ws x y z l
       ∙ ap (λ (j : ℕ). readerAt (getD ws 0 0) j y z) whole
-      ∙ at-control 0 (endNext d) (flatDirection d) 0 (endFirst d) 1 a b (lit≤ tt) (omega (arith, i .next)) (i .way) (lit≤ tt) (i .first) (lit≤ tt) ha hb (getD ws 0 0) y z
-      ∙ rw (as-low (endNext d) (i .next), ea, eb, marked (s .raw) y ey, marked (s .current) z ez, sym es, at-end .turn-at, at-end .count-at, at-end .first-at, at-end .next-at, at-end .way-at, at-end .running-at)
+      ∙ at-control 0 (endNext d) (flatDirection d) 0 (endFirst d) 1 a b (lit≤ tt) (i .next) (i .way) (lit≤ tt) (i .first) (lit≤ tt) ha hb (getD ws 0 0) y z
+      ∙ rw (ea, eb, marked (s .raw) y ey, marked (s .current) z ez, sym es, at-end .turn-at, at-end .count-at, at-end .first-at, at-end .next-at, at-end .way-at, at-end .running-at)

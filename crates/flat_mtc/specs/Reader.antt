@@ -85,12 +85,12 @@ around k n =
     ∷ getD n ((k + 7) % 8) 0
     ∷ []
 
--- The last piece, by the one that follows it forward; above 7 there is none.
+-- The last piece, by the one that follows it forward, or by eight more; at 15 there is none.
 unfoldable pub lastAt : ℕ → MaybePiece
-lastAt next = cond (leb next 7) (Piece ((next + 7) % 8)) NoPiece
+lastAt next = cond (leb next 14) (Piece ((next + 7) % 8)) NoPiece
 
 unfoldable pub nextOf : MaybePiece → ℕ
-nextOf NoPiece = 8
+nextOf NoPiece = 15
 nextOf (Piece p) = (p + 1) % 8
 
 -- A label in a word: a byte each of frames, seconds, minutes and hours, from below.
@@ -194,7 +194,7 @@ flatMaybeSequence (Sequence s) = record { present = true; sequence = flatSequenc
 -- Count, next piece, direction and first piece in the control then.
 abbrev pub heldAfter : Direction → ℕ
 heldAfter Forward = 0
-heldAfter Reverse = 7304
+heldAfter Reverse = 7368
 
 -- The least frames of a label that is told without arithmetic: the one two frames before it, or the one before it, is not skipped.
 abbrev pub leastSteady : Direction → ℕ

@@ -155,7 +155,7 @@ fn digits(w: u32) -> [u8; 8]
 
 // Eight numbers from place `k` on, round.
 fn around(k: usize, n: [u8; 8]) -> [u8; 8]
-    requires { ⌜ k ≤ 8 ⌝ }
+    requires { ⌜ k ≤ 15 ⌝ }
     ensures { λ r. ⌜ (r ≡ around k n) × (length n ≡ 8) ⌝ }
 {
     [
@@ -173,7 +173,7 @@ fn around(k: usize, n: [u8; 8]) -> [u8; 8]
 fn last_at(next: u8) -> MaybePiece
     ensures { λ r. ⌜ r ≡ lastAt next ⌝ }
 {
-    if next > 7 {
+    if next > 14 {
         return MaybePiece::NoPiece;
     }
     MaybePiece::Piece((next + 7) % 8)
@@ -231,10 +231,10 @@ pub fn reader_in(words: [u32; 4]) -> MtcReader
 // ---- and back
 
 fn next_of(last: MaybePiece) -> u32
-    ensures { λ r. ⌜ (r ≡ nextOf last) × (r ≤ 8) ⌝ }
+    ensures { λ r. ⌜ (r ≡ nextOf last) × (r ≤ 15) ⌝ }
 {
     match last {
-        MaybePiece::NoPiece => 8,
+        MaybePiece::NoPiece => 15,
         MaybePiece::Piece(p) => (p as u32 + 1) % 8,
     }
 }
@@ -544,20 +544,29 @@ fn receive_back(r: &mut [u32; 4], byte: u8) -> u64
     event
 }
 
-// The next piece is `p`, in a sequence that runs in reverse from piece 7: the count is 7 - p, and the piece after the last one p + 2.
+// The next piece is `p`, in a sequence that runs in reverse from piece 7: the count is 7 - p, and the piece after the last one p + 2,
+// which is not reduced.
 fn runs_back(words: [u32; 4], p: u32) -> bool
     requires { ⌜ p ≤ 7 ⌝ }
-    ensures { λ b. ⌜ (b ≡ eqb (getD words 1 0 % 65536) (7296 + (23 + p * 7) % 64)) × (length words ≡ 4) ⌝ }
+    ensures { λ b. ⌜ (b ≡ eqb (getD words 1 0 % 65536) (7319 + p * 7)) × (length words ≡ 4) ⌝ }
 {
-    words[CONTROL] % MARKS == DIRECTION + FIRST * 7 + (23 + p * 7) % 64
+    (words[CONTROL] % MARKS) as u16 == (DIRECTION + FIRST * 7 + 23 + p * 7) as u16
 }
 
-// Count and next piece moved on after piece `p`.
+// One more in the count, one less in the next piece.
 fn moved_back(control: u32, p: u32) -> u32
-    requires { ⌜ (p ≤ 7) × (control % 65536 ≡ 7296 + (23 + p * 7) % 64) ⌝ }
-    ensures { λ r. ⌜ r ≡ control - (23 + p * 7) % 64 + (16 + p * 7) % 64 ⌝ }
+    requires { ⌜ control % 65536 ≡ 7319 + p * 7 ⌝ }
+    ensures { λ r. ⌜ r ≡ control - 7 ⌝ }
 {
-    control - (23 + p * 7) % 64 + (16 + p * 7) % 64
+    control - 7
+}
+
+// No count, and piece 9 for 1, from which the next sequence runs back.
+fn ended_back(control: u32) -> u32
+    requires { ⌜ control % 65536 ≡ 7319 ⌝ }
+    ensures { λ r. ⌜ r ≡ control + 49 ⌝ }
+{
+    control + 49
 }
 
 // The nibbles with the next piece's, on the way back.
@@ -577,7 +586,7 @@ fn receive_first(r: &mut [u32; 4], byte: u8) -> u64
         return receive_any(r, byte);
     }
     let nibbles = put_back(r[NIBBLES], byte % 16);
-    let control = r[CONTROL] - 15;
+    let control = ended_back(r[CONTROL]);
     r[NIBBLES] = nibbles;
     r[CONTROL] = control;
     complete_back(r)
@@ -609,7 +618,7 @@ fn complete(r: &mut [u32; 4]) -> u64
 
 // The end of a sequence that ran in reverse, at piece 0.
 fn complete_back(r: &mut [u32; 4]) -> u64
-    requires { ⌜ getD (now r) 1 0 % 65536 ≡ 7304 ⌝ }
+    requires { ⌜ getD (now r) 1 0 % 65536 ≡ 7368 ⌝ }
     ensures { λ e. ⌜ (e ≡ flatEvent (eventWith 0 (MaybeSequence.Sequence (sequenceOf (readerIn (now (r .entry))))))) × (readerIn (now (r .exit)) ≡ completed (readerIn (now (r .entry)))) ⌝ }
 {
     let raw = raw_in(in_order(r[NIBBLES]));
@@ -649,7 +658,7 @@ fn held_after(direction: Direction) -> u32
 {
     match direction {
         Direction::Forward => 0,
-        Direction::Reverse => NEXT + DIRECTION + FIRST * 7,
+        Direction::Reverse => NEXT * 9 + DIRECTION + FIRST * 7,
     }
 }
 

@@ -32,7 +32,7 @@ element-copy-out-moved-back : tie.Need-element-copy-out-moved-back
 element-copy-out-moved-back c = search needs
 
 moved-back-requires : tie.Need-moved-back-requires
-moved-back-requires c κs = (omega arith, eqb-true _ _ (sym (c .before .before .before .before .runs-back .ensures .0) ∙ not-false _ (c .before .before .before .if2 .left)))
+moved-back-requires c κs = eqb-true _ _ (sym (c .before .before .before .before .runs-back .ensures .0) ∙ not-false _ (c .before .before .before .if2 .left))
 
 element-write-r : tie.Need-element-write-r
 element-write-r c = search needs

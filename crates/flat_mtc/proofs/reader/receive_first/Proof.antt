@@ -1,7 +1,7 @@
 -- `flat_mtc::reader::receive_first` meets its contract. Assumes nothing.
-use mathlib.Core.Path.{refl, sym, _∙_}
+use mathlib.Core.Path.{sym, _∙_}
 use borrow.Author.Tests.{eqb-true, not-false}
-use Rattle.flat_mtc.proofs.Reverse.{ends-back, held-back, round-back}
+use Rattle.flat_mtc.proofs.Reverse.{ends-back, round-back}
 use borrow.Author.Needs.{needs}
 use Rattle.flat_mtc.proofs.reader.receive_first.Statement.{statement}
 use Rattle.flat_mtc.proofs.reader.receive_first.Tie as tie
@@ -21,11 +21,11 @@ element-copy-out-put-back c = search needs
 put-back-requires : tie.Need-put-back-requires
 put-back-requires c κs = search needs
 
-element-copy-out-control : tie.Need-element-copy-out-control
-element-copy-out-control c = search needs
+element-copy-out-ended-back : tie.Need-element-copy-out-ended-back
+element-copy-out-ended-back c = search needs
 
-sub-control : tie.Need-sub-control
-sub-control c = held-back _ (eqb-true _ _ (sym (c .before .before .before .before .runs-back .ensures .0) ∙ not-false _ (c .before .before .before .if1 .left)))
+ended-back-requires : tie.Need-ended-back-requires
+ended-back-requires c κs = eqb-true _ _ (sym (c .before .before .before .before .runs-back .ensures .0) ∙ not-false _ (c .before .before .before .if1 .left))
 
 element-write-r : tie.Need-element-write-r
 element-write-r c = search needs
@@ -34,10 +34,10 @@ element-write-r-2 : tie.Need-element-write-r-2
 element-write-r-2 c = search needs
 
 complete-back-requires : tie.Need-complete-back-requires
-complete-back-requires c κs = round-back (c .before .before .before .before .before .before .before .args .r .now) (c .before .before .put-back .result) (c .before .before .before .before .before .runs-back .ensures .1) (eqb-true _ _ (sym (c .before .before .before .before .before .runs-back .ensures .0) ∙ not-false _ (c .before .before .before .before .if1 .left)))
+complete-back-requires c κs = round-back (c .before .before .before .before .before .before .before .before .args .r .now) (c .before .before .before .put-back .result) _ (c .before .before .before .before .before .before .runs-back .ensures .1) (eqb-true _ _ (sym (c .before .before .before .before .before .before .runs-back .ensures .0) ∙ not-false _ (c .before .before .before .before .before .if1 .left))) (c .before .ended-back .ensures)
 
 returns-2 : tie.Need-returns-2
-returns-2 c = ends-back _ _ _ _ _ _ (c .before .before .before .before .before .before .runs-back .ensures .1) (eqb-true _ _ (sym (c .before .before .before .before .before .before .runs-back .ensures .0) ∙ not-false _ (c .before .before .before .before .before .if1 .left))) (c .before .before .before .before .before .before .before .before .pre) (c .before .before .before .put-back .ensures .1) (c .before .before .before .put-back .ensures .0) refl (c .complete-back .ensures)
+returns-2 c = ends-back _ _ _ _ _ _ (c .before .before .before .before .before .before .before .runs-back .ensures .1) (eqb-true _ _ (sym (c .before .before .before .before .before .before .before .runs-back .ensures .0) ∙ not-false _ (c .before .before .before .before .before .before .if1 .left))) (c .before .before .before .before .before .before .before .before .before .pre) (c .before .before .before .before .put-back .ensures .1) (c .before .before .before .before .put-back .ensures .0) (c .before .before .ended-back .ensures) (c .complete-back .ensures)
 
 pub receive-first-spec : {M : Type 1} → statement M
 receive-first-spec =
@@ -48,8 +48,8 @@ receive-first-spec =
     returns
     element-copy-out-put-back
     put-back-requires
-    element-copy-out-control
-    sub-control
+    element-copy-out-ended-back
+    ended-back-requires
     element-write-r
     element-write-r-2
     complete-back-requires
