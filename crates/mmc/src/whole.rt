@@ -165,7 +165,7 @@ fn is_low(number: u64) -> bool
     number / 0x8000_0000_0000 % 2 == 0
 }
 
-// True only where counts, subframes and rate are in range: two sums of bits say it of all at once.
+// True only where counts, subframes and rate are in range: the highest bits of the word and of one sum say it of all at once.
 fn is_in_range(word: u64) -> bool
     ensures { λ r. ⌜ (r ≡ true → InRange word) ⌝ }
 {
