@@ -332,26 +332,32 @@ fn all(device_id: u8, own: u8, body: &[u8]) -> Run {
     run
 }
 
+// The time of a generator that was located, after a word.
+fn say_located_at(word: &[u8], generator: MtcGenerator, located: bool) {
+    if located {
+        say(word);
+        say_time(generator.time());
+    }
+}
+
+fn say_state(generator: MtcGenerator, located: bool) {
+    if generator.running {
+        say(b"running forward");
+        say_located_at(b" from ", generator, located);
+    } else {
+        say(b"stopped");
+        say_located_at(b" at ", generator, located);
+    }
+    say(b".\n");
+}
+
 fn say_end(run: Run) {
     let generator = run.generator;
     if !run.moved {
         return;
     }
     say(b"  In the end: ");
-    if generator.running {
-        say(b"running forward");
-        if run.located {
-            say(b" from ");
-            say_time(generator.time());
-        }
-    } else {
-        say(b"stopped");
-        if run.located {
-            say(b" at ");
-            say_time(generator.time());
-        }
-    }
-    say(b".\n");
+    say_state(generator, run.located);
     if generator.running && run.located {
         say_frames(generator);
     }

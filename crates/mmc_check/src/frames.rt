@@ -32,30 +32,34 @@ fn say_data(byte: u8) {
     say(&text);
 }
 
+// A data byte goes into the reader, which may report.
+fn received(before: MtcReader, data: u8) -> MtcReader {
+    say_data(data);
+    let stepped = before.step(data);
+    let event = stepped.event;
+    let reader = stepped.reader;
+    let sequence = event.sequence;
+    if let MaybeSequence::Sequence(report) = sequence {
+        say_report(report);
+    }
+    reader
+}
+
 // One data byte goes out and into the reader.
 fn one(s: Stream) -> Stream {
     let from = s.generator;
-    let reader = s.reader;
+    let before = s.reader;
     let sent = from.next_byte();
     let generator = sent.generator;
     let byte = sent.byte;
-    match byte {
+    let reader = match byte {
         NextByte::Refused(e) => {
             say_refusal(e);
-            Stream { generator, reader }
+            before
         }
-        NextByte::Byte(data) => {
-            say_data(data);
-            let stepped = reader.step(data);
-            let event = stepped.event;
-            let reader = stepped.reader;
-            let sequence = event.sequence;
-            if let MaybeSequence::Sequence(report) = sequence {
-                say_report(report);
-            }
-            Stream { generator, reader }
-        }
-    }
+        NextByte::Byte(data) => received(before, data),
+    };
+    Stream { generator, reader }
 }
 
 pub(crate) fn say_frames(generator: MtcGenerator) {

@@ -121,29 +121,31 @@ fn say_other(u: Universal, length: usize) {
     say(b"  It is not machine control, and is passed over.\n");
 }
 
-fn time_code(u: Universal, data: &[u8], length: usize) -> bool {
-    match FullMessage::from_universal(u, data) {
-        ReadFullMessage::Message(message) => return say_full_message(message, length),
-        ReadFullMessage::Refused(e) => {
-            say(b"time code full message");
-            say_length(length);
-            return say_refused(e);
-        }
-        ReadFullMessage::NotThis => {}
-    }
+// A message that is refused, by what it was read as.
+fn refused_as(name: &[u8], length: usize, error: SysexError) -> bool {
+    say(name);
+    say_length(length);
+    say_refused(error)
+}
+
+fn user_bits(u: Universal, data: &[u8], length: usize) -> bool {
     let read = UserBits::from_universal(u, data);
     let answer = read.answer;
     let bits = read.bits;
     match answer {
         UserBitsAnswer::Message => say_user_bits(bits, length),
         UserBitsAnswer::NotThis => say_other(u, length),
-        UserBitsAnswer::Refused(e) => {
-            say(b"time code user bits");
-            say_length(length);
-            return say_refused(e);
-        }
+        UserBitsAnswer::Refused(e) => return refused_as(b"time code user bits", length, e),
     }
     true
+}
+
+fn time_code(u: Universal, data: &[u8], length: usize) -> bool {
+    match FullMessage::from_universal(u, data) {
+        ReadFullMessage::Message(message) => say_full_message(message, length),
+        ReadFullMessage::Refused(e) => refused_as(b"time code full message", length, e),
+        ReadFullMessage::NotThis => user_bits(u, data, length),
+    }
 }
 
 fn universal_message(u: Universal, own: u8, data: &[u8], length: usize) -> bool {
@@ -166,9 +168,8 @@ fn universal_message(u: Universal, own: u8, data: &[u8], length: usize) -> bool 
 fn with_sub_id2(u: Universal, own: u8, bytes: &[u8]) -> bool {
     let length = bytes.len();
     if length < 6 {
-        say(b"a Universal message that ends before its sub-ID 2");
-        say_length(length);
-        return say_refused(SysexError::Length);
+        let name = b"a Universal message that ends before its sub-ID 2";
+        return refused_as(name, length, SysexError::Length);
     }
     let end = length - 1;
     let split = Universal {
@@ -180,26 +181,27 @@ fn with_sub_id2(u: Universal, own: u8, bytes: &[u8]) -> bool {
     universal_message(split, own, &bytes[5..end], length)
 }
 
+fn say_manufacturers(id: u8, length: usize) {
+    say(b"a manufacturer's message, ");
+    say_byte(id);
+    say_length(length);
+    say(b"  It is not machine control, and is passed over.\n");
+}
+
 // Says what a message is. True where nothing is refused.
 pub(crate) fn read_message(bytes: &[u8], own: u8) -> bool {
     let length = bytes.len();
     if length < 3 {
-        say(b"an empty message");
-        say_length(length);
-        return say_refused(SysexError::Length);
+        return refused_as(b"an empty message", length, SysexError::Length);
     }
     let class = bytes[1];
     if class != REAL_TIME && class != NON_REAL_TIME {
-        say(b"a manufacturer's message, ");
-        say_byte(class);
-        say_length(length);
-        say(b"  It is not machine control, and is passed over.\n");
+        say_manufacturers(class, length);
         return true;
     }
     if length < 5 {
-        say(b"a Universal message that ends before its sub-ID 1");
-        say_length(length);
-        return say_refused(SysexError::Length);
+        let name = b"a Universal message that ends before its sub-ID 1";
+        return refused_as(name, length, SysexError::Length);
     }
     let end = length - 1;
     let u = Universal {
