@@ -1,7 +1,7 @@
 -- Lengths, names, items and strings by the pages of RP-013. Assumes nothing.
-use Prim.Native.Nat.{ℕ, zero, suc, _-_, _≤_, _<_, zero-le}
+use Prim.Native.Nat.{ℕ, zero, suc, _-_, _≤_, _<_}
 use mathlib.Core.Path.{_≡_, refl, sym, ap, ap₂, _∙_}
-use mathlib.Core.Bool.{Bool, true, false, not, true≢false}
+use mathlib.Core.Bool.{Bool, true, false, not, _||_, true≢false}
 use mathlib.Core.Logic.{inl, inr}
 use mathlib.Core.List.{List, [], _∷_, _++_}
 use native.Mathlib.Omega.{arith}
@@ -15,7 +15,7 @@ use Rattle.mmc.specs.declared.length.Length.the-variants.{Fixed, Count}
 use Rattle.mmc.specs.Length.{commandLength, fieldLength, lengthOf}
 use Rattle.mmc.specs.Named.{nameFits, lastOf}
 use Rattle.mmc.specs.Rp013.{Follows, prefixed, Name, Item, After, IsItem, Spell}
-use Rattle.mmc.specs.Strings.{ruleOf, counted, itemBytes, joined, dataFits, itemFits, allFit}
+use Rattle.mmc.specs.Strings.{ruleOf, counted, itemBytes, joined, dataFits, itemFits, allFit, zerosItem, isZeros, anyZeros}
 use Rattle.universal.specs.Message.{allLow}
 use Rattle.universal.proofs.Laws.{all-low-append, all-low-byte}
 use Rattle.universal.proofs.Tests.{and-parts}
@@ -65,16 +65,14 @@ module _ (n : ℕ) where
 -- What the page says follows is what the rule says.
 pub follows-length : (kind : Kind) (n : ℕ) (rule : Length) → Follows kind n rule → lengthOf kind n ≡ rule
 follows-length Commands n rule (inl q) = command-below n (omega arith) ∙ sym (q .2)
-follows-length Commands n rule (inr (inl q)) = command-below n (omega arith) ∙ sym (q .2)
-follows-length Commands n rule (inr (inr (inl q))) = command-count n (q .0) (omega arith) ∙ sym (q .2)
-follows-length Commands n rule (inr (inr (inr (inl q)))) = command-above n (q .0) ∙ sym (q .2)
-follows-length Commands n rule (inr (inr (inr (inr q)))) = absurd q
-follows-length Fields n rule (inl q) = field-zero n (omega arith) ∙ sym (q .2)
-follows-length Fields n rule (inr (inl q)) = field-five n (q .0) (omega arith) ∙ sym (q .2)
-follows-length Fields n rule (inr (inr (inl q))) = field-two n (q .0) (omega arith) ∙ sym (q .2)
-follows-length Fields n rule (inr (inr (inr (inl q)))) = field-count n (q .0) (omega arith) ∙ sym (q .2)
-follows-length Fields n rule (inr (inr (inr (inr (inl q))))) = field-above n (q .0) ∙ sym (q .2)
-follows-length Fields n rule (inr (inr (inr (inr (inr q))))) = absurd q
+follows-length Commands n rule (inr (inl q)) = command-count n (q .0) (omega arith) ∙ sym (q .2)
+follows-length Commands n rule (inr (inr (inl q))) = command-above n (q .0) ∙ sym (q .2)
+follows-length Commands n rule (inr (inr (inr q))) = absurd q
+follows-length Fields n rule (inl q) = field-five n (q .0) (omega arith) ∙ sym (q .2)
+follows-length Fields n rule (inr (inl q)) = field-two n (q .0) (omega arith) ∙ sym (q .2)
+follows-length Fields n rule (inr (inr (inl q))) = field-count n (q .0) (omega arith) ∙ sym (q .2)
+follows-length Fields n rule (inr (inr (inr (inl q)))) = field-above n (q .0) ∙ sym (q .2)
+follows-length Fields n rule (inr (inr (inr (inr q)))) = absurd q
 
 -- A number up to another, or above it.
 up-to : {C : Type 0} (n most : ℕ) → (n ≤ most → C) → (most < n → C) → C
@@ -84,66 +82,82 @@ up-to {C = C} n most f g = go (leb n most) refl
     go true e = f (leb-true n most e)
     go false e = g (leb-false n most e)
 
--- To 7FH the page says what the rule says.
-pub length-follows : (kind : Kind) (n : ℕ) → n ≤ 127 → Follows kind n (lengthOf kind n)
-length-follows Commands n h =
-    up-to n 0 (λ l. inl (zero-le, l, command-below n (omega arith))) λ a.
-    up-to n 63 (λ l. inr (inl (a, l, command-below n (omega arith)))) λ b.
-    up-to n 119 (λ l. inr (inr (inl (b, l, command-count n b (omega arith))))) λ c.
-    inr (inr (inr (inl (c, h, command-above n c))))
-length-follows Fields n h =
-    up-to n 0 (λ l. inl (zero-le, l, field-zero n (omega arith))) λ a.
-    up-to n 31 (λ l. inr (inl (a, l, field-five n a (omega arith)))) λ b.
-    up-to n 63 (λ l. inr (inr (inl (b, l, field-two n b (omega arith))))) λ c.
-    up-to n 119 (λ l. inr (inr (inr (inl (c, l, field-count n c (omega arith)))))) λ d.
-    inr (inr (inr (inr (inl (d, h, field-above n d)))))
+-- From 01H to 7FH the page says what the rule says.
+pub length-follows : (kind : Kind) (n : ℕ) → 1 ≤ n → n ≤ 127 → Follows kind n (lengthOf kind n)
+length-follows Commands n a h =
+    up-to n 63 (λ l. inl (a, l, command-below n (omega arith))) λ b.
+    up-to n 119 (λ l. inr (inl (b, l, command-count n b (omega arith)))) λ c.
+    inr (inr (inl (c, h, command-above n c)))
+length-follows Fields n a h =
+    up-to n 31 (λ l. inl (a, l, field-five n a (omega arith))) λ b.
+    up-to n 63 (λ l. inr (inl (b, l, field-two n b (omega arith)))) λ c.
+    up-to n 119 (λ l. inr (inr (inl (c, l, field-count n c (omega arith))))) λ d.
+    inr (inr (inr (inl (d, h, field-above n d))))
 
--- Above 7FH there are no data.
+-- At 00H, which is no name of the page, there are no data.
+pub length-zero : (kind : Kind) → lengthOf kind 0 ≡ Fixed 0
+length-zero Commands = command-below 0 (lit≤ tt)
+length-zero Fields = field-zero 0 (lit≤ tt)
+
+-- Above 7FH there are none either.
 pub length-above : (kind : Kind) (n : ℕ) → 127 < n → lengthOf kind n ≡ Fixed 0
 length-above Commands n h = command-above n (omega arith)
 length-above Fields n h = field-above n (omega arith)
 
 -- ---- names
 
-pub fits-name : (name : List ℕ) → nameFits name ≡ true → Name name (lastOf name)
+above-zero : (n : ℕ) → eqb n 0 ≡ false → 1 ≤ n
+above-zero n h = let z : n ≡ 0 → ⊥ = eqb-false n 0 h in omega arith
+
+-- A name that may be one is the page's, unless its last byte is 00H.
+pub fits-name : (name : List ℕ) → nameFits name ≡ true → eqb (lastOf name) 0 ≡ false → Name name (lastOf name)
 unfolding nameFits
-fits-name [] h = absurd (true≢false (sym h))
-fits-name (x ∷ []) h =
-    record {
-      prefixes = 0;
-      few = lit≤ tt;
-      zero-last = λ e. absurd (eqb-false x 0 (not-true (eqb x 0) h) e);
-      bytes = refl;
-    }
-fits-name (a ∷ x ∷ []) h =
+fits-name [] h z = absurd (true≢false (sym h))
+fits-name (x ∷ []) h z = record { prefixes = 0; few = lit≤ tt; no-prefix = above-zero x z; bytes = refl }
+fits-name (a ∷ x ∷ []) h z =
     let t = and-parts (eqb a 0) (not (eqb x 0)) h in
     record {
       prefixes = 1;
       few = lit≤ tt;
-      zero-last = λ e. absurd (eqb-false x 0 (not-true (eqb x 0) (t .1)) e);
+      no-prefix = above-zero x z;
       bytes = ap (λ (k : ℕ). k ∷ x ∷ []) (eqb-true a 0 (t .0));
     }
-fits-name (a ∷ b ∷ x ∷ []) h =
+fits-name (a ∷ b ∷ x ∷ []) h z =
     let t = and-parts (eqb a 0) (eqb b 0) h in
     record {
       prefixes = 2;
       few = lit≤ tt;
-      zero-last = λ e. refl;
+      no-prefix = above-zero x z;
       bytes = ap₂ (λ (k m : ℕ). k ∷ m ∷ x ∷ []) (eqb-true a 0 (t .0)) (eqb-true b 0 (t .1));
     }
-fits-name (a ∷ b ∷ x ∷ y ∷ l) h = absurd (true≢false (sym h))
+fits-name (a ∷ b ∷ x ∷ y ∷ l) h z = absurd (true≢false (sym h))
 
-prefixed-fits : (k last : ℕ) → k ≤ 2 → (last ≡ 0 → k ≡ 2) → (nameFits (prefixed k last) ≡ true) × (lastOf (prefixed k last) ≡ last)
+-- Of the names that may be one, only 00 00 00 has 00H as its last byte.
+pub zeros-name : (name : List ℕ) → nameFits name ≡ true → eqb (lastOf name) 0 ≡ true → name ≡ 0 ∷ 0 ∷ 0 ∷ []
 unfolding nameFits
-prefixed-fits zero last h z =
-    let n : last ≡ 0 → ⊥ = λ e. omega (arith, z e) in (rw (ne-eqb last 0 n), refl)
-prefixed-fits (suc zero) last h z =
-    let n : last ≡ 0 → ⊥ = λ e. omega (arith, z e) in (rw (ne-eqb last 0 n), refl)
-prefixed-fits (suc (suc zero)) last h z = (refl, refl)
-prefixed-fits (suc (suc (suc k))) last h z = absurd (omega arith)
+zeros-name [] h z = absurd (true≢false (sym h))
+zeros-name (x ∷ []) h z = absurd (eqb-false x 0 (not-true (eqb x 0) h) (eqb-true x 0 z))
+zeros-name (a ∷ x ∷ []) h z =
+    absurd (eqb-false x 0 (not-true (eqb x 0) (and-parts (eqb a 0) (not (eqb x 0)) h .1)) (eqb-true x 0 z))
+zeros-name (a ∷ b ∷ x ∷ []) h z =
+    let t = and-parts (eqb a 0) (eqb b 0) h in
+    λ i. eqb-true a 0 (t .0) i ∷ eqb-true b 0 (t .1) i ∷ eqb-true x 0 z i ∷ []
+zeros-name (a ∷ b ∷ x ∷ y ∷ l) h z = absurd (true≢false (sym h))
 
-pub name-fits : (name : List ℕ) (last : ℕ) → Name name last → (nameFits name ≡ true) × (lastOf name ≡ last)
-name-fits name last n = rw (n .bytes) (prefixed-fits (n .prefixes) last (n .few) (n .zero-last))
+prefixed-fits : (k last : ℕ) → k ≤ 2 → (last ≡ 0 → ⊥) → (nameFits (prefixed k last) ≡ true) × (lastOf (prefixed k last) ≡ last)
+unfolding nameFits
+prefixed-fits zero last h n = (rw (ne-eqb last 0 n), refl)
+prefixed-fits (suc zero) last h n = (rw (ne-eqb last 0 n), refl)
+prefixed-fits (suc (suc zero)) last h n = (refl, refl)
+prefixed-fits (suc (suc (suc k))) last h n = absurd (omega arith)
+
+-- A name of the page may be one, with its last byte, which is not 00H.
+pub name-fits : (name : List ℕ) (last : ℕ) → Name name last
+    → (nameFits name ≡ true) × (lastOf name ≡ last) × (eqb last 0 ≡ false)
+name-fits name last n =
+    let z : last ≡ 0 → ⊥ = λ e. omega (arith, n .no-prefix) in
+    let p = prefixed-fits (n .prefixes) last (n .few) z in
+    (ap nameFits (n .bytes) ∙ p .0, ap lastOf (n .bytes) ∙ p .1, ne-eqb last 0 z)
 
 -- ---- items
 
@@ -156,21 +170,21 @@ fits-after (Fixed n) d h l = (sym (eqb-true n (length d) h), refl)
 fits-after Count d h l =
     let z : 0 < suc (length d) = omega arith in (omega (arith, all-low-byte (length d ∷ d) 0 l z), refl)
 
--- An item of the page fits, and has its bytes.
+-- An item of the page fits, has its bytes, and is not named 00 00 00.
 pub item-fits : (kind : Kind) (x : Item) (bytes : List ℕ) → IsItem kind x bytes
-    → (itemFits kind x ≡ true) × (bytes ≡ itemBytes kind x)
+    → (itemFits kind x ≡ true) × (bytes ≡ itemBytes kind x) × (isZeros x ≡ false)
 unfolding itemFits itemBytes
 item-fits kind x bytes i =
     let n = name-fits (x .name) (i .last) (i .named) in
     let r : ruleOf kind x ≡ i .follows = ap (lengthOf kind) (n .1) ∙ follows-length kind (i .last) (i .follows) (i .ranged) in
     let a = after-fits (i .follows) (x .«data») (i .rest) (i .after) in
-    (rw (r, n .0) (a .0), rw (r, ← (a .1)) (i .joined))
+    (rw (r, n .0) (a .0), rw (r, ← (a .1)) (i .joined), rw (n .1) (n .2))
 
--- An item that fits, with bytes to 7FH, is one of the page.
-pub fits-item : (kind : Kind) (x : Item) → itemFits kind x ≡ true → allLow (itemBytes kind x) ≡ true
+-- An item that fits, with bytes to 7FH, is one of the page, unless it is named 00 00 00.
+pub fits-item : (kind : Kind) (x : Item) → itemFits kind x ≡ true → allLow (itemBytes kind x) ≡ true → isZeros x ≡ false
     → IsItem kind x (itemBytes kind x)
 unfolding itemFits itemBytes
-fits-item kind x h l =
+fits-item kind x h l z =
     let t = and-parts (nameFits (x .name)) (dataFits (ruleOf kind x) (x .«data»)) h in
     let b = and-parts (allLow (x .name)) (allLow (counted (ruleOf kind x) (x .«data»)))
     (sym (all-low-append (x .name) (counted (ruleOf kind x) (x .«data»))) ∙ l) in
@@ -178,33 +192,54 @@ fits-item kind x h l =
     let i : length (x .name) - 1 < length (x .name) = omega arith in
     record {
       last = lastOf (x .name);
-      named = fits-name (x .name) (t .0);
+      named = fits-name (x .name) (t .0) z;
       follows = ruleOf kind x;
-      ranged = length-follows kind (lastOf (x .name)) (all-low-byte (x .name) (length (x .name) - 1) (b .0) i);
+      ranged =
+          length-follows kind (lastOf (x .name)) (above-zero (lastOf (x .name)) z)
+          (all-low-byte (x .name) (length (x .name) - 1) (b .0) i);
       rest = counted (ruleOf kind x) (x .«data»);
       after = fits-after (ruleOf kind x) (x .«data») (t .1) (b .1);
       joined = refl;
     }
 
+-- An item that fits and whose name ends with 00H is named 00 00 00 and has no data.
+pub zeros-item : (kind : Kind) (x : Item) → itemFits kind x ≡ true → isZeros x ≡ true → x ≡ zerosItem
+unfolding itemFits
+zeros-item kind x h z =
+    let t = and-parts (nameFits (x .name)) (dataFits (ruleOf kind x) (x .«data»)) h in
+    let r : ruleOf kind x ≡ Fixed 0 = ap (lengthOf kind) (eqb-true (lastOf (x .name)) 0 z) ∙ length-zero kind in
+    let n : x .name ≡ 0 ∷ 0 ∷ 0 ∷ [] = zeros-name (x .name) (t .0) z in
+    let d : x .«data» ≡ [] = no-bytes (x .«data») (rw r at (t .1)) in
+    λ i. record { name = n i; «data» = d i }
+  where
+    no-bytes : (d : List ℕ) → eqb 0 (length d) ≡ true → d ≡ []
+    no-bytes [] e = refl
+    no-bytes (b ∷ bs) e = absurd (omega (arith, eqb-true 0 (length (b ∷ bs)) e))
+
 -- ---- strings
 
--- Items of the page fit, and have the string's bytes.
+or-false : (a b : Bool) → (a || b) ≡ false → (a ≡ false) × (b ≡ false)
+or-false true b h = absurd (true≢false h)
+or-false false b h = (refl, h)
+
+-- Items of the page fit, have the string's bytes, and none is named 00 00 00.
 pub spell-fits : (kind : Kind) (xs : List Item) (bytes : List ℕ) → Spell kind xs bytes
-    → (allFit kind xs ≡ true) × (bytes ≡ joined kind xs)
-unfolding allFit joined
-spell-fits kind [] bytes s = (refl, s)
+    → (allFit kind xs ≡ true) × (bytes ≡ joined kind xs) × (anyZeros xs ≡ false)
+unfolding allFit joined anyZeros
+spell-fits kind [] bytes s = (refl, s, refl)
 spell-fits kind (x ∷ xs) bytes s =
     let i = item-fits kind x (s .0) (s .2) in
     let r = spell-fits kind xs (s .1) (s .3) in
-    (rw (i .0) (r .0), s .4 ∙ ap₂ (λ (l m : List ℕ). l ++ m) (i .1) (r .1))
+    (rw (i .0) (r .0), s .4 ∙ ap₂ (λ (l m : List ℕ). l ++ m) (i .1) (r .1), rw (i .2) (r .2))
 
--- Items that fit, with bytes to 7FH, spell a string of the page.
-pub fits-spell : (kind : Kind) (xs : List Item) → allFit kind xs ≡ true → allLow (joined kind xs) ≡ true
+-- Items that fit, with bytes to 7FH and none of them named 00 00 00, spell a string of the page.
+pub fits-spell : (kind : Kind) (xs : List Item) → allFit kind xs ≡ true → allLow (joined kind xs) ≡ true → anyZeros xs ≡ false
     → Spell kind xs (joined kind xs)
-unfolding allFit joined
-fits-spell kind [] h l = refl
-fits-spell kind (x ∷ xs) h l =
+unfolding allFit joined anyZeros
+fits-spell kind [] h l z = refl
+fits-spell kind (x ∷ xs) h l z =
     let t = and-parts (itemFits kind x) (allFit kind xs) h in
+    let o = or-false (isZeros x) (anyZeros xs) z in
     let b = and-parts (allLow (itemBytes kind x)) (allLow (joined kind xs))
     (sym (all-low-append (itemBytes kind x) (joined kind xs)) ∙ l) in
-    (itemBytes kind x, joined kind xs, fits-item kind x (t .0) (b .0), fits-spell kind xs (t .1) (b .1), refl)
+    (itemBytes kind x, joined kind xs, fits-item kind x (t .0) (b .0) (o .0), fits-spell kind xs (t .1) (b .1) (o .1), refl)

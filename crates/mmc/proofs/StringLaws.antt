@@ -3,7 +3,7 @@
 use Prim.Native.Nat.{ℕ, zero, suc, _+_, _-_, _≤_, _<_}
 use mathlib.Core.Path.{_≡_, refl, sym, ap, ap₂, subst, _∙_}
 use mathlib.Core.Bool.{Bool, true, false, cond}
-use mathlib.Core.Logic.{_⊎_, inl, _↔_}
+use mathlib.Core.Logic.{_⊎_, inl, inr, _↔_}
 use mathlib.Core.List.{List, [], _∷_, _++_, map, append-nil, map-append}
 use mathlib.Core.Option.{Option, none, some}
 use native.Mathlib.Nat.{le-refl}
@@ -30,7 +30,7 @@ use Rattle.mmc.specs.Message.{messageFrom}
 use Rattle.mmc.specs.Named.{nameFits, lastOf}
 use Rattle.mmc.specs.Part.{partOf}
 use Rattle.mmc.specs.Rp013.{Follows, Name, Item, IsItem, Spell, WellFormed, subId1, lastDevice, envelope, Message}
-use Rattle.mmc.specs.Strings.{before, walkFrom, readsOf, nextOf, item, itemAt, places, given, back, itemBytes, joined, itemFits, allFit, locatedAt, readAs, Found, Walk, walk, walkMeans, onTo, Meaning, meaning, meanings, readFrom, commandsRead, commandPair, fieldPair, Sound, Given, pairOf, emission, emissions, pairsOf, SoundList, commandBack, fieldBack}
+use Rattle.mmc.specs.Strings.{before, walkFrom, readsOf, nextOf, item, itemAt, places, given, back, itemBytes, joined, itemFits, allFit, zerosItem, isZeros, anyZeros, locatedAt, readAs, Found, Walk, walk, walkMeans, onTo, Meaning, meaning, meanings, readFrom, commandsRead, commandPair, fieldPair, Sound, Given, pairOf, emission, emissions, pairsOf, SoundList, commandBack, fieldBack}
 use Rattle.mmc.specs.Split.{Located, Next, partsAs}
 use Rattle.codes.specs.TimeCode.{zeroed}
 use Rattle.codes.specs.declared.time_code.StandardTimeCode.{StandardTimeCode}
@@ -163,32 +163,50 @@ places-bytes kind xs h =
 
 -- ---- by the pages of RP-013
 
--- To 7FH a name's last byte has the length of p. 5.
-pub length-by-page : (kind : Kind) (byte : ℕ) (rule : Length) → byte ≤ 127 → (lengthOf kind byte ≡ rule) ↔ Follows kind byte rule
-length-by-page kind byte rule h =
-    (λ e. subst (Follows kind byte) e (Pages.length-follows kind byte h), Pages.follows-length kind byte rule)
+-- From 01H to 7FH a name's last byte has the length of p. 5.
+pub length-by-page : (kind : Kind) (byte : ℕ) (rule : Length) → 1 ≤ byte → byte ≤ 127
+    → (lengthOf kind byte ≡ rule) ↔ Follows kind byte rule
+length-by-page kind byte rule a h =
+    (λ e. subst (Follows kind byte) e (Pages.length-follows kind byte a h), Pages.follows-length kind byte rule)
 
--- Above 7FH, which no message has, it is one without data.
+-- 00H, which the page does not have, is one without data.
+pub length-zero : (kind : Kind) → lengthOf kind 0 ≡ Fixed 0
+length-zero = Pages.length-zero
+
+-- So is one above 7FH, which no message has.
 pub length-above : (kind : Kind) (byte : ℕ) → 127 < byte → lengthOf kind byte ≡ Fixed 0
 length-above = Pages.length-above
 
--- A name may be one just where it is one of p. 5, by its last byte.
-pub name-by-page : (name : List ℕ) → (nameFits name ≡ true) ↔ Name name (lastOf name)
-name-by-page name = (Pages.fits-name name, λ n. Pages.name-fits name (lastOf name) n .0)
+-- A name is one of p. 5 just where it may be one and its last byte is not 00H.
+pub name-by-page : (name : List ℕ) → Name name (lastOf name) ↔ ((nameFits name ≡ true) × (eqb (lastOf name) 0 ≡ false))
+name-by-page name = (
+  λ n. (Pages.name-fits name (lastOf name) n .0, Pages.name-fits name (lastOf name) n .2),
+  λ t. Pages.fits-name name (t .0) (t .1),
+)
 
 -- A name of p. 5 has one last byte.
 pub last-by-page : (name : List ℕ) (last : ℕ) → Name name last → lastOf name ≡ last
 last-by-page name last n = Pages.name-fits name last n .1
 
--- With bytes to 7FH, an item fits just where it is one of p. 5.
+-- With bytes to 7FH, an item is one of p. 5 just where it fits and is not named 00 00 00.
 pub item-by-page : (kind : Kind) (x : Item) → allLow (itemBytes kind x) ≡ true
-    → (itemFits kind x ≡ true) ↔ IsItem kind x (itemBytes kind x)
-item-by-page kind x l = (λ h. Pages.fits-item kind x h l, λ i. Pages.item-fits kind x (itemBytes kind x) i .0)
+    → IsItem kind x (itemBytes kind x) ↔ ((itemFits kind x ≡ true) × (isZeros x ≡ false))
+item-by-page kind x l = (
+  λ i. (Pages.item-fits kind x (itemBytes kind x) i .0, Pages.item-fits kind x (itemBytes kind x) i .2),
+  λ t. Pages.fits-item kind x (t .0) l (t .1),
+)
 
--- With bytes to 7FH, items fit just where they spell a string of p. 5.
+-- An item that fits and is so named has no data.
+pub zeros-item : (kind : Kind) (x : Item) → itemFits kind x ≡ true → isZeros x ≡ true → x ≡ zerosItem
+zeros-item = Pages.zeros-item
+
+-- With bytes to 7FH, items spell a string of p. 5 just where they fit and none is named 00 00 00.
 pub string-by-page : (kind : Kind) (xs : List Item) → allLow (joined kind xs) ≡ true
-    → (allFit kind xs ≡ true) ↔ Spell kind xs (joined kind xs)
-string-by-page kind xs l = (λ h. Pages.fits-spell kind xs h l, λ s. Pages.spell-fits kind xs (joined kind xs) s .0)
+    → Spell kind xs (joined kind xs) ↔ ((allFit kind xs ≡ true) × (anyZeros xs ≡ false))
+string-by-page kind xs l = (
+  λ s. (Pages.spell-fits kind xs (joined kind xs) s .0, Pages.spell-fits kind xs (joined kind xs) s .2),
+  λ t. Pages.fits-spell kind xs (t .0) l (t .1),
+)
 
 -- The walk over a well-formed string ends with 9, and gives the items that spell it.
 pub walk-well-formed : (kind : Kind) (body : List ℕ) (f : WellFormed kind body)
@@ -197,17 +215,31 @@ walk-well-formed kind body f =
     let s = Pages.spell-fits kind (f .0) body (f .1) in
     ap (λ (l : List ℕ). walk kind l 0) (s .1) ∙ walk-items kind (f .0) (s .0)
 
--- With bytes to 7FH the walk ends with 9 exactly where the string is well-formed.
-pub walk-by-page : (kind : Kind) (body : List ℕ) → allLow body ≡ true → (walk kind body 0 .stop ≡ refusal 9) ↔ WellFormed kind body
+-- With bytes to 7FH a string is well-formed exactly where the walk ends with 9 and gives no item named 00 00 00.
+pub walk-by-page : (kind : Kind) (body : List ℕ) → allLow body ≡ true
+    → WellFormed kind body ↔ ((walk kind body 0 .stop ≡ refusal 9) × (anyZeros (walk kind body 0 .items) ≡ false))
 walk-by-page kind body l = (
-  λ h.
-      let w : body ≡ joined kind (walk kind body 0 .items) = walk-whole kind body h in (
+  λ f.
+      let w = walk-well-formed kind body f in (
+        ap (λ (v : Walk Item). v .stop) w,
+        ap (λ (v : Walk Item). anyZeros (v .items)) w ∙ Pages.spell-fits kind (f .0) body (f .1) .2,
+      ),
+  λ t.
+      let w : body ≡ joined kind (walk kind body 0 .items) = walk-whole kind body (t .0) in (
         walk kind body 0 .items,
         subst (Spell kind (walk kind body 0 .items)) (sym w)
-            (Pages.fits-spell kind (walk kind body 0 .items) (walk-fits kind body) (ap allLow (sym w) ∙ l)),
+            (Pages.fits-spell kind (walk kind body 0 .items) (walk-fits kind body) (ap allLow (sym w) ∙ l) (t .1)),
       ),
-  λ f. ap (λ (w : Walk Item). w .stop) (walk-well-formed kind body f),
 )
+
+-- So the splitter accepts the page's well-formed strings, those with an item named 00 00 00, and no others.
+pub walk-takes : (kind : Kind) (body : List ℕ) → allLow body ≡ true → walk kind body 0 .stop ≡ refusal 9
+    → WellFormed kind body ⊎ (anyZeros (walk kind body 0 .items) ≡ true)
+walk-takes kind body l h = go (anyZeros (walk kind body 0 .items)) refl
+  where
+    go : (b : Bool) → anyZeros (walk kind body 0 .items) ≡ b → WellFormed kind body ⊎ (anyZeros (walk kind body 0 .items) ≡ true)
+    go true e = inr e
+    go false e = inl (walk-by-page kind body l .1 (h, e))
 
 -- ---- what is written
 
@@ -234,16 +266,6 @@ list-each kind g gs = (
 pub list-append : (kind : Kind) (gs hs : List (Given kind)) → emissions kind (gs ++ hs) ≡ emissions kind gs then emissions kind hs
 list-append = Emitted.list-append
 
--- The bytes of an accepted list are a well-formed string.
-pub list-well-formed : (kind : Kind) (gs : List (Given kind)) → emissions kind gs .stop ≡ none
-    → WellFormed kind (emissions kind gs .bytes)
-list-well-formed kind gs h =
-    let s : SoundList kind (pairsOf kind gs) (emissions kind gs .bytes) = list-accepted kind gs h in (
-      pairsOf kind gs,
-      subst (Spell kind (pairsOf kind gs)) (sym (s .item-bytes))
-          (Pages.fits-spell kind (pairsOf kind gs) (s .fits) (ap allLow (sym (s .item-bytes)) ∙ s .low)),
-    )
-
 -- ---- written and read back
 
 -- The walk over an accepted list's bytes gives the name and data of each, and ends with 9.
@@ -252,6 +274,16 @@ pub written-walk : (kind : Kind) (gs : List (Given kind)) → emissions kind gs 
 written-walk kind gs h =
     let s : SoundList kind (pairsOf kind gs) (emissions kind gs .bytes) = list-accepted kind gs h in
     ap (λ (l : List ℕ). walk kind l 0) (s .item-bytes) ∙ walk-items kind (pairsOf kind gs) (s .fits)
+
+-- The bytes of an accepted list are a well-formed string just where none of it is named 00 00 00.
+pub list-well-formed : (kind : Kind) (gs : List (Given kind)) → emissions kind gs .stop ≡ none
+    → WellFormed kind (emissions kind gs .bytes) ↔ (anyZeros (pairsOf kind gs) ≡ false)
+list-well-formed kind gs h =
+    let w = written-walk kind gs h in
+    let items : anyZeros (walk kind (emissions kind gs .bytes) 0 .items) ≡ anyZeros (pairsOf kind gs) =
+    ap (λ (v : Walk Item). anyZeros (v .items)) w in
+    let p = walk-by-page kind (emissions kind gs .bytes) (list-accepted kind gs h .low) in
+    (λ f. sym items ∙ p .0 f .1, λ z. p .1 (ap (λ (v : Walk Item). v .stop) w, items ∙ z))
 
 -- Read back, each is what its name and data are read as, with the parts where these stand; then 9.
 pub written-reads-back : (kind : Kind) (gs : List (Given kind)) → emissions kind gs .stop ≡ none
@@ -334,17 +366,17 @@ message-by-page kind device string d l =
     message-whole (header true device (subId1 kind) NoSubId2) string (ap (λ (e : Emission). e .stop) (opening-of kind device d)) l
     ∙ ap (λ (e : Emission). sent (e .bytes ++ string ++ 247 ∷ [])) (opening-of kind device d)
 
--- An accepted list of 1 to 48 bytes is a message in its envelope.
+-- An accepted list of 1 to 48 bytes, none of it named 00 00 00, is a message in its envelope.
 pub list-message : (kind : Kind) (device : ℕ) (gs : List (Given kind)) → emissions kind gs .stop ≡ none → device ≤ lastDevice kind
-    → 1 ≤ length (emissions kind gs .bytes) → length (emissions kind gs .bytes) ≤ 48
+    → anyZeros (pairsOf kind gs) ≡ false → 1 ≤ length (emissions kind gs .bytes) → length (emissions kind gs .bytes) ≤ 48
     → Message kind device (emissions kind gs .bytes) (envelope kind device (emissions kind gs .bytes))
-list-message kind device gs h d least most =
+list-message kind device gs h d z least most =
     record {
       device-id = d;
       least = least;
       most = most;
       seven-bits = λ i. all-low-byte (emissions kind gs .bytes) i (list-accepted kind gs h .low);
-      well-formed = list-well-formed kind gs h;
+      well-formed = list-well-formed kind gs h .1 z;
       joined = refl;
     }
 

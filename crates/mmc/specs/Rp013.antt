@@ -1,7 +1,5 @@
 -- MIDI Machine Control (RP-013), strings: how long an item is by its name (Message Length, p. 5), the string of items, and
--- the message (p. 1). Bytes are in hexadecimal, as on the page. Taken as 001 reads them: a last byte 00H, which stands only
--- after two prefixes, has no data; a count is up to what a byte holds. Left out: what a name means, and names with bytes above
--- 7FH, which no message has. Assumes nothing.
+-- the message (p. 1). Bytes are in hexadecimal, as on the page. Left out: what a name means (Rp013Commands). Assumes nothing.
 use Prim.Native.Nat.{ℕ, zero, suc, _≤_, _<_}
 use mathlib.Core.Path.{_≡_}
 use mathlib.Core.Logic.{_⊎_}
@@ -38,7 +36,7 @@ Among (r ∷ rs) byte follows = ((r .from ≤ byte) × (byte ≤ r .to) × (foll
 
 -- What follows a name with this last byte.
 abbrev pub Follows : Kind → ℕ → Length → Type 0
-Follows kind last follows = Among (names 0x00 0x00 (Fixed 0) ∷ ranges kind) last follows
+Follows kind last follows = Among (ranges kind) last follows
 
 -- ---- names, with the extension prefixes (p. 5)
 
@@ -47,11 +45,11 @@ abbrev pub prefixed : ℕ → ℕ → List ℕ
 prefixed zero last = last ∷ []
 prefixed (suc k) last = 0x00 ∷ prefixed k last
 
--- A name: at most two prefixes and its last byte, which is 00H only after two.
+-- A name: at most two prefixes, and its last byte, which is none.
 pub record Name (name : List ℕ) (last : ℕ) : Type 0 where
   pub prefixes : ℕ
   pub few : prefixes ≤ 2
-  pub zero-last : last ≡ 0x00 → prefixes ≡ 2
+  pub no-prefix : 0x01 ≤ last
   pub bytes : name ≡ prefixed prefixes last
 
 -- ---- items
@@ -61,10 +59,10 @@ pub record Item : Type 0 where
   pub name : List ℕ
   pub «data» : List ℕ
 
--- What stands after the name: the data, so many; or a count byte and that many.
+-- What stands after the name: the data, so many; or a count byte, at most 7FH, and that many.
 abbrev pub After : Length → List ℕ → List ℕ → Type 0
 After (Fixed n) d rest = (length d ≡ n) × (rest ≡ d)
-After Count d rest = (length d ≤ 0xFF) × (rest ≡ length d ∷ d)
+After Count d rest = (length d ≤ 0x7F) × (rest ≡ length d ∷ d)
 
 -- The bytes of an item.
 pub record IsItem (kind : Kind) (item : Item) (bytes : List ℕ) : Type 0 where

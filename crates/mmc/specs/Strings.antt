@@ -2,7 +2,7 @@
 -- what commands and fields are as items. Assumes nothing.
 use Prim.Native.Nat.{ℕ, zero, suc, _+_, _*_, _≤_}
 use mathlib.Core.Path.{_≡_}
-use mathlib.Core.Bool.{Bool, true, _&&_}
+use mathlib.Core.Bool.{Bool, true, false, _&&_, _||_}
 use mathlib.Core.List.{List, [], _∷_, _++_, map}
 use lib.Dec.{eqb}
 use lib.ListN.{length}
@@ -65,6 +65,19 @@ itemFits kind x = nameFits (x .name) && dataFits (ruleOf kind x) (x .«data»)
 unfoldable pub allFit : Kind → List Item → Bool
 allFit kind [] = true
 allFit kind (x ∷ xs) = itemFits kind x && allFit kind xs
+
+-- The item named 00 00 00, which 001 takes and RP-013 does not have.
+abbrev pub zerosItem : Item
+zerosItem = item (0 ∷ 0 ∷ 0 ∷ []) []
+
+-- A name that ends with 00H: of the names that fit, only 00 00 00 does.
+abbrev pub isZeros : Item → Bool
+isZeros x = eqb (lastOf (x .name)) 0
+
+-- One of the items is named 00 00 00.
+unfoldable pub anyZeros : List Item → Bool
+anyZeros [] = false
+anyZeros (x ∷ xs) = isZeros x || anyZeros xs
 
 -- ---- where items stand
 
