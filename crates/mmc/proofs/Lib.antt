@@ -1,8 +1,10 @@
+mod Accepting
 mod Backs
 mod Commands
 mod Emitted
 mod Fields
 mod Fronts
+mod Holding
 mod Inside
 mod ItemPuts
 mod Moves

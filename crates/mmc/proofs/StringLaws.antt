@@ -32,6 +32,7 @@ use Rattle.mmc.specs.Part.{partOf}
 use Rattle.mmc.specs.Rp013.{Follows, Name, Item, IsItem, Spell, WellFormed, subId1, lastDevice, envelope, Message}
 use Rattle.mmc.specs.Strings.{before, walkFrom, readsOf, nextOf, item, itemAt, places, given, back, itemBytes, joined, itemFits, allFit, zerosItem, isZeros, anyZeros, locatedAt, readAs, Found, Walk, walk, walkMeans, onTo, Meaning, meaning, meanings, readFrom, commandsRead, commandPair, fieldPair, Sound, Given, pairOf, emission, emissions, pairsOf, SoundList, commandBack, fieldBack}
 use Rattle.mmc.specs.Split.{Located, Next, partsAs}
+use Rattle.mmc.specs.Writings.{messageOf}
 use Rattle.codes.specs.TimeCode.{zeroed}
 use Rattle.codes.specs.declared.time_code.StandardTimeCode.{StandardTimeCode}
 use Rattle.universal.specs.Emission.{Emission, sent, _then_}
@@ -380,11 +381,12 @@ list-message kind device gs h d z least most =
       joined = refl;
     }
 
--- Real Time with sub-ID 1 06H and a string that is not empty is commands for the device.
-pub commands-message : (device : ℕ) (string : List ℕ) → 1 ≤ length string
-    → messageFrom (header true device 6 NoSubId2) string ≡ gives (some (M.Commands device))
+-- Real Time with sub-ID 1 06H and a string that is not empty is commands for the device, with 07H responses from it.
+pub string-message : (kind : Kind) (device : ℕ) (string : List ℕ) → 1 ≤ length string
+    → messageFrom (header true device (subId1 kind) NoSubId2) string ≡ gives (some (messageOf kind device))
 unfolding messageFrom
-commands-message device string h = rw (ne-eqb (length string) 0 (λ e. omega arith))
+string-message Commands device string h = rw (ne-eqb (length string) 0 (λ e. omega arith))
+string-message Fields device string h = rw (ne-eqb (length string) 0 (λ e. omega arith))
 
 -- A message by its class, by whether its sub-ID 1 is 06H or 07H, and by whether its string is empty.
 abbrev pub messageBy : (realTime commands responses empty : Bool) → ℕ → Answer (Option MmcMessage)

@@ -1,281 +1,297 @@
--- A whole writing: what its calls answer and leave, from the list's own emission. Assumes nothing.
-use Prim.Native.Nat.{ℕ, zero, suc, _+_, _*_, _≤_, _<_}
+-- The laws of writing. The calls of a writing one by one answer and leave what mmc.rs does with the whole list in one piece; what is
+-- accepted, and what is then read back; what a failed writer does; how far any calls get. Assumes nothing.
+use Prim.Native.Nat.{ℕ, suc, _+_, _≤_, _<_, suc-le-suc}
 use mathlib.Core.Path.{_≡_, refl, sym, ap, ap₂, subst, _∙_}
-use mathlib.Core.Bool.{Bool, true, false, not, cond, _&&_}
-use mathlib.Core.List.{List, [], _∷_, _++_, append-assoc, append-nil}
+use mathlib.Core.Bool.{Bool, true, false, cond, _&&_}
+use mathlib.Core.Logic.{_⊎_, inl, inr, _↔_}
+use mathlib.Core.List.{List, [], _∷_, _++_}
 use mathlib.Core.Option.{Option, none, some}
-use native.Mathlib.Nat.{add-zero, zero-add}
+use native.Mathlib.Nat.{add-zero, zero-lt-suc}
 use native.Mathlib.Omega.{arith}
-use borrow.Author.Tests.{le-leb, leb-true, leb-false}
-use lib.Dec.{leb, ltb, eqb}
-use lib.ListN.{length, take, drop, length-append}
-use lib.Seq.{take-at}
+use borrow.Author.Tests.{ne-eqb}
+use lib.Dec.{leb, lit≤}
+use lib.ListN.{length, getD, length-append}
 use Rattle.mmc.specs.declared.length.Kind.{Kind}
 use Rattle.mmc.specs.declared.length.Kind.the-variants.{Commands, Fields}
 use Rattle.mmc.specs.Length.{within}
-use Rattle.mmc.specs.Named.{summed}
-pub use Rattle.mmc.specs.Rp013.{subId1}
-use Rattle.mmc.specs.Strings.{Given, emission, emissions}
+use Rattle.mmc.specs.Named.{summed, nameFits}
+use Rattle.mmc.specs.Rp013.{Item, Message, subId1, lastDevice, envelope}
+use Rattle.mmc.specs.Strings.{Given, emission, emissions, pairsOf, anyZeros, itemBytes, pairOf, Sound, readFrom, ruleOf, counted, dataFits, itemFits}
+use Rattle.mmc.specs.Message.{messageFrom}
 use Rattle.mmc.specs.Write as W
-use Rattle.mmc.specs.Write.{Writing, sound, openedCommands, openedResponses, begun, ready, admitted, moved, closedMessage, ended, wholeMessage}
-use Rattle.mmc.specs.Writings.{State, opened, afterItem, afterItems, openingOf, stringState, stringAnswer, stringLeft}
-use Rattle.universal.specs.Refusals.{Refusal, refusal, Answer, gives, refused}
-use Rattle.universal.specs.Emission.{Emission, sent, stopped, check, resume, _then_, fitted}
-use Rattle.universal.specs.Message.{opening, header}
+use Rattle.mmc.specs.Write.{Writing, sound, openedCommands, admitted, moved, closedFields, ended, wholeMessage, wholeFields}
+use Rattle.mmc.specs.Writings.{State, opened, afterItem, afterItems, openingOf, stringState, stringAnswer, stringLeft, stringOf, headerOf, upToClose, bodyOf, fieldsOpened, fieldsAnswer, fieldsLeft}
+use Rattle.mmc.specs.WholeLists.{messageEmission, fieldsEmission, Accepts, checks, AllAccepted, NoneRefused, ReadBack, Entry, entryEmission, afterEntry, afterEntries, entriesEmission, HoldsAll, Repeats, InLimits}
+use Rattle.universal.specs.Refusals.{Refusal, refusal, gives}
+use Rattle.universal.specs.Emission.{Emission, sent, stopped, check, resume, _then_, answerIn, answer}
+use Rattle.universal.specs.Message.{opening}
 use Rattle.universal.specs.Overlay.{overlay}
-use Rattle.universal.specs.declared.message.MaybeSubId2.the-variants.{NoSubId2}
-use Rattle.universal.proofs.Laws.{overlay-none, overlay-append, overlay-fits, then-sent, then-accepted, check-held, opening-device, opening-bytes}
-use Rattle.mmc.proofs.Ranges.{within-told}
-use Rattle.mmc.proofs.StringLaws.{emissions-none, emissions-cons}
-use Rattle.mmc.proofs.ItemPuts.{command-small, field-small}
-use Rattle.mmc.proofs.Writers.{ready-told, repeats, takes, close-sent}
+use Rattle.universal.proofs.Laws.{overlay-none, then-sent, then-assoc, then-accepted, answer-fits, opening-plain, all-low-byte}
+use Rattle.mmc.proofs.Holding.{none-some, entry-small, OpensWhole, opens-whole, opened-kept, fields-kept, Holds, holds-entries, holds-items, holds-opened, holds-fields, rule-of-48, ends-message}
+use Rattle.universal.proofs.Tests.{and-parts}
+use Rattle.mmc.proofs.Puts.{name-length}
+use Rattle.mmc.proofs.Ranges.{in-range}
+use Rattle.mmc.proofs.StringLaws.{item-accepted, list-accepted, list-message, written-reads-back, string-message}
+use Rattle.mmc.proofs.Writers.{ready-failed, repeats, response-opening, close-repeats}
+use Rattle.mmc.proofs.Accepting.{Kept, kept-sound, given-kept, all-taken, WrittenWhole, written-whole}
 
--- ---- one item
+-- ---- a whole list, in one piece
 
-none-some : (r : Refusal) → some r ≡ none → ⊥
-none-some r p = let z : _≡_ {A = ℕ} 0 1 = cc in omega arith
-
--- A writing that goes on has not failed.
-not-failed : (w : Writing) → sound w .stop ≡ none → w .stop ≡ none
-unfolding sound
-not-failed w = go (leb (w .items) 256 && leb (w .at) 40000)
+-- The calls of a writing of up to 256 items answer what mmc.rs answers of the whole list, and leave what it leaves, refused or not.
+pub string-whole : (kind : Kind) (device : ℕ) (gs : List (Given kind)) (out : List ℕ) → length gs ≤ 256
+    → (stringAnswer kind device gs out ≡ answer (messageEmission kind device gs) (length out))
+    × (stringLeft kind device gs out ≡ overlay out 0 (messageEmission kind device gs .bytes))
+unfolding stringAnswer stringLeft stringState messageEmission
+string-whole kind device gs out few =
+    let h = holds-items kind out gs (openingOf kind device) (opened (openingOf kind device) out) (holds-opened kind device out) few in
+    let k = ends-message out (openingOf kind device then emissions kind gs) (0 + length gs) (stringState kind device gs out) h in
+    let same = by-body (emissions kind gs) (openingOf kind device) (opens-whole kind device) in
+    (k .answers ∙ ap (λ (e : Emission). answer e (length out)) same, k .leaves ∙ ap (λ (e : Emission). overlay out 0 (e .bytes)) same)
   where
-    go : (b : Bool) → cond b w (record { at = w .at; items = w .items; stop = some (refusal 10) }) .stop ≡ none → w .stop ≡ none
-    go true h = h
-    go false h = absurd (none-some (refusal 10) h)
+    tail : Bool → Emission
+    tail b = check b 2 then sent (247 ∷ [])
 
--- An item that was accepted was its own emission, which was.
-pub record Taken (w : Writing) (e : Emission) : Type 0 where
-  pub going : w .stop ≡ none
-  pub own : e .stop ≡ none
-  pub whole : admitted w e ≡ e
+    -- The rule of 48 by the position is the rule by the body, after an opening that went out or was refused.
+    by-body : (i o : Emission)
+        → ((k : ℕ) × (o ≡ stopped k)) ⊎ ((device ≤ lastDevice kind) × (o ≡ sent (240 ∷ 127 ∷ device ∷ subId1 kind ∷ [])))
+        → (o then i) then tail (within 5 53 (length ((o then i) .bytes))) ≡ o then i then tail (within 1 49 (length (i .bytes)))
+    by-body i o (inl p) = rw (p .1)
+    by-body i o (inr p) =
+        rw (p .1)
+        (ap (λ (b : Bool). (sent (240 ∷ 127 ∷ device ∷ subId1 kind ∷ []) then i) then tail b)
+        (ap (within 5 53) (length-append (240 ∷ 127 ∷ device ∷ subId1 kind ∷ []) (i .bytes)) ∙ rule-of-48 (length (i .bytes)))
+        ∙ then-assoc (sent (240 ∷ 127 ∷ device ∷ subId1 kind ∷ [])) i (tail (within 1 49 (length (i .bytes)))))
 
-pub taken : (w : Writing) (e : Emission) → admitted w e .stop ≡ none → Taken w e
-unfolding admitted
-taken w e h =
-    let k = then-accepted (record { bytes = []; stop = ready w }) e h in
-    record { going = not-failed w (ready-told w (k .0) .0); own = k .1; whole = takes w e (k .0) }
-
--- ---- a list of items
-
--- What a list that was accepted leaves: the list's own emission at the position.
-pub record AllTaken (kind : Kind) (s : State) (gs : List (Given kind)) : Type 0 where
-  pub going : s .writing .stop ≡ none
-  pub own : emissions kind gs .stop ≡ none
-  pub at : afterItems kind s gs .writing .at ≡ s .writing .at + length (emissions kind gs .bytes)
-  pub out : afterItems kind s gs .out ≡ overlay (s .out) (s .writing .at) (emissions kind gs .bytes)
-
-none-taken : (kind : Kind) (s : State) → afterItems kind s [] .writing .stop ≡ none → AllTaken kind s []
-unfolding afterItems
-none-taken kind s h =
-    record {
-      going = h;
-      own = ap (λ (e : Emission). e .stop) (emissions-none kind);
-      at = sym (ap (λ (e : Emission). s .writing .at + length (e .bytes)) (emissions-none kind) ∙ add-zero (s .writing .at));
-      out = sym (ap (λ (e : Emission). overlay (s .out) (s .writing .at) (e .bytes)) (emissions-none kind) ∙ overlay-none (s .out) (s .writing .at));
-    }
-
--- The list's own emission, where its first item is accepted.
-cons-bytes : (kind : Kind) (g : Given kind) (gs : List (Given kind)) → emission kind g .stop ≡ none
-    → emissions kind (g ∷ gs) ≡ record { bytes = emission kind g .bytes ++ emissions kind gs .bytes; stop = emissions kind gs .stop }
-cons-bytes kind g gs h = emissions-cons kind g gs ∙ then-sent (emission kind g) (emissions kind gs) h
-
-more-taken : (kind : Kind) (s : State) (g : Given kind) (gs : List (Given kind)) → AllTaken kind (afterItem kind s g) gs
-    → AllTaken kind s (g ∷ gs)
-unfolding afterItems W.given
-more-taken kind s g gs ih =
-    let t : Taken (s .writing) (emission kind g) = taken (s .writing) (emission kind g) (ih .going) in
-    let e : Emission = emission kind g in
-    let a : ℕ = s .writing .at in
-    let bs : List ℕ = emissions kind gs .bytes in
-    let b : emissions kind (g ∷ gs) ≡ record { bytes = e .bytes ++ bs; stop = emissions kind gs .stop } = cons-bytes kind g gs (t .own) in
-    let one : afterItem kind s g .writing .at ≡ a + length (e .bytes) = ap (λ (x : Emission). a + length (x .bytes)) (t .whole) in
-    let first : afterItem kind s g .out ≡ overlay (s .out) a (e .bytes) = ap (λ (x : Emission). overlay (s .out) a (x .bytes)) (t .whole) in
-    record {
-      going = t .going;
-      own = ap (λ (x : Emission). x .stop) b ∙ ih .own;
-      at =
-          ih .at
-          ∙ ap (λ (k : ℕ). k + length bs) one
-          ∙ sum a (length (e .bytes)) (length bs)
-          ∙ ap (λ (k : ℕ). a + k) (sym (length-append (e .bytes) bs))
-          ∙ sym (ap (λ (x : Emission). a + length (x .bytes)) b);
-      out =
-          ih .out
-          ∙ ap₂ (λ (l : List ℕ) (k : ℕ). overlay l k bs) first one
-          ∙ sym (overlay-append (s .out) a (e .bytes) bs)
-          ∙ sym (ap (λ (x : Emission). overlay (s .out) a (x .bytes)) b);
-    }
+-- So do the calls of a string of fields.
+pub fields-whole : (gs : List (Given Fields)) (out : List ℕ) → length gs ≤ 256
+    → (fieldsAnswer gs out ≡ answer (fieldsEmission gs) (length out)) × (fieldsLeft gs out ≡ overlay out 0 (fieldsEmission gs .bytes))
+unfolding fieldsAnswer fieldsLeft wholeFields closedFields answer
+fields-whole gs out few =
+    let h = holds-items Fields out gs (sent []) (fieldsOpened out) (holds-fields out) few in
+    let w : Writing = afterItems Fields (fieldsOpened out) gs .writing in
+    (
+      ap₂ (λ (t : Option Refusal) (k : ℕ). ended (resume [] t (sent []) .stop) k (length out))
+          (ap (λ (v : Writing). v .stop) (kept-sound w (h .kept)) ∙ h .stop) (h .at)
+      ∙ go (emissions Fields gs .stop),
+      h .out,
+    )
   where
-    sum : (x y z : ℕ) → x + y + z ≡ x + (y + z)
-    sum x y z = omega arith
+    go : (t : Option Refusal)
+        → ended (resume [] t (sent []) .stop) (length (emissions Fields gs .bytes)) (length out)
+        ≡ answerIn t (length (emissions Fields gs .bytes)) (length out)
+    go none = refl
+    go (some r) = refl
 
-pub all-taken : (kind : Kind) (gs : List (Given kind)) (s : State) → afterItems kind s gs .writing .stop ≡ none → AllTaken kind s gs
-unfolding afterItems
-all-taken kind [] s h = none-taken kind s h
-all-taken kind (g ∷ gs) s h = more-taken kind s g gs (all-taken kind gs (afterItem kind s g) h)
+-- ---- what is accepted
 
--- ---- the opening and the close
+-- An item that fits has a name, so at least one byte.
+item-some : (kind : Kind) (x : Item) → itemFits kind x ≡ true → 1 ≤ length (itemBytes kind x)
+unfolding itemFits itemBytes
+item-some kind x h =
+    let n : 1 ≤ length (x .name) = name-length (x .name) (and-parts (nameFits (x .name)) (dataFits (ruleOf kind x) (x .«data»)) h .0) .0 in
+    omega (arith, length-append (x .name) (counted (ruleOf kind x) (x .«data»)))
 
--- An opening that was accepted.
-pub record OpenedWhole (kind : Kind) (device : ℕ) : Type 0 where
-  pub low-device : device ≤ 127
-  pub bytes : openingOf kind device .bytes ≡ 240 ∷ 127 ∷ device ∷ subId1 kind ∷ []
+-- An accepted item has at least one byte, so an accepted list has no more items than bytes.
+few-items : (kind : Kind) (gs : List (Given kind)) → emissions kind gs .stop ≡ none → length gs ≤ length (emissions kind gs .bytes)
+unfolding emissions
+few-items kind [] h = lit≤ tt
+few-items kind (g ∷ gs) h =
+    let t = then-accepted (emission kind g) (emissions kind gs) h in
+    let s : Sound kind (pairOf kind g) (emission kind g .bytes) = item-accepted kind g (t .0) in
+    let one : 1 ≤ length (emission kind g .bytes) = rw (s .item-bytes) (item-some kind (pairOf kind g) (s .fits)) in
+    let rest = few-items kind gs (t .1) in
+    let b : length (emissions kind (g ∷ gs) .bytes) ≡ length (emission kind g .bytes) + length (emissions kind gs .bytes) =
+    ap (λ (x : Emission). length (x .bytes)) (then-sent (emission kind g) (emissions kind gs) (t .0))
+    ∙ length-append (emission kind g .bytes) (emissions kind gs .bytes) in
+    omega (arith, b)
 
-opening-low : (device n : ℕ) → opening (header true device n NoSubId2) .stop ≡ none → device ≤ 127
-opening-low device n h = go (leb device 127) refl
+device-of : (kind : Kind) (device : ℕ) → openingOf kind device .stop ≡ none → device ≤ lastDevice kind
+device-of kind device h = go (opens-whole kind device)
   where
-    go : (b : Bool) → leb device 127 ≡ b → device ≤ 127
-    go true e = leb-true device 127 e
-    go false e =
-        absurd (none-some (refusal 5) (sym (ap (λ (x : Emission). x .stop) (opening-device (header true device n NoSubId2) (leb-false device 127 e))) ∙ h))
+    go : OpensWhole kind device → device ≤ lastDevice kind
+    go (inl p) = absurd (none-some (refusal (p .0)) (sym (ap (λ (e : Emission). e .stop) (p .1)) ∙ h))
+    go (inr p) = p .0
 
-pub opened-whole : (kind : Kind) (device : ℕ) → openingOf kind device .stop ≡ none → OpenedWhole kind device
-unfolding openedCommands openedResponses
-opened-whole Commands device h =
-    record { low-device = opening-low device 6 h; bytes = opening-bytes (header true device 6 NoSubId2) h }
-opened-whole Fields device h =
-    let u = header true device 7 NoSubId2 in
-    let rest = then-accepted (check (leb device 127) 5) (check (not (eqb device 127)) 3 then opening u) h in
-    let last = then-accepted (check (not (eqb device 127)) 3) (opening u) (rest .1) in
-    record {
-      low-device = leb-true device 127 (check-held (leb device 127) 5 (rest .0));
-      bytes = rw (check-held (leb device 127) 5 (rest .0), check-held (not (eqb device 127)) 3 (last .0)) (opening-bytes u (last .1));
-    }
+opening-of : (kind : Kind) (device : ℕ) → device ≤ lastDevice kind
+    → openingOf kind device ≡ sent (240 ∷ 127 ∷ device ∷ subId1 kind ∷ [])
+unfolding openedCommands
+opening-of Commands device d = opening-plain true device 6 d refl (lit≤ tt)
+opening-of Fields device d =
+    response-opening device (λ e. omega arith) ∙ opening-plain true device 7 (omega arith) refl (lit≤ tt)
 
--- A close that answered a length.
-record Closed (w : Writing) (room n : ℕ) : Type 0 where
-  going : w .stop ≡ none
-  from : 5 ≤ w .at
-  to : w .at < 53
-  whole : n ≡ w .at + 1
-  fits : n ≤ room
-  close : closedMessage w ≡ sent (247 ∷ [])
+-- A writing is accepted exactly then.
+pub string-accepted : (kind : Kind) (device : ℕ) (gs : List (Given kind)) (out : List ℕ) (n : ℕ)
+    → (stringAnswer kind device gs out ≡ gives n) ↔ Accepts kind device gs (length out) n
+unfolding messageEmission
+string-accepted kind device gs out n = (
+  λ h.
+      let w : WrittenWhole kind device gs out n = written-whole kind device gs out n h in
+      record {
+        items = w .accepted;
+        device-id = device-of kind device (w .opened);
+        least = w .some-body;
+        most = w .most-body;
+        whole = w .whole;
+        room-for = w .fits;
+      },
+  λ a.
+      let bs : List ℕ = emissions kind gs .bytes in
+      let few : length gs ≤ 256 = omega (arith, few-items kind gs (a .items), a .most) in
+      let e : messageEmission kind device gs ≡ sent ((240 ∷ 127 ∷ device ∷ subId1 kind ∷ []) ++ bs ++ 247 ∷ []) =
+      rw (opening-of kind device (a .device-id), in-range 1 49 (length bs) (a .least) (omega (arith, a .most)))
+      (ap (λ (t : Option Refusal). sent (240 ∷ 127 ∷ device ∷ subId1 kind ∷ []) then resume bs t (sent (247 ∷ []))) (a .items)) in
+      let l : length ((240 ∷ 127 ∷ device ∷ subId1 kind ∷ []) ++ bs ++ 247 ∷ []) ≡ n =
+      omega (arith, a .whole, length-append bs (247 ∷ [])) in
+      string-whole kind device gs out few .0
+      ∙ answer-fits (messageEmission kind device gs) (length out) (ap (λ (x : Emission). x .stop) e)
+      (rw e (omega (arith, a .room-for, l)))
+      ∙ ap gives (ap (λ (x : Emission). length (x .bytes)) e ∙ l),
+)
 
-gives-refused : (n : ℕ) (r : Refusal) → refused r ≡ gives n → ⊥
-gives-refused n r p = let z : _≡_ {A = ℕ} 0 1 = cc in omega arith
+-- Where the writing after a list has no refusal, none of the list was refused.
+each-accepted : (kind : Kind) (gs : List (Given kind)) (s : State) → afterItems kind s gs .writing .stop ≡ none
+    → AllAccepted (checks kind s gs)
+unfolding afterItems checks W.given
+each-accepted kind [] s h = tt
+each-accepted kind (g ∷ gs) s h =
+    (all-taken kind gs (afterItem kind s g) h .going, each-accepted kind gs (afterItem kind s g) h)
 
--- An answer with a length came after no refusal, and the length fits.
-ended-gives : (s : Option Refusal) (m room n : ℕ) → ended s m room ≡ gives n → (s ≡ none) × (n ≡ m) × (n ≤ room)
-ended-gives none m room n e = go (leb m room) refl e
-  where
-    go : (b : Bool) → leb m room ≡ b → fitted b m ≡ gives n → (_≡_ {A = Option Refusal} none none) × (n ≡ m) × (n ≤ room)
-    go true t p = let same : n ≡ m = cc in (refl, same, omega (arith, leb-true m room t))
-    go false t p = absurd (gives-refused n _ p)
-ended-gives (some r) m room n e = absurd (gives-refused n r e)
+-- A writing is accepted just where none of its calls is refused.
+pub accepted-none-refused : (kind : Kind) (device : ℕ) (gs : List (Given kind)) (out : List ℕ) (n : ℕ)
+    → (stringAnswer kind device gs out ≡ gives n) ↔ NoneRefused kind device gs out n
+unfolding stringAnswer stringState
+accepted-none-refused kind device gs out n = (
+  λ h.
+      let w : WrittenWhole kind device gs out n = written-whole kind device gs out n h in
+      record {
+        opening = w .opened;
+        items = each-accepted kind gs (opened (openingOf kind device) out) (w .going);
+        close = h;
+      },
+  λ r. r .close,
+)
 
-closed : (w : Writing) (room n : ℕ) → wholeMessage w room ≡ gives n → Closed w room n
-unfolding wholeMessage closedMessage
-closed w room n h =
-    let k = ended-gives (closedMessage w .stop) (w .at + 1) room n h in
-    let outer = then-accepted (record { bytes = []; stop = sound w .stop }) (check (within 5 53 (w .at)) 2 then sent (247 ∷ [])) (k .0) in
-    let inner = then-accepted (check (within 5 53 (w .at)) 2) (sent (247 ∷ [])) (outer .1) in
-    let range = within-told 5 53 (w .at) (check-held (within 5 53 (w .at)) 2 (inner .0)) in
-    record {
-      going = not-failed w (outer .0);
-      from = range .0;
-      to = range .1;
-      whole = k .1;
-      fits = k .2;
-      close = close-sent w (outer .0) (range .0) (range .1);
-    }
+-- ---- what an accepted writing is
 
--- ---- the whole
-
--- A writing that is accepted: the list's own emission is accepted, the device is at most 127, the body has 1 to 48 bytes, the
--- answer is the whole length, and the buffer begins with the message.
-pub record WrittenWhole (kind : Kind) (device : ℕ) (gs : List (Given kind)) (out : List ℕ) (n : ℕ) : Type 0 where
-  pub accepted : emissions kind gs .stop ≡ none
-  pub low-device : device ≤ 127
-  pub some-body : 1 ≤ length (emissions kind gs .bytes)
-  pub most-body : length (emissions kind gs .bytes) ≤ 48
-  pub whole : n ≡ length (emissions kind gs .bytes) + 5
-  pub fits : n ≤ length out
-  pub left : take n (stringLeft kind device gs out)
-      ≡ (240 ∷ 127 ∷ device ∷ subId1 kind ∷ []) ++ (emissions kind gs .bytes ++ 247 ∷ [])
-
--- Bytes from the buffer's start on that fit are its front.
-front : (out m : List ℕ) (n : ℕ) → n ≡ length m → n ≤ length out → take n (overlay out 0 m) ≡ m
-front out m n e l =
-    let fit : 0 + length m ≤ length out = omega arith in
-    ap (take n) (overlay-fits out 0 m fit) ∙ take-at m (drop (0 + length m) out) n (sym e)
-
+-- It is the list's bytes in the envelope of its kind, as many as were answered.
 pub string-written : (kind : Kind) (device : ℕ) (gs : List (Given kind)) (out : List ℕ) (n : ℕ)
-    → stringAnswer kind device gs out ≡ gives n → WrittenWhole kind device gs out n
-unfolding stringAnswer stringLeft stringState begun
-string-written kind device gs out n h =
-    let start : State = opened (openingOf kind device) out in
-    let end : State = afterItems kind start gs in
-    let c : Closed (end .writing) (length out) n = closed (end .writing) (length out) n h in
-    let t : AllTaken kind start gs = all-taken kind gs start (c .going) in
-    let o : OpenedWhole kind device = opened-whole kind device (t .going) in
-    let head : List ℕ = 240 ∷ 127 ∷ device ∷ subId1 kind ∷ [] in
+    → stringAnswer kind device gs out ≡ gives n → stringOf kind device gs out n ≡ envelope kind device (emissions kind gs .bytes)
+string-written kind device gs out n h = written-whole kind device gs out n h .left
+
+-- It is RP-013's message, where none of its items is named 00 00 00: commands, or responses.
+pub accepted-message : (kind : Kind) (device : ℕ) (gs : List (Given kind)) (out : List ℕ) (n : ℕ)
+    → stringAnswer kind device gs out ≡ gives n → anyZeros (pairsOf kind gs) ≡ false
+    → Message kind device (emissions kind gs .bytes) (stringOf kind device gs out n)
+accepted-message kind device gs out n h z =
+    let w : WrittenWhole kind device gs out n = written-whole kind device gs out n h in
+    subst (Message kind device (emissions kind gs .bytes)) (sym (w .left))
+    (list-message kind device gs (w .accepted) (device-of kind device (w .opened)) z (w .some-body) (w .most-body))
+
+-- Bytes to 7FH stand before the closing F7H.
+up-to-close : (bs : List ℕ) → ((i : ℕ) → i < length bs → getD bs i 0 ≤ 127) → upToClose (bs ++ 247 ∷ []) ≡ bs
+unfolding upToClose
+up-to-close [] h = refl
+up-to-close (b ∷ bs) h =
+    let l : b ≤ 127 = h 0 (zero-lt-suc (length bs)) in
+    rw (ne-eqb b 247 (λ e. omega arith)) (ap (λ (t : List ℕ). b ∷ t) (up-to-close bs (λ i k. h (suc i) (suc-le-suc k))))
+
+-- An accepted writing reads back so, commands and responses alike.
+pub accepted-reads-back : (kind : Kind) (device : ℕ) (gs : List (Given kind)) (out : List ℕ) (n : ℕ)
+    → stringAnswer kind device gs out ≡ gives n → ReadBack kind device gs (stringOf kind device gs out n)
+accepted-reads-back kind device gs out n h =
+    let w : WrittenWhole kind device gs out n = written-whole kind device gs out n h in
     let bs : List ℕ = emissions kind gs .bytes in
-    let at : end .writing .at ≡ 4 + length bs = t .at ∙ ap (λ (l : List ℕ). length l + length bs) (o .bytes) in
-    let body : end .out ≡ overlay out 0 (head ++ bs) =
-    t .out
-    ∙ ap (λ (l : List ℕ). overlay (overlay out 0 l) (length l) bs) (o .bytes)
-    ∙ sym (overlay-append out 0 head bs) in
-    let left : overlay (end .out) (end .writing .at) (closedMessage (end .writing) .bytes) ≡ overlay out 0 ((head ++ bs) ++ 247 ∷ []) =
-    ap (λ (e : Emission). overlay (end .out) (end .writing .at) (e .bytes)) (c .close)
-    ∙ ap₂ (λ (l : List ℕ) (k : ℕ). overlay l k (247 ∷ [])) body (at ∙ sym (length-append head bs) ∙ sym (zero-add (length (head ++ bs))))
-    ∙ sym (overlay-append out 0 (head ++ bs) (247 ∷ [])) in
-    let size : n ≡ length ((head ++ bs) ++ 247 ∷ []) = omega (arith, c .whole, length-append (head ++ bs) (247 ∷ []), length-append head bs) in
+    let d : bodyOf (stringOf kind device gs out n) ≡ bs =
+    ap bodyOf (w .left) ∙ up-to-close bs (λ i. all-low-byte bs i (list-accepted kind gs (w .accepted) .low)) in
     record {
-      accepted = t .own;
-      low-device = o .low-device;
-      some-body = omega (arith, c .from);
-      most-body = omega (arith, c .to);
-      whole = omega (arith, c .whole);
-      fits = c .fits;
-      left = ap (take n) left ∙ front out ((head ++ bs) ++ 247 ∷ []) n size (c .fits);
+      device-id = device-of kind device (w .opened);
+      body = d;
+      message =
+          ap (messageFrom (headerOf (stringOf kind device gs out n))) d
+          ∙ ap (λ (s : List ℕ). messageFrom (headerOf s) bs) (w .left)
+          ∙ string-message kind device bs (w .some-body);
+      whole = ap (λ (s : List ℕ). readFrom kind s 0) d ∙ written-reads-back kind gs (w .accepted);
     }
 
--- ---- how far a writing goes
+-- ---- a failed writer, and how far any calls get
 
--- What calls keep of a writing: at most 256 items of 131 bytes each after the opening, and as many of one that was refused.
-pub record Kept (w : Writing) : Type 0 where
-  pub few : w .items ≤ 256
-  pub near : w .at ≤ 4 + 131 * w .items + 131
-  pub going : w .stop ≡ none → w .at ≤ 4 + 131 * w .items
-
--- It does not pass 40,000, so no call leaves a record that is failed by 10.
-pub kept-sound : (w : Writing) → Kept w → sound w ≡ w
-unfolding sound
-kept-sound w k = rw (le-leb (w .items) 256 (k .few), le-leb (w .at) 40000 (omega (arith, k .few, k .near)))
-
-refused-kept : (w : Writing) (r : Refusal) → Kept w → Kept (moved w (record { len = 0; stop = some r }))
-refused-kept w r k =
+repeats-now : (r : Refusal) (s t : State) → sound (t .writing) .stop ≡ some r → t .writing .at ≡ s .writing .at → t .out ≡ s .out
+    → Repeats r s t
+unfolding wholeMessage wholeFields closedFields
+repeats-now r s t f p u =
+    let c = close-repeats (t .writing) r f in
     record {
-      few = k .few;
-      near = omega (arith, k .near);
-      going = λ h. absurd (none-some r h);
+      failed = f;
+      position = p;
+      untouched = u;
+      next-item = λ x. repeats (t .writing) (entryEmission x) r (sym (ready-failed (t .writing) r f));
+      as-message = λ room. ap (λ (e : Emission). ended (e .stop) (t .writing .at + 1) room) c;
+      no-close = ap (λ (e : Emission). e .bytes) c;
+      as-fields = λ room. ap (λ (k : Option Refusal). ended (resume [] k (sent []) .stop) (t .writing .at) room) f;
     }
 
-item-kept : (w : Writing) (e : Emission) → Kept w → w .stop ≡ none → w .items < 256 → length (e .bytes) ≤ 131 → Kept (moved w (summed e))
-item-kept w e k g l h = go (e .stop)
+-- One more call leaves it failed by the same refusal.
+still-failed : (w : Writing) (e : Emission) (r : Refusal) → sound w .stop ≡ some r
+    → (sound (W.given w e) .stop ≡ some r) × (W.given w e .at ≡ w .at) × (admitted w e .bytes ≡ [])
+unfolding W.given sound
+still-failed w e r f =
+    let a : admitted w e ≡ record { bytes = []; stop = some r } = repeats w e r (sym (ready-failed w r f)) in
+    let near : W.given w e .at ≡ w .at = ap (λ (x : Emission). w .at + length (x .bytes)) a ∙ add-zero (w .at) in (
+      ap (λ (x : Emission). sound (moved w (summed x)) .stop) a
+      ∙ ap (λ (k : ℕ). cond {A = Writing} (leb (w .items) 256 && leb k 40000) (by k (some r)) (by k (some (refusal 10))) .stop) (add-zero (w .at))
+      ∙ go (leb (w .items) 256 && leb (w .at) 40000) f,
+      near,
+      ap (λ (x : Emission). x .bytes) a,
+    )
   where
-    go : (s : Option Refusal) → Kept (moved w (record { len = length (e .bytes); stop = s }))
-    go none = record { few = omega arith; near = omega (arith, k .going g); going = λ _. omega (arith, k .going g) }
-    go (some r) = record { few = k .few; near = omega (arith, k .going g); going = λ z. absurd (none-some r z) }
+    by : ℕ → Option Refusal → Writing
+    by k t = record { at = k; items = w .items; stop = t }
 
-pub given-kept : (w : Writing) (e : Emission) → Kept w → length (e .bytes) ≤ 131 → Kept (W.given w e)
-unfolding W.given
-given-kept w e k h = go (ready w) refl
-  where
-    go : (s : Option Refusal) → ready w ≡ s → Kept (moved w (summed (admitted w e)))
-    go none r =
-        subst (λ (x : Emission). Kept (moved w (summed x))) (sym (takes w e r))
-        (item-kept w e k (not-failed w (ready-told w r .0)) (ready-told w r .1) h)
-    go (some q) r = subst (λ (x : Emission). Kept (moved w (summed x))) (sym (repeats w e q r)) (refused-kept w q k)
+    go : (b : Bool) → cond {A = Writing} b w (by (w .at) (some (refusal 10))) .stop ≡ some r
+        → cond {A = Writing} b (by (w .at) (some r)) (by (w .at) (some (refusal 10))) .stop ≡ some r
+    go true q = refl
+    go false q = q
 
--- Every item emits at most 131 bytes.
-emission-small : (kind : Kind) (g : Given kind) → length (emission kind g .bytes) ≤ 131
-emission-small Commands g = command-small (g .source) (g .meant)
-emission-small Fields g = field-small (g .source) (g .meant)
+-- A failed writer repeats its first refusal and writes nothing more, over any list of further calls.
+pub failed-repeats : (xs : List Entry) (s : State) (r : Refusal) → sound (s .writing) .stop ≡ some r → Repeats r s (afterEntries s xs)
+unfolding afterEntries
+failed-repeats [] s r f = repeats-now r s s f refl refl
+failed-repeats (x ∷ xs) s r f =
+    let n = still-failed (s .writing) (entryEmission x) r f in
+    let t = failed-repeats xs (afterEntry s x) r (n .0) in
+    repeats-now r s (afterEntries (afterEntry s x) xs) (t .failed) (t .position ∙ n .1)
+    (t .untouched ∙ ap (overlay (s .out) (s .writing .at)) (n .2) ∙ overlay-none (s .out) (s .writing .at))
 
--- No list of calls leaves a position above 40,000 or more than 256 items.
-pub items-kept : (kind : Kind) (gs : List (Given kind)) (s : State) → Kept (s .writing) → Kept (afterItems kind s gs .writing)
-unfolding afterItems
-items-kept kind [] s k = k
-items-kept kind (g ∷ gs) s k = items-kept kind gs (afterItem kind s g) (given-kept (s .writing) (emission kind g) k (emission-small kind g))
+-- Any calls keep a writing from its limits.
+entries-kept : (xs : List Entry) (s : State) → Kept (s .writing) → Kept (afterEntries s xs .writing)
+unfolding afterEntries
+entries-kept [] s k = k
+entries-kept (x ∷ xs) s k =
+    entries-kept xs (afterEntry s x) (given-kept (s .writing) (entryEmission x) k (entry-small x))
+
+in-limits : (w : Writing) → Kept w → InLimits w
+in-limits w k = record { items = k .few; position = omega (arith, k .few, k .near) }
+
+-- No list of calls from an opening leaves a writer past its limits: one of commands or responses, or of a string of fields.
+pub message-in-limits : (kind : Kind) (device : ℕ) (out : List ℕ) (xs : List Entry)
+    → InLimits (afterEntries (opened (openingOf kind device) out) xs .writing)
+message-in-limits kind device out xs =
+    in-limits (afterEntries (opened (openingOf kind device) out) xs .writing)
+    (entries-kept xs (opened (openingOf kind device) out) (opened-kept kind device))
+
+pub fields-in-limits : (out : List ℕ) (xs : List Entry) → InLimits (afterEntries (fieldsOpened out) xs .writing)
+fields-in-limits out xs = in-limits (afterEntries (fieldsOpened out) xs .writing) (entries-kept xs (fieldsOpened out) fields-kept)
+
+-- ---- commands and fields in one writing
+
+holds-all : {found : List ℕ} {e : Emission} {most : ℕ} {s : State} → Holds found e most s → HoldsAll found e s
+holds-all h = record { position = h .at; refused-by = h .stop; left = h .out }
+
+pub message-entries : (kind : Kind) (device : ℕ) (out : List ℕ) (xs : List Entry) → length xs ≤ 256
+    → HoldsAll out (openingOf kind device then entriesEmission xs) (afterEntries (opened (openingOf kind device) out) xs)
+message-entries kind device out xs few =
+    holds-all (holds-entries out xs (openingOf kind device) 0 (opened (openingOf kind device) out) (holds-opened kind device out) (omega arith))
+
+pub fields-entries : (out : List ℕ) (xs : List Entry) → length xs ≤ 256
+    → HoldsAll out (entriesEmission xs) (afterEntries (fieldsOpened out) xs)
+fields-entries out xs few = holds-all (holds-entries out xs (sent []) 0 (fieldsOpened out) (holds-fields out) (omega arith))

@@ -9,6 +9,7 @@ pub mod Part
 pub mod Rp013
 pub mod Split
 pub mod Strings
+pub mod WholeLists
 pub mod Word
 pub mod Words
 pub mod Write

@@ -1,26 +1,21 @@
 -- Demand 3, proved: the string that an accepted writing left, read back and applied; in reverse; and by what is written. Assumes
 -- nothing.
-use Prim.Native.Nat.{ℕ, suc, _≤_, _<_, suc-le-suc}
-use mathlib.Core.Path.{_≡_, refl, ap, _∙_}
+use Prim.Native.Nat.{ℕ, _≤_}
+use mathlib.Core.Path.{_≡_, ap, _∙_}
 use mathlib.Core.Bool.{false}
-use mathlib.Core.List.{List, [], _∷_, _++_}
+use mathlib.Core.List.{List, [], _∷_}
 use mathlib.Core.Option.{some}
-use native.Mathlib.Nat.{zero-lt-suc}
-use native.Mathlib.Omega.{arith}
-use borrow.Author.Tests.{ne-eqb}
 use lib.Dec.{T}
-use lib.ListN.{length, getD}
 use Rattle.mmc.specs.declared.command.MmcCommand.{MmcCommand}
 use Rattle.mmc.specs.declared.command.MmcCommand.the-variants.{LocateTarget, Play}
 use Rattle.mmc.specs.declared.length.Kind.the-variants.{Commands}
-use Rattle.mmc.specs.declared.message.MmcMessage.the-variants as M
 use Rattle.codes.specs.declared.time_code.StandardTimeCode.{StandardTimeCode}
-use Rattle.mmc.specs.Message.{messageFrom}
-use Rattle.mmc.specs.Strings.{Given, Walk, emissions, meanings, pairsOf, commandsRead}
+use Rattle.mmc.specs.Strings.{Given, Walk, meanings, pairsOf, commandsRead}
 use Rattle.codes.specs.TimeCode.{writtenLabel, zeroed}
-use Rattle.mmc.specs.Writings.{stringAnswer}
-use Rattle.mmc.proofs.StringLaws.{list-accepted, written-reads-back, locate-play-back, commands-message}
-use Rattle.mmc.proofs.WritingLaws.{WrittenWhole, string-written}
+use Rattle.mmc.specs.WholeLists.{ReadBack}
+use Rattle.mmc.specs.Writings.{stringAnswer, stringOf, bodyOf}
+use Rattle.mmc.proofs.StringLaws.{locate-play-back}
+use Rattle.mmc.proofs.WritingLaws.{string-accepted, accepted-reads-back}
 use Rattle.labels.specs.St12.{isValid}
 use Rattle.mtc.specs.Stream.{Call, runFrom}
 use Rattle.mtc.specs.declared.generator.Direction.the-variants.{Forward, Reverse}
@@ -28,84 +23,48 @@ use Rattle.mtc.specs.declared.generator.MtcGenerator.{MtcGenerator}
 use Rattle.labels.specs.declared.time.MtcTime.{MtcTime}
 use Rattle.mtc.proofs.Laws.{stream-law}
 use Rattle.universal.specs.Message.{isAddressed}
-use Rattle.universal.specs.Refusals.{refusal, Answer, gives}
-use Rattle.universal.proofs.Laws.{all-low-byte}
+use Rattle.universal.specs.Refusals.{Answer, gives}
 use Rattle.transport.specs.Transport.{resolved}
-use Rattle.transport.specs.Demand3.{stringOf, partsOf, upToClose, dataOf, Run, obeyMessage, obeyed, appliedAll, appliedWalk, EndsAt, Promised, endingAt, Demand3, Demand3Reverse, Demand3Written}
+use Rattle.transport.specs.Demand3.{Run, obeyMessage, obeyed, appliedAll, appliedWalk, EndsAt, Promised, endingAt, Demand3, Demand3Reverse, Demand3Written}
 use Rattle.transport.proofs.Acting.{is-true, valid-same}
-use Rattle.transport.proofs.Obeying.{read-acts, applied-append, answers-each, resolved-valid, locate-play}
-
--- ---- the string, read back
-
--- Bytes to 7FH stand before the closing F7H.
-up-to-close : (bs : List ℕ) → ((i : ℕ) → i < length bs → getD bs i 0 ≤ 127) → upToClose (bs ++ 247 ∷ []) ≡ bs
-unfolding upToClose
-up-to-close [] h = refl
-up-to-close (b ∷ bs) h =
-    let l : b ≤ 127 = h 0 (zero-lt-suc (length bs)) in
-    rw (ne-eqb b 247 (λ e. omega arith)) (ap (λ (t : List ℕ). b ∷ t) (up-to-close bs (λ i k. h (suc i) (suc-le-suc k))))
-
--- What an accepted writing reads back as.
-record Back (gs : List (Given Commands)) (device : ℕ) (s : List ℕ) : Type 0 where
-  pub low-device : device ≤ 127
-  pub body : dataOf s ≡ emissions Commands gs .bytes
-  pub message : messageFrom (partsOf s) (dataOf s) ≡ gives (some (M.Commands device))
-  pub whole : commandsRead (dataOf s) ≡ record { items = meanings Commands 0 (pairsOf Commands gs); stop = refusal 9 }
-
-reads-back : (gs : List (Given Commands)) (device : ℕ) (out : List ℕ) (n : ℕ) → stringAnswer Commands device gs out ≡ gives n
-    → Back gs device (stringOf device gs out n)
-reads-back gs device out n h =
-    let w : WrittenWhole Commands device gs out n = string-written Commands device gs out n h in
-    let d : dataOf (stringOf device gs out n) ≡ emissions Commands gs .bytes =
-    ap dataOf (w .left)
-    ∙ up-to-close (emissions Commands gs .bytes) (λ i. all-low-byte (emissions Commands gs .bytes) i (list-accepted Commands gs (w .accepted) .low)) in
-    record {
-      low-device = w .low-device;
-      body = d;
-      message =
-          ap (messageFrom (partsOf (stringOf device gs out n))) d
-          ∙ ap (λ (s : List ℕ). messageFrom (partsOf s) (emissions Commands gs .bytes)) (w .left)
-          ∙ commands-message device (emissions Commands gs .bytes) (w .some-body);
-      whole = ap commandsRead d ∙ written-reads-back Commands gs (w .accepted);
-    }
+use Rattle.transport.proofs.Obeying.{read-acts, applied-append, resolved-valid, locate-play}
 
 -- ---- demand 3
 
 -- A string for a device that addresses the transport's own: its commands are read to the end and applied.
-obeyed-walk : (gs : List (Given Commands)) (device own : ℕ) (s : List ℕ) (g : MtcGenerator) → Back gs device s
-    → obeyed s own g ≡ appliedWalk device own g (commandsRead (dataOf s))
+obeyed-walk : (gs : List (Given Commands)) (device own : ℕ) (s : List ℕ) (g : MtcGenerator) → ReadBack Commands device gs s
+    → obeyed s own g ≡ appliedWalk device own g (commandsRead (bodyOf s))
 unfolding obeyed
 obeyed-walk gs device own s g b =
-    ap (λ (m : Answer _). obeyMessage m (dataOf s) own g) (b .message) ∙ read-acts (dataOf s) device own g
+    ap (λ (m : Answer _). obeyMessage m (bodyOf s) own g) (b .message) ∙ read-acts (bodyOf s) device own g
 
 -- The generator after the commands: located at T and running forward.
 generator-at : (s : List ℕ) (device own : ℕ) (g : MtcGenerator) (t : MtcTime) → device ≤ 127 → own ≤ 127 → T (isAddressed device own)
     → (e : EndsAt s t)
-    → appliedAll device own g (commandsRead (dataOf s) .items) ≡ runFrom (appliedAll device own g (e .before)) t Forward
+    → appliedAll device own g (commandsRead (bodyOf s) .items) ≡ runFrom (appliedAll device own g (e .before)) t Forward
 generator-at s device own g t h k a e =
     ap (appliedAll device own g) (e .read)
     ∙ applied-append device own g (e .before) (LocateTarget (e .target) ∷ Play ∷ [])
     ∙ locate-play device own (appliedAll device own g (e .before)) (e .target) t h k (is-true (isAddressed device own) a) (e .resolves)
 
 promised : (gs : List (Given Commands)) (device own : ℕ) (s : List ℕ) (g : MtcGenerator) (calls : List Call) (t : MtcTime)
-    → Back gs device s → own ≤ 127 → T (isAddressed device own) → EndsAt s t → Promised s device own g calls t
+    → ReadBack Commands device gs s → own ≤ 127 → T (isAddressed device own) → EndsAt s t → Promised s device own g calls t
 promised gs device own s g calls t b k a e =
-    let o : obeyed s own g ≡ appliedWalk device own g (commandsRead (dataOf s)) = obeyed-walk gs device own s g b in
+    let o : obeyed s own g ≡ appliedWalk device own g (commandsRead (bodyOf s)) = obeyed-walk gs device own s g b in
     let v : T (isValid t) = resolved-valid (e .target) t (e .resolves) in
     let r : obeyed s own g .generator ≡ runFrom (appliedAll device own g (e .before)) t Forward =
-    ap (λ (q : Run). q .generator) o ∙ generator-at s device own g t (b .low-device) k a e in
+    ap (λ (q : Run). q .generator) o ∙ generator-at s device own g t (b .device-id) k a e in
     record {
       message = b .message;
       whole = ap (λ (q : Run). q .stop) o ∙ ap (λ (w : Walk MmcCommand). w .stop) (b .whole);
-      each =
-          ap (λ (q : Run). length (q .answers)) o ∙ answers-each device own g (commandsRead (dataOf s) .items);
+      each = ap (λ (q : Run). q .answers) o;
       valid = v;
       answers = rw r (stream-law calls (appliedAll device own g (e .before)) t Forward v);
     }
 
 pub demand3 : Demand3
 demand3 gs device own out n g calls t h k a e =
-    promised gs device own (stringOf device gs out n) g calls t (reads-back gs device out n h) k a e
+    promised gs device own (stringOf Commands device gs out n) g calls t (accepted-reads-back Commands device gs out n h) k a e
 
 -- In reverse it is the stream law.
 pub demand3-reverse : Demand3Reverse
@@ -122,14 +81,14 @@ written-resolves c v k =
 -- A list that is written so ends so when it is read back.
 ends-at : (gs : List (Given Commands)) (a b : List ℕ) (c : StandardTimeCode) (device : ℕ) (out : List ℕ) (n : ℕ)
     → stringAnswer Commands device (endingAt gs a b c) out ≡ gives n → T (isValid (c .time)) → c .blank ≡ false
-    → EndsAt (stringOf device (endingAt gs a b c) out n) (c .time)
+    → EndsAt (stringOf Commands device (endingAt gs a b c) out n) (c .time)
 ends-at gs a b c device out n h v k =
     record {
       before = meanings Commands 0 (pairsOf Commands gs);
       target = zeroed c;
       read =
-          ap (λ (s : List ℕ). commandsRead s .items) (reads-back (endingAt gs a b c) device out n h .body)
-          ∙ ap (λ (w : Walk MmcCommand). w .items) (locate-play-back gs a b c (string-written Commands device (endingAt gs a b c) out n h .accepted));
+          ap (λ (s : List ℕ). commandsRead s .items) (accepted-reads-back Commands device (endingAt gs a b c) out n h .body)
+          ∙ ap (λ (w : Walk MmcCommand). w .items) (locate-play-back gs a b c (string-accepted Commands device (endingAt gs a b c) out n .0 h .items));
       resolves = written-resolves c v k;
     }
 

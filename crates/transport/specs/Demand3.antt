@@ -1,15 +1,14 @@
 -- Demand 3, as document 01 reads it ("Sequence", second paragraph): a list of commands is written, its string is read back from the
 -- bytes left in the buffer, its commands are applied one by one as they are read, and a reader gets the generator's next twenty-four
--- bytes. The lists are folded with the definitions in the contracts of the calls: `stringAnswer` and `stringLeft` with those of the
+-- bytes. The lists are folded with the definitions in the contracts of the calls: `stringAnswer` and `stringOf` with those of the
 -- writer, `messageFrom` and `nextCommand` with those of the reading, `applied` with that of the transport, `sent`, `afterCalls` and
 -- `events` with those of generator and reader. Assumes nothing.
 use Prim.Native.Nat.{ℕ, zero, suc, _≤_}
 use mathlib.Core.Path.{_≡_}
-use mathlib.Core.Bool.{true, false, cond}
+use mathlib.Core.Bool.{false}
 use mathlib.Core.List.{List, [], _∷_, _++_}
 use mathlib.Core.Option.{Option, none, some}
-use lib.Dec.{T, eqb}
-use lib.ListN.{length, take, drop, getD}
+use lib.Dec.{T}
 use Rattle.transport.specs.Transport.{Reply, Outcome, resolved, applied}
 use Rattle.mmc.specs.declared.command.MmcCommand.{MmcCommand}
 use Rattle.mmc.specs.declared.command.MmcCommand.the-variants.{LocateTarget, Play}
@@ -20,38 +19,17 @@ use Rattle.codes.specs.declared.time_code.StandardTimeCode.{StandardTimeCode}
 use Rattle.mmc.specs.Command.{nextCommand}
 use Rattle.mmc.specs.Message.{messageFrom}
 use Rattle.mmc.specs.Strings.{Given, given, Walk, walk, readsOf, commandsRead}
-use Rattle.mmc.specs.Writings.{stringAnswer, stringLeft}
+use Rattle.mmc.specs.Writings.{stringAnswer, stringOf, headerOf, bodyOf}
 use Rattle.mtc.specs.Reader.{fresh}
 use Rattle.labels.specs.St12.{isValid}
 use Rattle.mtc.specs.Stream.{Call, Answers, runFrom, sent, afterCalls, events}
 use Rattle.mtc.specs.declared.generator.Direction.the-variants.{Forward, Reverse}
 use Rattle.mtc.specs.declared.generator.MtcGenerator.{MtcGenerator}
 use Rattle.labels.specs.declared.time.MtcTime.{MtcTime}
-use Rattle.universal.specs.Message.{header, isAddressed}
+use Rattle.universal.specs.Message.{isAddressed}
 use Rattle.universal.specs.Refusals.{Refusal, refusal, Answer, gives, refused}
-use Rattle.universal.specs.declared.message.MaybeSubId2.the-variants.{NoSubId2}
-use Rattle.universal.specs.declared.message.Universal.{Universal}
 
--- ---- the string, read back
-
--- The string that a writing left: as many bytes of the buffer as it answered.
-abbrev pub stringOf : ℕ → List (Given Commands) → List ℕ → ℕ → List ℕ
-stringOf device gs out n = take n (stringLeft Commands device gs out)
-
--- Its parts: real time, device its third byte, sub-ID 1 its fourth, no sub-ID 2.
-abbrev pub partsOf : List ℕ → Universal
-partsOf s = header true (getD s 2 0) (getD s 3 0) NoSubId2
-
--- The bytes up to F7H.
-unfoldable pub upToClose : List ℕ → List ℕ
-upToClose [] = []
-upToClose (b ∷ bs) = cond (eqb b 247) [] (b ∷ upToClose bs)
-
--- Its data: the bytes after these up to the closing F7H.
-abbrev pub dataOf : List ℕ → List ℕ
-dataOf s = upToClose (drop 4 s)
-
--- ---- its commands, applied as they are read
+-- ---- a string's commands, applied as they are read
 
 -- What became of a string: the generator that came back last, the answer to each command, and the refusal that ended the reading.
 pub record Run : Type 0 where
@@ -96,7 +74,24 @@ obeyMessage (refused r) body own g = over g r
 
 -- What became of a string that was read back.
 unfoldable pub obeyed : List ℕ → ℕ → MtcGenerator → Run
-obeyed s own g = obeyMessage (messageFrom (partsOf s) (dataOf s)) (dataOf s) own g
+obeyed s own g = obeyMessage (messageFrom (headerOf s) (bodyOf s)) (bodyOf s) own g
+
+-- ---- commands applied one by one
+
+-- The generator after commands for a device, applied one by one.
+unfoldable pub appliedAll : ℕ → ℕ → MtcGenerator → List MmcCommand → MtcGenerator
+appliedAll device own g [] = g
+appliedAll device own g (c ∷ cs) = appliedAll device own (applied g device own c .generator) cs
+
+-- The answer to each.
+unfoldable pub answersTo : ℕ → ℕ → MtcGenerator → List MmcCommand → List (Answer Reply)
+answersTo device own g [] = []
+answersTo device own g (c ∷ cs) = applied g device own c .answer ∷ answersTo device own (applied g device own c .generator) cs
+
+-- What becomes of the commands of a walk, applied one by one.
+abbrev pub appliedWalk : ℕ → ℕ → MtcGenerator → Walk MmcCommand → Run
+appliedWalk device own g w =
+    record { generator = appliedAll device own g (w .items); answers = answersTo device own g (w .items); stop = w .stop }
 
 -- ---- the claim
 
@@ -104,31 +99,31 @@ obeyed s own g = obeyMessage (messageFrom (partsOf s) (dataOf s)) (dataOf s) own
 pub record EndsAt (s : List ℕ) (t : MtcTime) : Type 0 where
   pub before : List MmcCommand
   pub target : StandardTimeCode
-  pub read : commandsRead (dataOf s) .items ≡ before ++ (LocateTarget target ∷ Play ∷ [])
+  pub read : commandsRead (bodyOf s) .items ≡ before ++ (LocateTarget target ∷ Play ∷ [])
   pub resolves : resolved target ≡ some t
 
 -- What demand 3 promises of a string for a device, a transport's own device and generator, a reader's calls before, and T.
 pub record Promised (s : List ℕ) (device own : ℕ) (g : MtcGenerator) (calls : List Call) (t : MtcTime) : Type 0 where
   -- it reads back as commands for the device
-  pub message : messageFrom (partsOf s) (dataOf s) ≡ gives (some (M.Commands device))
+  pub message : messageFrom (headerOf s) (bodyOf s) ≡ gives (some (M.Commands device))
   -- its commands are read to the end
   pub whole : obeyed s own g .stop ≡ refusal 9
-  -- each of them is answered
-  pub each : length (obeyed s own g .answers) ≡ length (commandsRead (dataOf s) .items)
+  -- each of them is answered, as the transport answers it
+  pub each : obeyed s own g .answers ≡ answersTo device own g (commandsRead (bodyOf s) .items)
   -- T is a valid time
   pub valid : T (isValid t)
   -- what the reader answers to the generator's next twenty-four bytes
   pub answers : Answers calls Forward t (events (afterCalls fresh calls) (sent 24 (obeyed s own g .generator)))
 
 -- Demand 3: for every list of commands, each with its lent source, whose writing into any buffer is accepted (its close answers a
--- length: a writer that refused one call refuses the close), every device that addresses the transport's own, any generator, and any
+-- length, which is so just where none of its calls is refused: `accepted-none-refused` of mmc), every device that addresses the transport's own, any generator, and any
 -- list of calls that the reader got before, from fresh on.
 abbrev pub Demand3 : Type 0
 Demand3 =
     (gs : List (Given Commands)) (device own : ℕ) (out : List ℕ) (n : ℕ) (g : MtcGenerator) (calls : List Call) (t : MtcTime)
     → stringAnswer Commands device gs out ≡ gives n → own ≤ 127 → T (isAddressed device own)
-    → EndsAt (stringOf device gs out n) t
-    → Promised (stringOf device gs out n) device own g calls t
+    → EndsAt (stringOf Commands device gs out n) t
+    → Promised (stringOf Commands device gs out n) device own g calls t
 
 -- In reverse: the generator located at T and set running in reverse, in place of the string.
 abbrev pub Demand3Reverse : Type 0
@@ -147,24 +142,9 @@ Demand3Written =
     (calls : List Call)
     → T (isValid (c .time)) → c .blank ≡ false → stringAnswer Commands device (endingAt gs a b c) out ≡ gives n → own ≤ 127
     → T (isAddressed device own)
-    → Promised (stringOf device (endingAt gs a b c) out n) device own g calls (c .time)
+    → Promised (stringOf Commands device (endingAt gs a b c) out n) device own g calls (c .time)
 
 -- ---- what acts, and what holds nothing up
-
--- The generator after commands for a device, applied one by one.
-unfoldable pub appliedAll : ℕ → ℕ → MtcGenerator → List MmcCommand → MtcGenerator
-appliedAll device own g [] = g
-appliedAll device own g (c ∷ cs) = appliedAll device own (applied g device own c .generator) cs
-
--- The answer to each.
-unfoldable pub answersTo : ℕ → ℕ → MtcGenerator → List MmcCommand → List (Answer Reply)
-answersTo device own g [] = []
-answersTo device own g (c ∷ cs) = applied g device own c .answer ∷ answersTo device own (applied g device own c .generator) cs
-
--- What becomes of the commands of a walk, applied one by one.
-abbrev pub appliedWalk : ℕ → ℕ → MtcGenerator → Walk MmcCommand → Run
-appliedWalk device own g w =
-    record { generator = appliedAll device own g (w .items); answers = answersTo device own g (w .items); stop = w .stop }
 
 -- In any data, the commands before the refusal that ends the reading have acted.
 abbrev pub ReadActs : Type 0
