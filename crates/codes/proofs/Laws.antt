@@ -1,13 +1,14 @@
--- The laws of time code fields: reading and writing by the pages of RP-013, the round trips, which bits are lost, and what
--- the strings need of the bytes. A law of five bytes has one of two beside it, with `short` before its name. Assumes nothing.
+-- The laws of time code fields: reading and writing by the pages of RP-013, what is taken beyond them, the round trips, which
+-- bits are lost, and what the strings need of the bytes. A law of five bytes has one of two beside it, with `short` before its
+-- name. Assumes nothing.
 use Prim.Native.Nat.{ℕ, _+_, _%_, _≤_, _<_}
 use mathlib.Core.Path.{_≡_, refl, ap, _∙_}
-use mathlib.Core.Bool.{Bool, true, false, cond, _&&_, _||_}
+use mathlib.Core.Bool.{Bool, true, false, cond, not, _&&_, _||_}
 use mathlib.Core.Logic.{_↔_}
 use mathlib.Core.List.{[], _∷_}
 use native.Mathlib.Omega.{arith}
-use borrow.Author.Tests.{lt-leb}
-use lib.Dec.{T, leb}
+use borrow.Author.Tests.{lt-leb, lt-ltb, ltb-true}
+use lib.Dec.{leb, ltb, lit<}
 use lib.ListN.{length, getD}
 use Rattle.codes.specs.declared.time_code.FinalByte.{FinalByte}
 use Rattle.codes.specs.declared.time_code.FinalByte.the-variants.{Subframes, Status}
@@ -15,114 +16,179 @@ use Rattle.codes.specs.declared.time_code.StandardTimeCode.{StandardTime
 use Rattle.codes.specs.declared.time_code.ShortTimeCode.{ShortTimeCode}
 use Rattle.codes.specs.declared.time_code.MaybeName.the-variants.{Name}
 use Rattle.codes.specs.Rp013Code as page
-use Rattle.codes.specs.Rp013Code.{Reads, ReadsShort, ShortNamed}
+use Rattle.codes.specs.Rp013Code.{Letters, ShortLetters, Reads, ReadsShort, ShortNamed}
+use Rattle.codes.specs.Beyond.{ReadBeyond, ShortReadBeyond, WrittenBeyond, ShortWrittenBeyond}
 use Rattle.codes.specs.TimeCode.{bit, flag, finalFits, finalValue, framesByte, finalSubframes, finalStatus, readFinal, readStandard, writtenLabel, standardFits, standardList, standardBytes, readShort, shortFits, shortList, shortBytes, shortForm, withShort, readFive, readTwo, zeroed, cleared, standardAgain, shortAgain, shortName, fullName}
-use Rattle.labels.proofs.Laws.{zero-valid}
-use Rattle.labels.specs.St12.{isValid, label}
+use Rattle.labels.proofs.Laws.{fps-small, valid-facts, valid-widths}
+use Rattle.labels.specs.St12.{framesPerSecond, isValid}
 use Rattle.labels.specs.Time.{rawTime, hoursByte}
+use Rattle.labels.specs.declared.time.TimeCodeType.{TimeCodeType}
+use Rattle.labels.specs.declared.time.TimeCodeType.the-variants.{Fps30}
+use Rattle.universal.proofs.Laws.{all-low-byte}
 use Rattle.universal.specs.Message.{allLow}
 use Rattle.universal.specs.Refusals.{gives, refused, refusal}
 use Rattle.codes.proofs.Again
 -- A byte's fields, read and written again.
 pub use Rattle.codes.proofs.Again.{hours-again, six-again, frames-again}
-use Rattle.universal.proofs.Tests.{and-first, and-second}
+use Rattle.universal.proofs.Tests.{and-parts, and-first, and-second, and-all, holds}
 use Rattle.codes.proofs.Answers.{answer-same}
+use Rattle.codes.proofs.Beyond
 use Rattle.codes.proofs.Names
 use Rattle.codes.proofs.Reading
 use Rattle.codes.proofs.Written
 
 -- ---- reading, by pp. 8 and 9
 
--- Five bytes of at most 7FH are read as the code whose letters they are.
-pub read-by-page : (hr mn sc fr ff : ℕ) → hr ≤ 127 → mn ≤ 127 → sc ≤ 127 → fr ≤ 127 → ff ≤ 127
-    → Reads hr mn sc fr ff (readStandard hr mn sc fr ff)
-read-by-page = Reading.code-letters
+-- Five bytes are the letters of a code just where each is at most 7FH and they are read as that code.
+pub letters-by-page : (hr mn sc fr ff : ℕ) (c : StandardTimeCode)
+    → Letters hr mn sc fr ff c ↔ ((allLow (hr ∷ mn ∷ sc ∷ fr ∷ ff ∷ []) ≡ true) × (readStandard hr mn sc fr ff ≡ c))
+letters-by-page hr mn sc fr ff c = (
+  (λ k. (Reading.code-letters-low hr mn sc fr ff c k, Reading.code-read hr mn sc fr ff c k)),
+  (λ (l, e). rw e at (of-low l)),
+)
+  where
+    of-low : allLow (hr ∷ mn ∷ sc ∷ fr ∷ ff ∷ []) ≡ true → Letters hr mn sc fr ff (readStandard hr mn sc fr ff)
+    of-low l =
+        let b : (i : ℕ) → i < 5 → getD (hr ∷ mn ∷ sc ∷ fr ∷ ff ∷ []) i 0 ≤ 127 = λ i k. all-low-byte _ i l k in
+        Reading.code-letters hr mn sc fr ff (b 0 (lit< tt)) (b 1 (lit< tt)) (b 2 (lit< tt)) (b 3 (lit< tt)) (b 4 (lit< tt))
 
--- They are the letters of no other.
+-- The page reads them as a code just where it also has that code.
+pub read-by-page : (hr mn sc fr ff : ℕ) (c : StandardTimeCode)
+    → Reads hr mn sc fr ff c
+    ↔ ((allLow (hr ∷ mn ∷ sc ∷ fr ∷ ff ∷ []) ≡ true) × (readStandard hr mn sc fr ff ≡ c) × (page.allowed c ≡ true))
+read-by-page hr mn sc fr ff c = (
+  (λ k. let p = letters-by-page hr mn sc fr ff c .0 (k .letters) in (p .0, p .1, k .code)),
+  (λ (l, e, a). record { letters = letters-by-page hr mn sc fr ff c .1 (l, e); code = a }),
+)
+
+-- So what the page reads as a code is read as that code.
 pub read-only : (hr mn sc fr ff : ℕ) (c : StandardTimeCode) → Reads hr mn sc fr ff c → readStandard hr mn sc fr ff ≡ c
-read-only = Reading.code-read
+read-only hr mn sc fr ff c k = Reading.code-read hr mn sc fr ff c (k .letters)
 
--- Two bytes, likewise.
-pub short-read-by-page : (fr ff : ℕ) → fr ≤ 127 → ff ≤ 127 → ReadsShort fr ff (readShort fr ff)
-short-read-by-page = Reading.short-letters
+-- What else is read: subframes 100 to 127, labels that ST 12-1 does not have, blank codes with counts; nothing more.
+pub read-beyond : (hr mn sc fr ff : ℕ)
+    → (page.allowed (readStandard hr mn sc fr ff) ≡ false) ↔ ReadBeyond (readStandard hr mn sc fr ff)
+read-beyond hr mn sc fr ff = (Beyond.read-beyond hr mn sc fr ff, Beyond.beyond-code (readStandard hr mn sc fr ff))
 
--- They are the letters of no other short code.
-pub short-read-only : (fr ff : ℕ) (c : ShortTimeCode) → ReadsShort fr ff c → readShort fr ff ≡ c
-short-read-only = Reading.short-read
+-- Bytes above 7FH are read as the same without bit 7.
+pub bit-7-unread : (hr mn sc fr ff : ℕ)
+    → readStandard (hr % 128) (mn % 128) (sc % 128) (fr % 128) (ff % 128) ≡ readStandard hr mn sc fr ff
+bit-7-unread = Reading.code-bit-7
+
+-- Two bytes are the letters of a short code just where each is at most 7FH and they are read as that code.
+pub short-letters-by-page : (fr ff : ℕ) (c : ShortTimeCode)
+    → ShortLetters fr ff c ↔ ((allLow (fr ∷ ff ∷ []) ≡ true) × (readShort fr ff ≡ c))
+short-letters-by-page fr ff c = (
+  (λ k. (Reading.short-letters-low fr ff c k, Reading.short-read fr ff c k)),
+  (λ (l, e). rw e at (of-low l)),
+)
+  where
+    of-low : allLow (fr ∷ ff ∷ []) ≡ true → ShortLetters fr ff (readShort fr ff)
+    of-low l =
+        let b : (i : ℕ) → i < 2 → getD (fr ∷ ff ∷ []) i 0 ≤ 127 = λ i k. all-low-byte _ i l k in
+        Reading.short-letters fr ff (b 0 (lit< tt)) (b 1 (lit< tt))
+
+module _ (r : TimeCodeType) where
+  -- As the short form of a field the page reads them as a code just where it also has that code at the field's rate.
+  pub short-read-by-page : (fr ff : ℕ) (c : ShortTimeCode)
+      → ReadsShort r fr ff c
+      ↔ ((allLow (fr ∷ ff ∷ []) ≡ true) × (readShort fr ff ≡ c) × (page.shortAllowed r c ≡ true))
+  short-read-by-page fr ff c = (
+    (λ k. let p = short-letters-by-page fr ff c .0 (k .letters) in (p .0, p .1, k .code)),
+    (λ (l, e, a). record { letters = short-letters-by-page fr ff c .1 (l, e); code = a }),
+  )
+
+  -- So what the page reads as a short code is read as that code.
+  pub short-read-only : (fr ff : ℕ) (c : ShortTimeCode) → ReadsShort r fr ff c → readShort fr ff ≡ c
+  short-read-only fr ff c k = Reading.short-read fr ff c (k .letters)
+
+  -- What else is read: subframes 100 to 127, and frames from the rate to 31; nothing more.
+  pub short-read-beyond : (fr ff : ℕ) → (page.shortAllowed r (readShort fr ff) ≡ false) ↔ ShortReadBeyond r (readShort fr ff)
+  short-read-beyond fr ff = (Beyond.short-read-beyond r fr ff, Beyond.beyond-short r (readShort fr ff))
+
+-- Bytes above 7FH are read as the same without bit 7.
+pub short-bit-7-unread : (fr ff : ℕ) → readShort (fr % 128) (ff % 128) ≡ readShort fr ff
+short-bit-7-unread = Reading.short-bit-7
 
 -- ---- writing, by pp. 8 and 9
 
--- An accepted code is written as the bytes that its letters give.
-pub written-by-page : (c : StandardTimeCode) → standardFits c ≡ true → standardList c ≡ page.written c
-written-by-page = Written.standard-page
+-- A code is accepted just where the page has it with zeros for a blank label.
+pub fits-by-page : (c : StandardTimeCode) → standardFits c ≡ page.allowed (zeroed c)
+fits-by-page = Beyond.fits-zeroed
 
--- A short one too, whether it is accepted or not.
-pub short-written-by-page : (c : ShortTimeCode) → shortList c ≡ page.shortWritten c
-short-written-by-page = Written.short-page
-
--- A short code is accepted just where the page allows it.
-pub short-fits-by-page : (c : ShortTimeCode) → shortFits c ≡ page.shortAllowed c
-unfolding shortFits
-short-fits-by-page c = ap (λ (b : Bool). leb (c .frames) 29 && b) (Written.fits-page (c .«final_byte»))
-
--- So is a full one.
-pub fits-by-page : (c : StandardTimeCode) → standardFits c ≡ page.allowed c
-unfolding standardFits
-fits-by-page c =
-    rw (Written.fits-page (c .«final_byte»)) (ap (λ (b : Bool). page.lastAllowed (c .«final_byte») && b) (go (c .blank)))
-  where
-    go : (b : Bool) → isValid (cond b (label (c .time .rate) 0 0 0 0) (c .time)) ≡ b || isValid (c .time)
-    go true = told (isValid (label (c .time .rate) 0 0 0 0)) (zero-valid (c .time .rate))
-      where
-        told : (b : Bool) → T b → b ≡ true
-        told true h = refl
-        told false h = absurd h
-    go false = refl
-
--- So it is answered with the page's bytes, or with 3.
+-- It is answered with the bytes that the page gives to that, or with 3.
 pub answer-by-page : (c : StandardTimeCode)
-    → standardBytes c ≡ cond (page.allowed c) (gives (page.written c)) (refused (refusal 3))
+    → standardBytes c ≡ cond (page.allowed (zeroed c)) (gives (page.written (zeroed c))) (refused (refusal 3))
 answer-by-page c =
-    answer-same (standardFits c) (page.allowed c) _ _ (refusal 3) (fits-by-page c) (written-by-page c)
+    answer-same (standardFits c) (page.allowed (zeroed c)) _ _ (refusal 3) (fits-by-page c) (Written.standard-page c)
 
--- A short code is answered with the page's bytes, or with 3.
+-- So a code that the page has is answered with the page's bytes.
+pub written-by-page : (c : StandardTimeCode) → page.allowed c ≡ true → standardBytes c ≡ gives (page.written c)
+written-by-page c h =
+    answer-by-page c
+    ∙ ap (λ (d : StandardTimeCode). cond (page.allowed d) (gives (page.written d)) (refused (refusal 3))) (Beyond.allowed-same c h)
+    ∙ ap (λ (b : Bool). cond b (gives (page.written c)) (refused (refusal 3))) h
+
+-- What else is accepted: a blank code with counts, whatever they are; nothing more.
+pub written-beyond : (c : StandardTimeCode) → ((standardFits c ≡ true) × (page.allowed c ≡ false)) ↔ WrittenBeyond c
+written-beyond c = (Beyond.written-beyond c, Beyond.beyond-written c)
+
+-- A short code is accepted just where the page has it at 30 frames.
+pub short-fits-by-page : (c : ShortTimeCode) → shortFits c ≡ page.shortAllowed Fps30 c
+short-fits-by-page = Beyond.short-fits-30
+
+-- It is answered with the page's bytes, or with 3.
 pub short-answer-by-page : (c : ShortTimeCode)
-    → shortBytes c ≡ cond (page.shortAllowed c) (gives (page.shortWritten c)) (refused (refusal 3))
+    → shortBytes c ≡ cond (page.shortAllowed Fps30 c) (gives (page.shortWritten c)) (refused (refusal 3))
 short-answer-by-page c =
-    answer-same (shortFits c) (page.shortAllowed c) _ _ (refusal 3) (short-fits-by-page c) (λ _. short-written-by-page c)
+    answer-same (shortFits c) (page.shortAllowed Fps30 c) _ _ (refusal 3) (short-fits-by-page c) (λ _. Written.short-page c)
+
+module _ (r : TimeCodeType) (c : ShortTimeCode) where
+  -- So a code that the page has at some rate is answered with the page's bytes.
+  pub short-written-by-page : page.shortAllowed r c ≡ true → shortBytes c ≡ gives (page.shortWritten c)
+  short-written-by-page h = rw (Beyond.short-fits-rate r c h, Written.short-page c)
+
+  -- What else is accepted: frames from the rate to 29, so 24 to 29 at 24 frames and 25 to 29 at 25; nothing more.
+  pub short-written-beyond : ((shortFits c ≡ true) × (page.shortAllowed r c ≡ false)) ↔ ShortWrittenBeyond r c
+  short-written-beyond = (Beyond.short-written-beyond r c, Beyond.beyond-short-written r c)
 
 -- ---- what is written reads back
+
+-- The page reads the bytes that it gives to a code that it has as that code.
+pub page-reads-back : (c : StandardTimeCode) → page.allowed c ≡ true
+    → Reads (getD (page.written c) 0 0) (getD (page.written c) 1 0) (getD (page.written c) 2 0) (getD (page.written c) 3 0) (getD (page.written c) 4 0) c
+page-reads-back c h =
+    let p = and-parts (page.lastAllowed (c .«final_byte»)) (isValid (c .time) && (not (c .blank) || page.isZero (c .time))) h in
+    let v = and-parts (isValid (c .time)) _ (p .1) .0 in
+    record {
+      letters = Written.letters-written c (valid-widths (c .time) (holds _ v)) (Written.fits-page (c .«final_byte») ∙ p .0);
+      code = h;
+    }
+
+-- A short code likewise.
+pub short-page-reads-back : (r : TimeCodeType) (c : ShortTimeCode) → page.shortAllowed r c ≡ true
+    → ReadsShort r (getD (page.shortWritten c) 0 0) (getD (page.shortWritten c) 1 0) c
+short-page-reads-back r c h =
+    let p = and-parts (ltb (c .frames) (framesPerSecond r)) (page.lastAllowed (c .«final_byte»)) h in
+    let f : c .frames < framesPerSecond r = ltb-true _ _ (p .0) in
+    record {
+      letters = Written.short-letters-written c (omega (arith, fps-small r)) (Written.fits-page (c .«final_byte») ∙ p .1);
+      code = h;
+    }
 
 -- An accepted short code reads back as itself.
 pub short-read-back : (c : ShortTimeCode) → shortFits c ≡ true → readTwo (shortList c) ≡ c
 short-read-back c h =
     ap readTwo (Written.short-page c)
     ∙ Reading.short-read _ _ c
-    (record {
-      fffff = omega (arith, Written.frames-accepted c h);
-      frames-byte = refl;
-      last-byte = Written.says-last (c .«final_byte») (Written.short-last-accepted c h);
-    })
+    (Written.short-letters-written c (omega (arith, Written.frames-accepted c h)) (Written.short-last-accepted c h))
 
 -- An accepted code reads back with its label as zeros where it is blank.
 pub read-back : (c : StandardTimeCode) → standardFits c ≡ true → readFive (standardList c) ≡ zeroed c
 read-back c h =
     ap readFive (Written.standard-page c h)
     ∙ Reading.code-read _ _ _ _ _ (zeroed c)
-    (record {
-      zzzzz = Written.label-accepted c h .hours;
-      mmmmmm = Written.label-accepted c h .minutes;
-      ssssss = Written.label-accepted c h .seconds;
-      hours-byte = refl;
-      minutes-byte = refl;
-      seconds-byte = refl;
-      last-two =
-          record {
-            fffff = Written.label-accepted c h .frames;
-            frames-byte = refl;
-            last-byte = Written.says-last (c .«final_byte») (Written.last-accepted c h);
-          };
-    })
+    (Written.letters-written (zeroed c) (Written.label-accepted c h) (Written.last-accepted c h))
 
 -- One that is not blank reads back as itself.
 pub read-back-same : (c : StandardTimeCode) → standardFits c ≡ true → c .blank ≡ false → readFive (standardList c) ≡ c
@@ -239,6 +305,13 @@ short-subframes-refused c s e h =
 -- The short form of a code is the page's.
 pub short-by-page : (c : StandardTimeCode) → shortForm c ≡ page.short c
 short-by-page c = refl
+
+-- That of a code that the page has is one that the page has at the code's rate.
+pub short-of-allowed : (c : StandardTimeCode) → page.allowed c ≡ true → page.shortAllowed (c .time .rate) (page.short c) ≡ true
+short-of-allowed c h =
+    let p = and-parts (page.lastAllowed (c .«final_byte»)) (isValid (c .time) && (not (c .blank) || page.isZero (c .time))) h in
+    let v = and-parts (isValid (c .time)) _ (p .1) .0 in
+    and-all _ _ (lt-ltb _ _ (valid-facts (c .time) (holds _ v) .frames)) (p .0)
 
 -- A code with its own short form is the code itself.
 pub with-own-short : (c : StandardTimeCode) → withShort c (shortForm c) ≡ c

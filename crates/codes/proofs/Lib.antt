@@ -1,5 +1,6 @@
 mod Again
 mod Answers
+mod Beyond
 mod Bits
 mod Forms
 pub mod Laws

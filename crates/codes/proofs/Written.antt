@@ -8,13 +8,14 @@ use native.Mathlib.Nat.{add-zero}
 use native.Mathlib.Omega.{arith}
 use borrow.Author.Tests.{leb-true}
 use lib.Dec.{leb, lit<, lit≤}
+use lib.ListN.{getD}
 use Rattle.codes.specs.declared.time_code.FinalByte.{FinalByte}
 use Rattle.codes.specs.declared.time_code.FinalByte.the-variants.{Subframes, Status}
 use Rattle.codes.specs.declared.time_code.StandardTimeCode.{StandardTimeCode}
 use Rattle.codes.specs.declared.time_code.ShortTimeCode.{ShortTimeCode}
 use Rattle.codes.specs.Rp013Code as page
-use Rattle.codes.specs.Rp013Code.{Says}
-use Rattle.codes.specs.TimeCode.{finalFits, finalMark, finalValue, framesByte, writtenLabel, standardFits, standardList, shortFits, shortList}
+use Rattle.codes.specs.Rp013Code.{LastLetters, ShortLetters, Letters}
+use Rattle.codes.specs.TimeCode.{finalFits, finalMark, finalValue, framesByte, writtenLabel, zeroed, standardFits, standardList, shortFits, shortList}
 use Rattle.labels.specs.St12.{one, isValid}
 use Rattle.labels.specs.Time.{hoursByte}
 use Rattle.labels.specs.declared.time.MtcTime.{MtcTime}
@@ -59,10 +60,10 @@ value-page (Status s) =
     rw (flag-one 64 (s .estimated), flag-one 32 (s .invalid), flag-one 16 (s .«video_field1»), flag-one 8 (s .«no_time_code»))
     (sym (add-zero _))
 
--- An accepted last byte says what it is.
-pub says-last : (f : FinalByte) → finalFits f ≡ true → Says f (page.last f)
-says-last (Subframes b) h = (omega (arith, leb-true b 99 h), refl)
-says-last (Status s) h = (0, lit< tt, refl)
+-- An accepted last byte is written as its letters.
+pub last-written : (f : FinalByte) → finalFits f ≡ true → LastLetters f (page.last f)
+last-written (Subframes b) h = (omega (arith, leb-true b 99 h), refl)
+last-written (Status s) h = (0, lit< tt, refl)
 
 pub mark-most : (f : FinalByte) → finalMark f ≤ 32
 mark-most (Subframes b) = lit≤ tt
@@ -86,7 +87,7 @@ unfolding shortList
 short-page c =
     ap₂ _∷_ (frames-page (c .«final_byte») (c .negative) (c .frames)) (ap (λ (n : ℕ). n ∷ []) (value-page (c .«final_byte»)))
 
-pub standard-page : (c : StandardTimeCode) → standardFits c ≡ true → standardList c ≡ page.written c
+pub standard-page : (c : StandardTimeCode) → standardFits c ≡ true → standardList c ≡ page.written (zeroed c)
 unfolding standardList
 standard-page c h =
     ap₂ _∷_ (hours-page (writtenLabel c) (label-accepted c h .hours))
@@ -94,6 +95,28 @@ standard-page c h =
     (ap₂ _∷_ (ap (λ (n : ℕ). n + writtenLabel c .seconds) (flag-one 64 (c .blank)))
     (ap₂ _∷_ (frames-page (c .«final_byte») (c .negative) (writtenLabel c .frames))
     (ap (λ (n : ℕ). n ∷ []) (value-page (c .«final_byte»))))))
+
+-- ---- the letters of what is written
+
+-- Two bytes are the letters of the short code that they were written of.
+pub short-letters-written : (c : ShortTimeCode) → c .frames < 32 → finalFits (c .«final_byte») ≡ true
+    → ShortLetters (getD (page.shortWritten c) 0 0) (getD (page.shortWritten c) 1 0) c
+short-letters-written c h l =
+    record { fffff = h; frames-byte = refl; last-byte = last-written (c .«final_byte») l }
+
+-- Five are those of their code.
+pub letters-written : (c : StandardTimeCode) → Widths (c .time) → finalFits (c .«final_byte») ≡ true
+    → Letters (getD (page.written c) 0 0) (getD (page.written c) 1 0) (getD (page.written c) 2 0) (getD (page.written c) 3 0) (getD (page.written c) 4 0) c
+letters-written c w l =
+    record {
+      zzzzz = w .hours;
+      mmmmmm = w .minutes;
+      ssssss = w .seconds;
+      hours-byte = refl;
+      minutes-byte = refl;
+      seconds-byte = refl;
+      last-two = short-letters-written (page.short c) (w .frames) l;
+    }
 
 -- ---- below 80H
 

@@ -1,2 +1,3 @@
+pub mod Beyond
 pub mod Rp013Code
 pub mod TimeCode

@@ -1,18 +1,19 @@
 -- MIDI Machine Control (RP-013), time code fields: the Standard Time Code `hr mn sc fr {ff|st}` in five bytes, the Standard
 -- Short Time Code `fr {ff|st}` in two (pp. 8, 9), and the rules of MOVE between the two forms of the last byte (p. 32). The
--- letters are the page's. A byte is given once, by its letters: what is read are the letters that give it, and what is
--- written is what they give. Left out: which fields allow a sign or a status. Assumes nothing.
+-- letters are the page's. A byte is given once, by its letters, and which codes there are is said once: bytes are read as the
+-- code whose letters they are, and a code is written as the bytes that its letters give. Left out: which fields allow a sign
+-- or a status. Assumes nothing.
 use Prim.Native.Nat.{ℕ, _+_, _*_, _^_, _≤_, _<_}
 use mathlib.Core.Path.{_≡_}
-use mathlib.Core.Bool.{Bool, true, false, cond, _&&_, _||_}
+use mathlib.Core.Bool.{Bool, true, false, not, _&&_, _||_}
 use mathlib.Core.List.{List, [], _∷_}
-use lib.Dec.{leb}
+use lib.Dec.{leb, ltb, eqb}
 use Rattle.codes.specs.declared.time_code.TimeCodeStatus.{TimeCodeStatus}
 use Rattle.codes.specs.declared.time_code.FinalByte.{FinalByte}
 use Rattle.codes.specs.declared.time_code.FinalByte.the-variants.{Subframes, Status}
 use Rattle.codes.specs.declared.time_code.StandardTimeCode.{StandardTimeCode}
 use Rattle.codes.specs.declared.time_code.ShortTimeCode.{ShortTimeCode}
-use Rattle.labels.specs.St12.{one, label, isValid}
+use Rattle.labels.specs.St12.{one, framesPerSecond, isValid}
 use Rattle.labels.specs.declared.time.MtcTime.{MtcTime}
 use Rattle.labels.specs.declared.time.TimeCodeType.{TimeCodeType}
 use Rattle.labels.specs.declared.time.TimeCodeType.the-variants.{Fps24, Fps25, Fps30Drop, Fps30}
@@ -71,64 +72,78 @@ pub record ShortNamed (name shortName : ℕ) : Type 0 where
   pub to : name ≤ 31
   pub above : shortName ≡ name + 32
 
--- ---- reading
+-- ---- which codes there are
 
--- What the last byte says: seven bits of subframes, or four flags beside any reserved bits.
-abbrev pub Says : FinalByte → ℕ → Type 0
-Says (Subframes b) byte = (b < 2 ^ 7) × (byte ≡ ff b)
-Says (Status s) byte = (xxx : ℕ) × (xxx < 2 ^ 3) × (byte ≡ status s xxx)
+-- Subframes 00 to 99 (p. 8), any status (p. 9).
+abbrev pub lastAllowed : FinalByte → Bool
+lastAllowed (Subframes b) = leb b 99
+lastAllowed (Status s) = true
 
--- Two bytes read as a code: its numbers fit their letters, and the letters give the bytes.
-pub record ReadsShort (frames last : ℕ) (c : ShortTimeCode) : Type 0 where
+-- The hours, minutes, seconds and frames are zeros.
+abbrev pub isZero : MtcTime → Bool
+isZero t = eqb (t .hours) 0 && (eqb (t .minutes) 0 && (eqb (t .seconds) 0 && eqb (t .frames) 0))
+
+-- Such a last byte, and a label that ST 12-1 has; with k = 1 its counts are zeros (p. 8).
+abbrev pub allowed : StandardTimeCode → Bool
+allowed c = lastAllowed (c .«final_byte») && (isValid (c .time) && (not (c .blank) || isZero (c .time)))
+
+-- In the short form of a field (p. 9): such a last byte, and frames below that field's rate.
+abbrev pub shortAllowed : TimeCodeType → ShortTimeCode → Bool
+shortAllowed r c = ltb (c .frames) (framesPerSecond r) && lastAllowed (c .«final_byte»)
+
+-- ---- the letters of a code
+
+-- The last byte: seven bits of subframes, or four flags beside any reserved bits.
+abbrev pub LastLetters : FinalByte → ℕ → Type 0
+LastLetters (Subframes b) byte = (b < 2 ^ 7) × (byte ≡ ff b)
+LastLetters (Status s) byte = (xxx : ℕ) × (xxx < 2 ^ 3) × (byte ≡ status s xxx)
+
+-- Two bytes are a short code's letters: its numbers fit them, and they give the bytes.
+pub record ShortLetters (frames last : ℕ) (c : ShortTimeCode) : Type 0 where
   pub fffff : c .frames < 2 ^ 5
   pub frames-byte : frames ≡ fr (one (c .negative)) (i (c .«final_byte»)) (c .frames)
-  pub last-byte : Says (c .«final_byte») last
+  pub last-byte : LastLetters (c .«final_byte») last
 
--- Five bytes read as a code, likewise.
-pub record Reads (hours minutes seconds frames last : ℕ) (c : StandardTimeCode) : Type 0 where
+-- Five bytes are a code's letters, likewise.
+pub record Letters (hours minutes seconds frames last : ℕ) (c : StandardTimeCode) : Type 0 where
   pub zzzzz : c .time .hours < 2 ^ 5
   pub mmmmmm : c .time .minutes < 2 ^ 6
   pub ssssss : c .time .seconds < 2 ^ 6
   pub hours-byte : hours ≡ hr (yy (c .time .rate)) (c .time .hours)
   pub minutes-byte : minutes ≡ mn (one (c .«color_frame»)) (c .time .minutes)
   pub seconds-byte : seconds ≡ sc (one (c .blank)) (c .time .seconds)
-  pub last-two : ReadsShort frames last (short c)
+  pub last-two : ShortLetters frames last (short c)
+
+-- ---- reading
+
+-- Five bytes read as a code that there is, where they are its letters.
+pub record Reads (hours minutes seconds frames last : ℕ) (c : StandardTimeCode) : Type 0 where
+  pub letters : Letters hours minutes seconds frames last c
+  pub code : allowed c ≡ true
+
+-- Two bytes in the short form of a field at a rate, likewise.
+pub record ReadsShort (rate : TimeCodeType) (frames last : ℕ) (c : ShortTimeCode) : Type 0 where
+  pub letters : ShortLetters frames last c
+  pub code : shortAllowed rate c ≡ true
 
 -- ---- writing
-
--- Subframes 00 to 99, any status.
-abbrev pub lastAllowed : FinalByte → Bool
-lastAllowed (Subframes b) = leb b 99
-lastAllowed (Status s) = true
 
 -- The last byte, with xxx = 000.
 abbrev pub last : FinalByte → ℕ
 last (Subframes b) = ff b
 last (Status s) = status s 0
 
--- Frames 00 to 29 in the short form.
-abbrev pub shortAllowed : ShortTimeCode → Bool
-shortAllowed c = leb (c .frames) 29 && lastAllowed (c .«final_byte»)
-
 -- fr {ff|st}.
 abbrev pub shortWritten : ShortTimeCode → List ℕ
 shortWritten c = fr (one (c .negative)) (i (c .«final_byte»)) (c .frames) ∷ last (c .«final_byte») ∷ []
 
--- A valid label, or k = 1.
-abbrev pub allowed : StandardTimeCode → Bool
-allowed c = lastAllowed (c .«final_byte») && (c .blank || isValid (c .time))
-
--- With k = 1 the hours, minutes, seconds and frames are zeros.
-abbrev pub timeWritten : StandardTimeCode → MtcTime
-timeWritten c = cond (c .blank) (label (c .time .rate) 0 0 0 0) (c .time)
-
 -- hr mn sc fr {ff|st}.
 abbrev pub written : StandardTimeCode → List ℕ
 written c =
-    hr (yy (timeWritten c .rate)) (timeWritten c .hours)
-    ∷ mn (one (c .«color_frame»)) (timeWritten c .minutes)
-    ∷ sc (one (c .blank)) (timeWritten c .seconds)
-    ∷ fr (one (c .negative)) (i (c .«final_byte»)) (timeWritten c .frames)
+    hr (yy (c .time .rate)) (c .time .hours)
+    ∷ mn (one (c .«color_frame»)) (c .time .minutes)
+    ∷ sc (one (c .blank)) (c .time .seconds)
+    ∷ fr (one (c .negative)) (i (c .«final_byte»)) (c .time .frames)
     ∷ last (c .«final_byte»)
     ∷ []
 

@@ -6,7 +6,7 @@ use native.Mathlib.Omega.{arith}
 use native.Mathlib.Nat.{eq-or-lt-of-le}
 use mathlib.Core.Bool.{true, false}
 use borrow.Author.Tests.{ne-eqb}
-use Rattle.universal.specs.Message.{hasSubId2}
+use Rattle.universal.specs.Midi1.{hasSubId2}
 
 -- Real Time 01H and 08H do.
 pub real-keys : (n : ℕ) → (n ≡ 1) ⊎ (n ≡ 8) → true ≡ hasSubId2 true n

@@ -10,12 +10,13 @@ use lib.ListN.{length}
 use borrow.Author.Tests.{le-leb, lt-leb, leb-true}
 use Rattle.universal.specs.Refusals.{refusal}
 use Rattle.universal.specs.Emission.{Emission, sent, stopped, check, _then_}
-use Rattle.universal.specs.Message.{subId2Given, subId2Value, hasSubId2, classId, value, allLow, opening}
+use Rattle.universal.specs.Midi1.{hasSubId2, subId2Given, subId2Bytes, classId}
+use Rattle.universal.specs.Message.{subId2Value, value, allLow, opening}
 use Rattle.universal.specs.declared.message.MaybeSubId2.{MaybeSubId2}
 use Rattle.universal.specs.declared.message.MaybeSubId2.the-variants.{NoSubId2, SubId2}
 use Rattle.universal.specs.declared.message.Universal.{Universal}
 use Rattle.universal.proofs.Emissions.{none-some}
-use Rattle.universal.proofs.Tests.{beq-same, beq-true}
+use Rattle.universal.proofs.Tests.{and-parts, beq-same, beq-true}
 
 -- A value of at most 7FH goes out.
 pub value-low : (v : ℕ) → v ≤ 127 → value v ≡ sent (v ∷ [])
@@ -78,6 +79,21 @@ sub-id2-low (SubId2 v) h = go (leb v 127) refl h
     go : (t : Bool) → leb v 127 ≡ t → (check t 3 then sent (v ∷ [])) .stop ≡ none → allLow ((check t 3 then sent (v ∷ [])) .bytes) ≡ true
     go true e p = rw e
     go false e p = absurd (none-some (refusal 3) p)
+
+-- What it emits is its byte.
+pub sub-id2-bytes : (m : MaybeSubId2) → subId2Value m .stop ≡ none → subId2Value m .bytes ≡ subId2Bytes m
+sub-id2-bytes NoSubId2 h = refl
+sub-id2-bytes (SubId2 v) h = go (leb v 127) h
+  where
+    go : (t : Bool) → (check t 3 then sent (v ∷ [])) .stop ≡ none → (check t 3 then sent (v ∷ [])) .bytes ≡ v ∷ []
+    go true p = refl
+    go false p = absurd (none-some (refusal 3) p)
+
+-- One whose byte is low is not refused.
+pub sub-id2-sent : (m : MaybeSubId2) → allLow (subId2Bytes m) ≡ true → subId2Value m ≡ sent (subId2Bytes m)
+unfolding allLow
+sub-id2-sent NoSubId2 h = refl
+sub-id2-sent (SubId2 v) h = rw (and-parts (leb v 127) true h .0)
 
 -- A sub-ID 2 is at most one byte.
 pub sub-id2-short : (m : MaybeSubId2) → length (subId2Value m .bytes) ≤ 1

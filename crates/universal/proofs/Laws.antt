@@ -1,7 +1,7 @@
 -- The laws of this crate's definitions: bytes put into a buffer, emissions, and Universal messages. A crate above cites
 -- these and opens no definition. Assumes nothing.
 use mathlib.Core.Path.{_≡_, refl, sym, ap, _∙_}
-use mathlib.Core.Logic.{_⊎_, inl, inr, ⊎-elim}
+use mathlib.Core.Logic.{_⊎_, inl, inr, ⊎-elim, _↔_}
 use Prim.Native.Nat.{ℕ, zero, suc, _+_, _-_, _≤_, _<_, suc-le-suc}
 use native.Mathlib.Nat.{add-zero, not-suc-le-zero, le-of-suc-le-suc, zero-lt-suc}
 use native.Mathlib.Omega.{arith}
@@ -15,11 +15,12 @@ use lib.Seq.{length-sets, sets-eq, set-out, getD-set-same, getD-set-other}
 use Rattle.universal.specs.Refusals.{Refusal, refusal, tooSmall, gives, refused}
 use Rattle.universal.specs.Overlay.{overlay}
 use Rattle.universal.specs.Emission.{Emission, sent, stopped, check, resume, _then_, answer, reached, reachedIn, fitted}
-use Rattle.universal.specs.Message.{subId2Given, subId2Value, hasSubId2, classId, allLow, dataBytes, header, opening, message, lengthAt, closing}
+use Rattle.universal.specs.Midi1.{hasSubId2, subId2Given, subId2Bytes, classId, inside, wholeMessage, Allowed}
+use Rattle.universal.specs.Message.{subId2Value, allLow, dataBytes, header, opening, message, lengthAt, closing}
 use Rattle.universal.specs.declared.message.Universal.{Universal}
 use Rattle.universal.specs.declared.message.MaybeSubId2.the-variants.{NoSubId2, SubId2}
 use Rattle.universal.proofs.Emissions.{resume-after, gives-refused, none-some}
-use Rattle.universal.proofs.Fields.{Accepted, accepted, opening-fields, inner-low, value-low, value-high, sub-id2-short}
+use Rattle.universal.proofs.Fields.{Accepted, accepted, opening-fields, inner-low, value-low, value-high, sub-id2-short, sub-id2-bytes, sub-id2-sent}
 use Rattle.universal.proofs.Tests.{and-parts, beq-other}
 
 -- ---- bytes put into a buffer
@@ -326,6 +327,37 @@ message-low u bs i h first last =
     message-bytes u bs h ∙ ap (λ (l : List ℕ). l ++ bs ++ 247 ∷ []) (a .emits) in
     let low : allLow (inner ++ bs) ≡ true = all-low-append inner bs ∙ rw (inner-low u a, parts .1) in
     rw e (middle-low 240 247 (inner ++ bs) i low first (rw e at last))
+
+-- ---- by MIDI 1.0
+
+-- A message that MIDI 1.0 allows is written as exactly its bytes.
+pub message-by-midi1 : (u : Universal) (bs : List ℕ) → Allowed u bs → message u bs ≡ sent (wholeMessage u bs)
+message-by-midi1 u bs a =
+    let device : u .«device_id» ≤ 127 = a .low 1 (omega arith) in
+    let subId1 : u .«sub_id1» ≤ 127 = a .low 2 (omega arith) in
+    let rest : allLow (subId2Bytes (u .«sub_id2») ++ bs) ≡ true =
+    all-low-of _ (λ i l. a .low (suc (suc (suc i))) (suc-le-suc (suc-le-suc (suc-le-suc l)))) in
+    let parts =
+    and-parts (allLow (subId2Bytes (u .«sub_id2»))) (allLow bs) (rw all-low-append at rest) in
+    let o : opening u ≡ sent (240 ∷ classId (u .«real_time») ∷ u .«device_id» ∷ u .«sub_id1» ∷ subId2Bytes (u .«sub_id2»)) =
+    opening-fields u device (a .family) ∙ rw (value-low (u .«sub_id1») subId1, sub-id2-sent (u .«sub_id2») (parts .0)) in
+    message-whole u bs (ap (λ (e : Emission). e .stop) o) (parts .1)
+    ∙ ap (λ (e : Emission). sent (e .bytes ++ bs ++ 247 ∷ [])) o
+
+-- A message is accepted just where MIDI 1.0 allows it.
+pub accepted-by-midi1 : (u : Universal) (bs : List ℕ) → (message u bs .stop ≡ none) ↔ Allowed u bs
+accepted-by-midi1 u bs = (allowed, λ a. ap (λ (e : Emission). e .stop) (message-by-midi1 u bs a))
+  where
+    allowed : message u bs .stop ≡ none → Allowed u bs
+    allowed h =
+        let parts = message-accepted u bs h in
+        let a : Accepted u = accepted u (parts .0) in
+        let start : List ℕ = classId (u .«real_time») ∷ u .«device_id» ∷ u .«sub_id1» ∷ subId2Value (u .«sub_id2») .bytes in
+        let low : allLow (start ++ bs) ≡ true = all-low-append start bs ∙ rw (inner-low u a, parts .1) in
+        record {
+          low = λ i l. all-low-byte (inside u bs) i (rw (sub-id2-bytes (u .«sub_id2») (a .sub-id2)) at low) l;
+          family = a .family;
+        }
 
 -- ---- the close
 

@@ -10,7 +10,8 @@ use borrow.Author.Tests.{not-true, not-false}
 use Rattle.universal.specs.Refusals.{Refusal, refusal, Answer, gives, refused}
 use Rattle.universal.specs.Overlay.{overlay}
 use Rattle.universal.specs.Emission.{Emission, sent, reached}
-use Rattle.universal.specs.Message.{hasSubId2, classId, header, opening}
+use Rattle.universal.specs.Midi1.{hasSubId2, classId}
+use Rattle.universal.specs.Message.{header, opening}
 use Rattle.universal.specs.declared.message.MaybeSubId2.{MaybeSubId2}
 use Rattle.universal.specs.declared.message.MaybeSubId2.the-variants.{NoSubId2, SubId2}
 use Rattle.universal.specs.declared.message.Universal.{Universal}

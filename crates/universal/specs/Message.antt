@@ -1,12 +1,13 @@
--- Universal System Exclusive messages: which families carry a sub-ID 2, the opening bytes, the data and the close. From 002;
--- the layout and the families are those of the MIDI 1.0 detailed specification v4.2.1, p. 35 and Table VIIa, pp. T-9, T-10.
--- Assumes nothing.
+-- What 002 does with Universal System Exclusive messages: the opening bytes, the data and the close, each with its check and
+-- its refusal. Which messages there are is said in Midi1.antt. Assumes nothing.
 use Prim.Native.Nat.{ℕ, _+_, min}
-use mathlib.Core.Bool.{Bool, true, false, _&&_, _||_, Bool·beq}
+use mathlib.Core.Bool.{Bool, true, _&&_, Bool·beq}
 use mathlib.Core.List.{List, [], _∷_}
-use lib.Dec.{leb, eqb}
+use lib.Dec.{leb}
 use Rattle.universal.specs.Refusals.{Answer, gives, refused, refusalOf}
 use Rattle.universal.specs.Emission.{Emission, sent, check, _then_, fitted}
+-- The parts that MIDI 1.0 names.
+pub use Rattle.universal.specs.Midi1.{isAddressed, hasSubId2, subId2Given, classId}
 use Rattle.universal.specs.declared.message.MaybeSubId2.{MaybeSubId2}
 use Rattle.universal.specs.declared.message.MaybeSubId2.the-variants.{NoSubId2, SubId2}
 use Rattle.universal.specs.declared.message.Universal.{Universal}
@@ -29,28 +30,11 @@ writtenOf (W.Refused e) = refused (refusalOf e)
 
 -- ---- the parts of a message
 
--- A received device ID addresses a device: all call, or its own (p. 35).
-abbrev pub isAddressed : ℕ → ℕ → Bool
-isAddressed device own = eqb device 127 || eqb device own
-
--- The families that carry a sub-ID 2 (Table VIIa): Real Time 01H, 03H, 04H, 05H and 08H, Non-Real Time 04H to 09H.
-abbrev pub hasSubId2 : Bool → ℕ → Bool
-hasSubId2 true n = eqb n 1 || (eqb n 3 || (eqb n 4 || (eqb n 5 || eqb n 8)))
-hasSubId2 false n = leb 4 n && leb n 9
-
--- The class: 7FH for Real Time, 7EH for Non-Real Time.
-abbrev pub classId : Bool → ℕ
-classId true = 127
-classId false = 126
-
 -- A 7-bit field value: 3 above 7FH.
 abbrev pub value : ℕ → Emission
 value v = check (leb v 127) 3 then sent (v ∷ [])
 
-abbrev pub subId2Given : MaybeSubId2 → Bool
-subId2Given NoSubId2 = false
-subId2Given (SubId2 s) = true
-
+-- A sub-ID 2, where there is one.
 abbrev pub subId2Value : MaybeSubId2 → Emission
 subId2Value NoSubId2 = sent []
 subId2Value (SubId2 s) = value s

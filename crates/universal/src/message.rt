@@ -9,7 +9,8 @@ ghost use mathlib.Core.List.{_∷_, []};
 ghost use lib.ListN.{length};
 ghost use Rattle.universal.specs.Overlay.{overlay};
 ghost use Rattle.universal.specs.Emission.{answer, reached};
-ghost use Rattle.universal.specs.Message.{isAddressed, hasSubId2, openedOf, writtenOf, classId, allLow, header, opening, message, closing};
+ghost use Rattle.universal.specs.Midi1.{isAddressed, hasSubId2, classId};
+ghost use Rattle.universal.specs.Message.{openedOf, writtenOf, allLow, header, opening, message, closing};
 
 // Start of System Exclusive.
 const SOX: u8 = 0xF0;
