@@ -1,3 +1,4 @@
+pub mod ByPage
 pub mod Command
 pub mod Field
 pub mod Item
@@ -7,6 +8,7 @@ pub mod Named
 pub mod Numbers
 pub mod Part
 pub mod Rp013
+pub mod Rp013Commands
 pub mod Split
 pub mod Strings
 pub mod WholeLists

@@ -15,7 +15,7 @@ use lib.Seq.{length-sets, sets-eq, set-out, getD-set-same, getD-set-other}
 use Rattle.universal.specs.Refusals.{Refusal, refusal, tooSmall, gives, refused}
 use Rattle.universal.specs.Overlay.{overlay}
 use Rattle.universal.specs.Emission.{Emission, sent, stopped, check, resume, _then_, answer, reached, reachedIn, fitted}
-use Rattle.universal.specs.Midi1.{hasSubId2, subId2Given, subId2Bytes, classId, inside, wholeMessage, Allowed}
+use Rattle.universal.specs.Midi1.{hasSubId2, subId2Given, subId2Bytes, classId, inside, universalBytes, Allowed}
 use Rattle.universal.specs.Message.{subId2Value, allLow, dataBytes, header, opening, message, lengthAt, closing}
 use Rattle.universal.specs.declared.message.Universal.{Universal}
 use Rattle.universal.specs.declared.message.MaybeSubId2.the-variants.{NoSubId2, SubId2}
@@ -331,7 +331,7 @@ message-low u bs i h first last =
 -- ---- by MIDI 1.0
 
 -- A message that MIDI 1.0 allows is written as exactly its bytes.
-pub message-by-midi1 : (u : Universal) (bs : List ℕ) → Allowed u bs → message u bs ≡ sent (wholeMessage u bs)
+pub message-by-midi1 : (u : Universal) (bs : List ℕ) → Allowed u bs → message u bs ≡ sent (universalBytes u bs)
 message-by-midi1 u bs a =
     let device : u .«device_id» ≤ 127 = a .low 1 (omega arith) in
     let subId1 : u .«sub_id1» ≤ 127 = a .low 2 (omega arith) in

@@ -46,8 +46,8 @@ abbrev pub inside : Universal → List ℕ → List ℕ
 inside u bs = classId (u .«real_time») ∷ u .«device_id» ∷ u .«sub_id1» ∷ (subId2Bytes (u .«sub_id2») ++ bs)
 
 -- The whole message, F0H to F7H (Table VII).
-abbrev pub wholeMessage : Universal → List ℕ → List ℕ
-wholeMessage u bs = 240 ∷ (inside u bs ++ 247 ∷ [])
+abbrev pub universalBytes : Universal → List ℕ → List ℕ
+universalBytes u bs = 240 ∷ (inside u bs ++ 247 ∷ [])
 
 -- Which messages there are: each byte inside is at most 7FH, and a sub-ID 2 stands just where the family carries one.
 pub record Allowed (u : Universal) (bs : List ℕ) : Type 0 where

@@ -1,0 +1,102 @@
+-- MIDI Machine Control (RP-013), the transport tier: its commands with their names (p. 14) and bytes (pp. 20 to 32), and the
+-- Information Fields SELECTED TIME CODE and GP0 / LOCATE POINT with their forms (pp. 44, 47). The names are the page's, the bytes
+-- in hexadecimal. Left out: the other commands and fields. Assumes nothing.
+use Prim.Native.Nat.{ℕ, _+_, _≤_, _<_}
+use mathlib.Core.Path.{_≡_}
+use mathlib.Core.Bool.{Bool, true, false}
+use mathlib.Core.List.{List, [], _∷_}
+use lib.ListN.{length, getD}
+use Rattle.mmc.specs.declared.length.Kind.the-variants.{Fields}
+use Rattle.mmc.specs.Rp013.{WellFormed}
+use Rattle.codes.specs.Rp013Code.{allowed, shortAllowed, written, shortWritten}
+use Rattle.codes.specs.declared.time_code.FinalByte.{FinalByte}
+use Rattle.codes.specs.declared.time_code.FinalByte.the-variants.{Subframes, Status}
+use Rattle.codes.specs.declared.time_code.ShortTimeCode.{ShortTimeCode}
+use Rattle.codes.specs.declared.time_code.StandardTimeCode.{StandardTimeCode}
+use Rattle.labels.specs.declared.time.TimeCodeType.{TimeCodeType}
+
+-- ---- commands
+
+-- WRITE has the names and data of fields, LOCATE [I/F] a field's name, LOCATE [TARGET] a time code, MOVE a destination and a source.
+pub data Command : Type 0 where
+  STOP PLAY DEFERRED-PLAY FAST-FORWARD REWIND RECORD-STROBE RECORD-EXIT PAUSE MMC-RESET : Command
+  WRITE : List ℕ → Command
+  LOCATE-FIELD : ℕ → Command
+  LOCATE-TARGET : StandardTimeCode → Command
+  MOVE : ℕ → ℕ → Command
+
+-- The bytes of a command: its name, and from 40H on a count byte and so many data.
+abbrev pub commandBytes : Command → List ℕ
+commandBytes STOP = 0x01 ∷ []
+commandBytes PLAY = 0x02 ∷ []
+commandBytes DEFERRED-PLAY = 0x03 ∷ []
+commandBytes FAST-FORWARD = 0x04 ∷ []
+commandBytes REWIND = 0x05 ∷ []
+commandBytes RECORD-STROBE = 0x06 ∷ []
+commandBytes RECORD-EXIT = 0x07 ∷ []
+commandBytes PAUSE = 0x09 ∷ []
+commandBytes MMC-RESET = 0x0D ∷ []
+commandBytes (WRITE fields) = 0x40 ∷ length fields ∷ fields
+commandBytes (LOCATE-FIELD field) = 0x44 ∷ 0x02 ∷ 0x00 ∷ field ∷ []
+commandBytes (LOCATE-TARGET c) = 0x44 ∷ 0x06 ∷ 0x01 ∷ written c
+commandBytes (MOVE destination source) = 0x4C ∷ 0x02 ∷ destination ∷ source ∷ []
+
+-- The form {ff}: fractional frames.
+abbrev pub IsFf : FinalByte → Type 0
+IsFf (Subframes b) = Unit
+IsFf (Status s) = ⊥
+
+-- What a WRITE may carry: a well-formed string of fields, of bytes to 7FH and no more than its count byte can say.
+pub record WrittenFields (fields : List ℕ) : Type 0 where
+  pub count : length fields ≤ 0x7F
+  pub seven-bits : (i : ℕ) → i < length fields → getD fields i 0 ≤ 0x7F
+  pub well-formed : WellFormed Fields fields
+
+-- Which commands there are: LOCATE [I/F] to 08H (GP0) to 0FH (GP7), LOCATE [TARGET] with a time code in the form {ff}, MOVE between
+-- fields 01H to 1FH.
+abbrev pub IsCommand : Command → Type 0
+IsCommand STOP = Unit
+IsCommand PLAY = Unit
+IsCommand DEFERRED-PLAY = Unit
+IsCommand FAST-FORWARD = Unit
+IsCommand REWIND = Unit
+IsCommand RECORD-STROBE = Unit
+IsCommand RECORD-EXIT = Unit
+IsCommand PAUSE = Unit
+IsCommand MMC-RESET = Unit
+IsCommand (WRITE fields) = WrittenFields fields
+IsCommand (LOCATE-FIELD field) = (0x08 ≤ field) × (field ≤ 0x0F)
+IsCommand (LOCATE-TARGET c) = (allowed c ≡ true) × IsFf (c .«final_byte»)
+IsCommand (MOVE destination source) = (0x01 ≤ destination) × (destination ≤ 0x1F) × (0x01 ≤ source) × (source ≤ 0x1F)
+
+-- ---- Information Fields
+
+pub data FieldName : Type 0 where
+  SELECTED-TIME-CODE GP0 : FieldName
+
+-- 01H SELECTED TIME CODE (p. 44), 08H GP0 / LOCATE POINT (p. 47).
+abbrev pub fieldName : FieldName → ℕ
+fieldName SELECTED-TIME-CODE = 0x01
+fieldName GP0 = 0x08
+
+-- SELECTED TIME CODE has the form {st} and is not negative; GP0 has the form {ff} and is signed.
+abbrev pub HasForm : FieldName → Bool → FinalByte → Type 0
+HasForm SELECTED-TIME-CODE negative (Subframes b) = ⊥
+HasForm SELECTED-TIME-CODE negative (Status s) = negative ≡ false
+HasForm GP0 negative (Subframes b) = Unit
+HasForm GP0 negative (Status s) = ⊥
+
+-- A field in full, or in the short form of one at a rate.
+pub data Field : Type 0 where
+  FULL : FieldName → StandardTimeCode → Field
+  SHORT : FieldName → TimeCodeType → ShortTimeCode → Field
+
+-- The bytes of a field: its name, or the short name 20H above, and its time code (pp. 8, 9).
+abbrev pub fieldBytes : Field → List ℕ
+fieldBytes (FULL f c) = fieldName f ∷ written c
+fieldBytes (SHORT f rate c) = (fieldName f + 0x20) ∷ shortWritten c
+
+-- Which fields there are: a time code that the page has, in the field's form.
+abbrev pub IsField : Field → Type 0
+IsField (FULL f c) = (allowed c ≡ true) × HasForm f (c .negative) (c .«final_byte»)
+IsField (SHORT f rate c) = (shortAllowed rate c ≡ true) × HasForm f (c .negative) (c .«final_byte»)
