@@ -122,6 +122,10 @@ pub answer-by-page : (c : StandardTimeCode)
 answer-by-page c =
     answer-same (standardFits c) (page.allowed (zeroed c)) _ _ (refusal 3) (fits-by-page c) (Written.standard-page c)
 
+-- A code that the page has is the same with zeros for a blank label.
+pub zeroed-same : (c : StandardTimeCode) → page.allowed c ≡ true → zeroed c ≡ c
+zeroed-same = Beyond.allowed-same
+
 -- So a code that the page has is answered with the page's bytes.
 pub written-by-page : (c : StandardTimeCode) → page.allowed c ≡ true → standardBytes c ≡ gives (page.written c)
 written-by-page c h =

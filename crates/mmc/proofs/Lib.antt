@@ -1,5 +1,8 @@
 mod Accepting
 mod Backs
+pub mod CommandLaws
+mod CommandReading
+mod CommandWriting
 mod Commands
 mod Emitted
 mod Fields

@@ -58,6 +58,13 @@ pub item-split : (kind : Kind) (body pre : List ℕ) (x : Item) (post : List ℕ
     → body ≡ pre ++ (itemBytes kind x ++ post) → place ≡ length pre → Found kind body place x
 item-split kind body pre x post place h e p = rw (e, p) (Fronts.item-found kind pre x post h)
 
+-- It is read there as what its name and data mean, and reading goes on after it.
+pub item-read : (kind : Kind) (body pre : List ℕ) (x : Item) (post : List ℕ) (place : ℕ) → itemFits kind x ≡ true
+    → body ≡ pre ++ (itemBytes kind x ++ post) → place ≡ length pre
+    → nextOf kind body place
+    ≡ record { answer = gives (meaning kind (x .name) (x .«data») (locatedAt kind place x)); place = place + length (itemBytes kind x) }
+item-read = Walks.item-read
+
 -- ---- the walk over a string
 
 -- The walk over any string: items that fit, and the bytes after them.

@@ -16,7 +16,7 @@ use Rattle.mmc.specs.Named.{nameFits}
 use Rattle.mmc.specs.Part.{partOf}
 use Rattle.mmc.specs.Rp013.{Item}
 use Rattle.mmc.specs.Split.{splitAt, Located, Next, next, nextAs}
-use Rattle.mmc.specs.Strings.{item, ruleOf, counted, itemBytes, joined, dataFits, itemFits, allFit, locatedAt, places, readAs, Found, Walk, before, walkFrom, readsOf, walk, meaning, meanings, readFrom}
+use Rattle.mmc.specs.Strings.{item, ruleOf, counted, itemBytes, joined, dataFits, itemFits, allFit, locatedAt, places, readAs, Found, Walk, before, walkFrom, readsOf, walk, meaning, meanings, nextOf, readFrom}
 use Rattle.universal.specs.Refusals.{Refusal, refusal, gives}
 use Rattle.universal.proofs.Tests.{and-parts}
 use Rattle.mmc.proofs.Fronts.{item-found, Front, cut, whole, front}
@@ -151,6 +151,29 @@ parts-read {A = A} g kind body (x ∷ xs) h pre post e place p =
     ap₂ {C = List A} _∷_
     (ap₂ (λ (n d : List ℕ). g n d (locatedAt kind place x)) (s .name-bytes) (s .data-bytes))
     (parts-read g kind body xs (t .1) (pre ++ itemBytes kind x) post e₂ (place + length (itemBytes kind x)) p₂)
+
+-- An item that fits is read as what its name and data mean.
+pub item-read : (kind : Kind) (body pre : List ℕ) (x : Item) (post : List ℕ) (place : ℕ) → itemFits kind x ≡ true
+    → body ≡ pre ++ (itemBytes kind x ++ post) → place ≡ length pre
+    → nextOf kind body place
+    ≡ record { answer = gives (meaning kind (x .name) (x .«data») (locatedAt kind place x)); place = place + length (itemBytes kind x) }
+unfolding nextCommand nextField
+item-read kind body pre x post place h e p = go kind x h e
+  where
+    by : (kind : Kind) (x : Item) → itemFits kind x ≡ true → body ≡ pre ++ (itemBytes kind x ++ post)
+        → reads (byBytes (meaning kind) body) kind body place
+        ≡ record { answer = gives (meaning kind (x .name) (x .«data») (locatedAt kind place x)); place = place + length (itemBytes kind x) }
+    by kind x h e =
+        let s : Found kind body place x = rw (e, p) (item-found kind pre x post h) in
+        read-item (byBytes (meaning kind) body) kind body pre x post e h place p
+        ∙ ap₂ (λ (n d : List ℕ). record { answer = gives (meaning kind n d (locatedAt kind place x)); place = place + length (itemBytes kind x) })
+        (s .name-bytes) (s .data-bytes)
+
+    go : (kind : Kind) (x : Item) → itemFits kind x ≡ true → body ≡ pre ++ (itemBytes kind x ++ post)
+        → nextOf kind body place
+        ≡ record { answer = gives (meaning kind (x .name) (x .«data») (locatedAt kind place x)); place = place + length (itemBytes kind x) }
+    go Commands x h e = by Commands x h e
+    go Fields x h e = by Fields x h e
 
 -- Read as items they are the items.
 pub read-items : (kind : Kind) (place : ℕ) (xs : List Item) → readAs (λ n d l. item n d) kind place xs ≡ xs

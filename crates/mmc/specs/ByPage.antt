@@ -13,17 +13,18 @@ use Rattle.mmc.specs.declared.field.InfoField.the-variants as F
 use Rattle.mmc.specs.declared.length.Kind.{Kind}
 use Rattle.mmc.specs.declared.length.Kind.the-variants.{Commands, Fields}
 use Rattle.mmc.specs.declared.part.Part.{Part}
-use Rattle.mmc.specs.Command.{CommandCase, stop, play, deferredPlay, fastForward, rewind, recordStrobe, recordExit, pause, reset, write, other, locateField, locateTarget, move}
+use Rattle.mmc.specs.Command.{CommandCase, nextCommand, stop, play, deferredPlay, fastForward, rewind, recordStrobe, recordExit, pause, reset, write, other, locateField, locateTarget, move}
 use Rattle.mmc.specs.Field as Fld
-use Rattle.mmc.specs.Field.{FieldCase, timeCode, short}
+use Rattle.mmc.specs.Field.{FieldCase, timeCode, short, nextField}
 use Rattle.mmc.specs.Part.{isInside, partOf}
-use Rattle.mmc.specs.Rp013Commands.{Command, STOP, PLAY, DEFERRED-PLAY, FAST-FORWARD, REWIND, RECORD-STROBE, RECORD-EXIT, PAUSE, MMC-RESET, WRITE, LOCATE-FIELD, LOCATE-TARGET, MOVE, IsFf, IsCommand, FieldName, SELECTED-TIME-CODE, GP0, fieldName, HasForm, Field, FULL, SHORT}
+use Rattle.mmc.specs.Rp013Commands.{Command, STOP, PLAY, DEFERRED-PLAY, FAST-FORWARD, REWIND, RECORD-STROBE, RECORD-EXIT, PAUSE, MMC-RESET, WRITE, LOCATE-FIELD, LOCATE-TARGET, MOVE, commandBytes, IsFf, IsCommand, SELECTED-TIME-CODE, GP0, fieldName, HasForm, Field, FULL, SHORT, fieldBytes}
 use Rattle.mmc.specs.Strings.{item, itemBytes, itemFits}
 use Rattle.codes.specs.Rp013Code.{allowed, shortAllowed}
 use Rattle.codes.specs.TimeCode.{readFive, readTwo, zeroed}
 use Rattle.codes.specs.declared.time_code.FinalByte.{FinalByte}
 use Rattle.labels.specs.declared.time.TimeCodeType.the-variants.{Fps30}
 use Rattle.universal.specs.Message.{allLow}
+use Rattle.universal.specs.Refusals.{gives}
 
 -- ---- what stands for what
 
@@ -47,6 +48,18 @@ StandsFor source (MOVE destination from) c = c ≡ C.Move destination from
 abbrev pub FieldStandsFor : Field → InfoField → Type 0
 FieldStandsFor (FULL f c) x = x ≡ F.TimeCode (fieldName f) c
 FieldStandsFor (SHORT f rate c) x = x ≡ F.Short (fieldName f) c
+
+-- Where the page's bytes of a command stand in a string, one is read that stands for it, and reading goes on after them.
+pub record CommandAt (body : List ℕ) (place : ℕ) (p : Command) : Type 0 where
+  pub command : MmcCommand
+  pub read : nextCommand body place ≡ record { answer = gives command; place = place + length (commandBytes p) }
+  pub stands : StandsFor body p command
+
+-- Where those of a field stand, likewise.
+pub record FieldAt (body : List ℕ) (place : ℕ) (p : Field) : Type 0 where
+  pub field : InfoField
+  pub read : nextField body place ≡ record { answer = gives field; place = place + length (fieldBytes p) }
+  pub stands : FieldStandsFor p field
 
 -- ---- what is read, exactly
 
