@@ -7,8 +7,8 @@ use mathlib.Core.List.{List}
 use lib.Dec.{eqb}
 use lib.ListN.{length}
 use Rattle.flat_mmc.specs.Message.{flatMmcMessage, mmcKind, mmcOf}
-use Rattle.mmc.specs.Message.{messageFrom}
-use Rattle.mmc.proofs.StringLaws.{messageBy, message-by}
+use Rattle.mmc.specs.Message.{messageFrom, messageBy}
+use Rattle.mmc.proofs.StringLaws.{message-by}
 use Rattle.universal.specs.Message.{header}
 use Rattle.universal.specs.declared.message.MaybeSubId2.the-variants.{NoSubId2}
 use Rattle.universal.specs.declared.message.Universal.{Universal}

@@ -16,16 +16,9 @@ use Rattle.mmc.specs.declared.split.Parts.{Parts}
 use Rattle.mmc.specs.declared.split.Parts.the-variants.{Item, Cut}
 use Rattle.mmc.specs.Length.{lengthOf}
 use Rattle.mmc.specs.Part.{part}
-use Rattle.mmc.specs.Split.{prefixesAt, measured, byLength, splitAt, Located, Next, found, next}
+use Rattle.mmc.specs.Split.{prefixesAt, measured, byLength, splitAt, Located, Inside, Next, found, next}
 use Rattle.universal.specs.Refusals.{Answer, gives, refused, refusal}
 use Rattle.universal.proofs.Tests.{and-parts}
-
--- A name from a place on and data up to another, both in a string of so many bytes.
-pub record Inside (long place : ℕ) (name d : Part) (after : ℕ) : Type 0 where
-  pub name-start : name .start ≡ place
-  pub name-end : name .start + name .len ≤ long
-  pub data-end : d .start + d .len ≡ after
-  pub end : after ≤ long
 
 -- An item lies so; a string that is cut short has none.
 abbrev InsideParts : ℕ → ℕ → Parts → Type 0

@@ -26,7 +26,7 @@ use Rattle.mmc.specs.Item.{commandItem, fieldItem}
 use Rattle.mmc.specs.Length.{lengthOf}
 use Rattle.mmc.specs.declared.message.MmcMessage.{MmcMessage}
 use Rattle.mmc.specs.declared.message.MmcMessage.the-variants as M
-use Rattle.mmc.specs.Message.{messageFrom}
+use Rattle.mmc.specs.Message.{messageFrom, messageBy}
 use Rattle.mmc.specs.Named.{nameFits, lastOf}
 use Rattle.mmc.specs.Part.{partOf}
 use Rattle.mmc.specs.Rp013.{Follows, Name, Item, IsItem, Spell, WellFormed, subId1, lastDevice, envelope, Message}
@@ -45,7 +45,7 @@ use Rattle.mmc.proofs.Backs
 use Rattle.mmc.proofs.Emitted
 use Rattle.mmc.proofs.Fronts
 -- An item that is found lies in the string: its name from the place on, its data up to the place to read on from.
-pub use Rattle.mmc.proofs.Inside.{Inside, found-inside}
+pub use Rattle.mmc.proofs.Inside.{found-inside}
 use Rattle.mmc.proofs.Moves
 use Rattle.mmc.proofs.Pages
 use Rattle.mmc.proofs.Walks
@@ -395,15 +395,7 @@ unfolding messageFrom
 string-message Commands device string h = rw (ne-eqb (length string) 0 (λ e. omega arith))
 string-message Fields device string h = rw (ne-eqb (length string) 0 (λ e. omega arith))
 
--- A message by its class, by whether its sub-ID 1 is 06H or 07H, and by whether its string is empty.
-abbrev pub messageBy : (realTime commands responses empty : Bool) → ℕ → Answer (Option MmcMessage)
-messageBy true true responses true device = refused (refusal 2)
-messageBy true true responses false device = gives (some (M.Commands device))
-messageBy true false true true device = refused (refusal 2)
-messageBy true false true false device = gives (some (M.Responses device))
-messageBy true false false empty device = gives none
-messageBy false commands responses empty device = gives none
-
+-- A message is read by its class, by whether its sub-ID 1 is 06H or 07H, and by whether its string is empty.
 pub message-by : (u : Universal) (d : List ℕ)
     → messageFrom u d ≡ messageBy (u .«real_time») (eqb (u .«sub_id1») 6) (eqb (u .«sub_id1») 7) (eqb (length d) 0) (u .«device_id»)
 unfolding messageFrom

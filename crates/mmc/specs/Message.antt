@@ -29,3 +29,12 @@ messageFrom u d =
     (cond (eqb (u .«sub_id1») 6) (withString (Commands (u .«device_id»)) d)
     (cond (eqb (u .«sub_id1») 7) (withString (Responses (u .«device_id»)) d) (gives none)))
     (gives none)
+
+-- The same by its class, by whether its sub-ID 1 is 06H or 07H, and by whether its string is empty.
+abbrev pub messageBy : (realTime commands responses empty : Bool) → ℕ → Answer (Option MmcMessage)
+messageBy true true responses true device = refused (refusal 2)
+messageBy true true responses false device = gives (some (Commands device))
+messageBy true false true true device = refused (refusal 2)
+messageBy true false true false device = gives (some (Responses device))
+messageBy true false false empty device = gives none
+messageBy false commands responses empty device = gives none

@@ -1,5 +1,6 @@
 -- The splitter of 001: the item at a place of a string, by the length rule of its kind. Assumes nothing.
-use Prim.Native.Nat.{ℕ, _+_, _-_}
+use Prim.Native.Nat.{ℕ, _+_, _-_, _≤_}
+use mathlib.Core.Path.{_≡_}
 use mathlib.Core.Bool.{Bool, cond, _&&_}
 use mathlib.Core.List.{List}
 use lib.Dec.{leb, ltb, eqb}
@@ -47,6 +48,13 @@ splitAt kind body at = named kind body at (prefixesAt body at)
 pub record Located : Type 0 where
   pub name : Part
   pub «data» : Part
+
+-- A name from a place on and data up to another, both in a string of so many bytes.
+pub record Inside (long place : ℕ) (name d : Part) (after : ℕ) : Type 0 where
+  pub name-start : name .start ≡ place
+  pub name-end : name .start + name .len ≤ long
+  pub data-end : d .start + d .len ≡ after
+  pub end : after ≤ long
 
 -- What a read answers, and the place to read on from.
 pub record Next (A : Type 0) : Type 0 where
