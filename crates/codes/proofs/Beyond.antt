@@ -1,5 +1,5 @@
--- Codes that the page has and codes beyond them: what a code lacks that is read or accepted and that the page does not have.
--- Assumes nothing.
+-- The codes that the page has, and those beyond them that are read or accepted: what keeps each from being the page's. Assumes
+-- nothing.
 use Prim.Native.Nat.{ℕ, _%_, _≤_, _<_}
 use mathlib.Core.Path.{_≡_, refl, sym, ap, _∙_}
 use mathlib.Core.Bool.{Bool, true, false, cond, not, _&&_, _||_, and-true, true≢false}
@@ -18,7 +18,7 @@ use Rattle.labels.specs.declared.time.MtcTime.{MtcTime}
 use Rattle.labels.specs.declared.time.TimeCodeType.{TimeCodeType}
 use Rattle.labels.specs.declared.time.TimeCodeType.the-variants.{Fps30}
 use Rattle.labels.proofs.Laws.{fps-small, zero-valid}
-use Rattle.universal.proofs.Tests.{and-parts, and-first, and-second, and-all}
+use Rattle.universal.proofs.Tests.{and-parts, and-first, and-second, and-all, holds}
 use Rattle.codes.proofs.Written.{fits-page, last-accepted, frames-accepted, short-last-accepted}
 
 -- ---- the last byte
@@ -42,7 +42,7 @@ read-most fr ff = go (bit 32 fr)
 
 -- ---- reading
 
--- What keeps a code from being one that the page has.
+-- What keeps a code with seven bits of subframes from being one that the page has.
 code-beyond : (c : StandardTimeCode) → ((s : ℕ) → c .«final_byte» ≡ Subframes s → s ≤ 127) → page.allowed c ≡ false → ReadBeyond c
 code-beyond c most = go (page.lastAllowed (c .«final_byte»)) (isValid (c .time)) (c .blank) (page.isZero (c .time)) refl refl refl refl
   where
@@ -62,13 +62,13 @@ beyond-code c (noLabel e) =
 beyond-code c (blankCounts k z) =
     and-second (page.lastAllowed (c .«final_byte»)) _ (and-second (isValid (c .time)) _ (rw (k, z)))
 
--- A code that is read lacks nothing else.
+-- A code that is read is kept from it by nothing else.
 pub read-beyond : (hr mn sc fr ff : ℕ) → page.allowed (readStandard hr mn sc fr ff) ≡ false → ReadBeyond (readStandard hr mn sc fr ff)
 unfolding readStandard
 read-beyond hr mn sc fr ff = code-beyond (readStandard hr mn sc fr ff) (read-most fr ff)
 
 module _ (r : TimeCodeType) where
-  -- Nor does a short one.
+  -- A short one likewise, at a rate.
   pub short-read-beyond : (fr ff : ℕ) → page.shortAllowed r (readShort fr ff) ≡ false → ShortReadBeyond r (readShort fr ff)
   unfolding readShort
   short-read-beyond fr ff = go (ltb (fr % 32) (framesPerSecond r)) refl
@@ -78,14 +78,14 @@ module _ (r : TimeCodeType) where
       go true ea e = shortLastByte (subframes-beyond (readFinal fr ff) (read-most fr ff) e)
       go false ea e = shortFrames (ltb-false _ _ ea) (omega arith)
 
-  -- A short code that lacks one of the two is not one that the page has.
+  -- Subframes 100 to 127 and frames from the rate on keep a short code from being one that the page has.
   pub beyond-short : (c : ShortTimeCode) → ShortReadBeyond r c → page.shortAllowed r c ≡ false
   beyond-short c (shortLastByte b) = and-second (ltb (c .frames) (framesPerSecond r)) _ (beyond-last (c .«final_byte») b)
   beyond-short c (shortFrames l m) = and-first _ (page.lastAllowed (c .«final_byte»)) (le-ltb _ _ l)
 
 -- ---- writing
 
--- Numbers that are zeros are those of 00:00:00:00.
+-- A label whose counts are zeros is 00:00:00:00.
 zero-label : (t : MtcTime) → page.isZero t ≡ true → label (t .rate) 0 0 0 0 ≡ t
 zero-label t h =
     let p = and-parts (eqb (t .hours) 0) _ h in
@@ -111,10 +111,24 @@ module _ (c : StandardTimeCode) where
       go true e = zero-label (c .time) e
       go false e = refl
 
-  -- A code that the page has is written as it is.
+  -- What holds of a code that the page has: its last byte, its label, and zeros where it is blank.
+  allowed-parts : page.allowed c ≡ true
+      → (page.lastAllowed (c .«final_byte») ≡ true) × (isValid (c .time) ≡ true) × (not (c .blank) || page.isZero (c .time) ≡ true)
+  allowed-parts h =
+      let p = and-parts (page.lastAllowed (c .«final_byte»)) (isValid (c .time) && (not (c .blank) || page.isZero (c .time))) h in
+      let q = and-parts (isValid (c .time)) (not (c .blank) || page.isZero (c .time)) (p .1) in
+      (p .0, q .0, q .1)
+
+  -- Each by itself.
+  pub allowed-last : page.allowed c ≡ true → page.lastAllowed (c .«final_byte») ≡ true
+  allowed-last h = allowed-parts h .0
+
+  pub allowed-label : page.allowed c ≡ true → T (isValid (c .time))
+  allowed-label h = holds _ (allowed-parts h .1)
+
+  -- It is written as it is.
   pub allowed-same : page.allowed c ≡ true → zeroed c ≡ c
-  allowed-same h =
-      zeroed-same (and-parts (isValid (c .time)) _ (and-parts (page.lastAllowed (c .«final_byte»)) _ h .1) .1)
+  allowed-same h = zeroed-same (allowed-parts h .2)
 
   -- A code is accepted just where the page has it with zeros in its blank label.
   pub fits-zeroed : standardFits c ≡ page.allowed (zeroed c)

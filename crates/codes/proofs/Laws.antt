@@ -3,7 +3,7 @@
 -- name. Assumes nothing.
 use Prim.Native.Nat.{ℕ, _+_, _%_, _≤_, _<_}
 use mathlib.Core.Path.{_≡_, refl, ap, _∙_}
-use mathlib.Core.Bool.{Bool, true, false, cond, not, _&&_, _||_}
+use mathlib.Core.Bool.{Bool, true, false, cond, _&&_}
 use mathlib.Core.Logic.{_↔_}
 use mathlib.Core.List.{[], _∷_}
 use native.Mathlib.Omega.{arith}
@@ -30,7 +30,7 @@ use Rattle.universal.specs.Refusals.{gives, refused, refusal}
 use Rattle.codes.proofs.Again
 -- A byte's fields, read and written again.
 pub use Rattle.codes.proofs.Again.{hours-again, six-again, frames-again}
-use Rattle.universal.proofs.Tests.{and-parts, and-first, and-second, and-all, holds}
+use Rattle.universal.proofs.Tests.{and-parts, and-first, and-second, and-all}
 use Rattle.codes.proofs.Answers.{answer-same}
 use Rattle.codes.proofs.Beyond
 use Rattle.codes.proofs.Names
@@ -162,10 +162,10 @@ module _ (r : TimeCodeType) (c : ShortTimeCode) where
 pub page-reads-back : (c : StandardTimeCode) → page.allowed c ≡ true
     → Reads (getD (page.written c) 0 0) (getD (page.written c) 1 0) (getD (page.written c) 2 0) (getD (page.written c) 3 0) (getD (page.written c) 4 0) c
 page-reads-back c h =
-    let p = and-parts (page.lastAllowed (c .«final_byte»)) (isValid (c .time) && (not (c .blank) || page.isZero (c .time))) h in
-    let v = and-parts (isValid (c .time)) _ (p .1) .0 in
     record {
-      letters = Written.letters-written c (valid-widths (c .time) (holds _ v)) (Written.fits-page (c .«final_byte») ∙ p .0);
+      letters =
+          Written.letters-written c (valid-widths (c .time) (Beyond.allowed-label c h))
+          (Written.fits-page (c .«final_byte») ∙ Beyond.allowed-last c h);
       code = h;
     }
 
@@ -313,9 +313,11 @@ short-by-page c = refl
 -- That of a code that the page has is one that the page has at the code's rate.
 pub short-of-allowed : (c : StandardTimeCode) → page.allowed c ≡ true → page.shortAllowed (c .time .rate) (page.short c) ≡ true
 short-of-allowed c h =
-    let p = and-parts (page.lastAllowed (c .«final_byte»)) (isValid (c .time) && (not (c .blank) || page.isZero (c .time))) h in
-    let v = and-parts (isValid (c .time)) _ (p .1) .0 in
-    and-all _ _ (lt-ltb _ _ (valid-facts (c .time) (holds _ v) .frames)) (p .0)
+    and-all _ _ (lt-ltb _ _ (valid-facts (c .time) (Beyond.allowed-label c h) .frames)) (Beyond.allowed-last c h)
+
+-- A code with a short form is the page's too.
+pub with-short-by-page : (c : StandardTimeCode) (s : ShortTimeCode) → withShort c s ≡ page.afterShort c s
+with-short-by-page c s = refl
 
 -- A code with its own short form is the code itself.
 pub with-own-short : (c : StandardTimeCode) → withShort c (shortForm c) ≡ c

@@ -13,7 +13,7 @@ use Rattle.codes.specs.declared.time_code.FinalByte.{FinalByte}
 use Rattle.codes.specs.declared.time_code.FinalByte.the-variants.{Subframes, Status}
 use Rattle.codes.specs.declared.time_code.StandardTimeCode.{StandardTimeCode}
 use Rattle.codes.specs.declared.time_code.ShortTimeCode.{ShortTimeCode}
-use Rattle.labels.specs.St12.{one, framesPerSecond, isValid}
+use Rattle.labels.specs.St12.{one, label, framesPerSecond, isValid}
 use Rattle.labels.specs.declared.time.MtcTime.{MtcTime}
 use Rattle.labels.specs.declared.time.TimeCodeType.{TimeCodeType}
 use Rattle.labels.specs.declared.time.TimeCodeType.the-variants.{Fps24, Fps25, Fps30Drop, Fps30}
@@ -65,6 +65,17 @@ status s xxx = st (one (s .estimated)) (one (s .invalid)) (one (s .«video_field
 -- The short form of a code: the frames, the sign and the last byte.
 abbrev pub short : StandardTimeCode → ShortTimeCode
 short c = record { frames = c .time .frames; negative = c .negative; «final_byte» = c .«final_byte» }
+
+-- A field's code after a short one: hours, minutes, seconds and their flags stay as in the last full one.
+abbrev pub afterShort : StandardTimeCode → ShortTimeCode → StandardTimeCode
+afterShort c s =
+    record {
+      time = label (c .time .rate) (c .time .hours) (c .time .minutes) (c .time .seconds) (s .frames);
+      «color_frame» = c .«color_frame»;
+      blank = c .blank;
+      negative = s .negative;
+      «final_byte» = s .«final_byte»;
+    }
 
 -- A field 01H to 1FH has a short name, 20H above its own.
 pub record ShortNamed (name shortName : ℕ) : Type 0 where

@@ -1,6 +1,6 @@
 -- MIDI 1.0 detailed specification v4.2.1, System Exclusive: the bytes of a Universal message (pp. 34, 35; Table VII, p. T-8),
 -- which families carry a sub-ID 2 (Table VIIa, pp. T-9, T-10), which messages there are, and whom a device ID addresses
--- (p. 35). Left out: manufacturers' messages, and what the data of each family says. Assumes nothing.
+-- (p. 35). Left out: manufacturers' messages, which families are assigned, and what the data of each says. Assumes nothing.
 use Prim.Native.Nat.{ℕ, _≤_, _<_}
 use mathlib.Core.Path.{_≡_}
 use mathlib.Core.Bool.{Bool, true, false, _&&_, _||_}
