@@ -20,18 +20,6 @@ pub enum InfoField {
     Other { name: Part, data: Part },
 }
 
-// What the splitter answers at a place: a field, or 2 or 9.
-pub enum FieldAnswer {
-    Field(InfoField),
-    Refused(SysexError),
-}
-
-// The answer, and the place to read on from.
-pub struct NextField {
-    pub answer: FieldAnswer,
-    pub place: usize,
-}
-
 // The field of a name and its data, which lie at these parts of the string.
 fn read(name: &[u8], data: &[u8], name_at: Part, data_at: Part) -> InfoField
     ensures { λ r. ⌜ r ≡ placed (readField (now (name .entry)) (now («data» .entry))) «name_at» «data_at» ⌝ }
@@ -72,6 +60,18 @@ fn read(name: &[u8], data: &[u8], name_at: Part, data_at: Part) -> InfoField
             data: data_at,
         },
     }
+}
+
+// What the splitter answers at a place: a field, or 2 or 9.
+pub enum FieldAnswer {
+    Field(InfoField),
+    Refused(SysexError),
+}
+
+// The answer, and the place to read on from.
+pub struct NextField {
+    pub answer: FieldAnswer,
+    pub place: usize,
 }
 
 // The field at a place of a string and the place after it; 2 and the end where the string is cut short; 9 at or past it.
