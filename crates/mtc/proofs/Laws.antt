@@ -24,9 +24,9 @@ pub use Rattle.mtc.proofs.Generators.{sends, stops}
 -- A sound reader's bounds, what keeps it sound, and what it does with the next piece in its direction.
 pub use Rattle.mtc.proofs.InOrder.{sound-by, Bounds, bounds, next-piece, sequence-of}
 pub use Rattle.mtc.proofs.Sound.{Sound, as-is, byte-sound}
--- Full messages and user bits: written bytes are RP-004/008's, a buffer that fits or is short, what is written reads back, and
--- reading accepts the practice's layouts and no other.
-pub use Rattle.mtc.proofs.Messages.{full-message-bytes, full-message-fits, full-message-short, full-message-back, full-message-layout, full-message-reads, group-bytes, user-bits-bytes, user-bits-fits, user-bits-short, user-bits-back, user-bits-layout, user-bits-reads}
+-- Full messages and user bits: written bytes are RP-004/008's, or refused; a buffer that fits or is short; the practice's full
+-- message of any label is read as it, what is written reads back, and reading accepts the practice's layouts and no other.
+pub use Rattle.mtc.proofs.Messages.{full-message-bytes, full-message-device, full-message-invalid, full-message-fits, full-message-short, full-message-read, full-message-back, full-message-layout, full-message-reads, group-bytes, user-bits-bytes, user-bits-fits, user-bits-short, user-bits-back, user-bits-layout, user-bits-reads}
 use Rattle.mtc.proofs.QuarterFrames
 use Rattle.mtc.proofs.Sending
 use Rattle.mtc.proofs.Streams
