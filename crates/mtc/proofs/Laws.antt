@@ -13,12 +13,13 @@ use Rattle.mtc.specs.declared.generator.Direction.the-variants.{Forward,
 use Rattle.mtc.specs.declared.generator.MtcGenerator.{MtcGenerator}
 use Rattle.mtc.specs.declared.reader.MaybeTime.{MaybeTime}
 use Rattle.mtc.specs.declared.reader.MtcReader.{MtcReader}
-use Rattle.mtc.specs.Generator.{move}
+use Rattle.mtc.specs.Generator.{move, started, GeneratorCall, afterGeneratorCalls}
 use Rattle.mtc.specs.QuarterFrame.{quarterFrame, fromByte, toByte, pieces}
-use Rattle.mtc.specs.Reader.{fresh, isSound, reported, afterByte, eventOf, afterFullMessage}
+use Rattle.mtc.specs.Reader.{fresh, pieceFits, isSound, reported, afterByte, eventOf, afterFullMessage}
 use Rattle.mtc.specs.Ready.{NotAgainst, Ready, Reads}
 use Rattle.mtc.specs.Rp004.{dataByte, InWidths, dataBytes, nextLabel, sequencesFrom, isBoundary, currentTime}
 use Rattle.mtc.specs.Stream.{Call, afterCall, afterCalls, events, sent, runFrom, StreamLaw, SentLaw}
+use Rattle.mtc.proofs.Generators
 -- A generator's next byte, running and stopped.
 pub use Rattle.mtc.proofs.Generators.{sends, stops}
 -- A sound reader's bounds, what keeps it sound, and what it does with the next piece in its direction.
@@ -101,7 +102,15 @@ sent-law = Sending.sent-law
 pub stream-law : StreamLaw
 stream-law = Streams.stream-law
 
--- No list of calls leaves a record that is taken as fresh.
+-- No list of calls leaves a generator's last piece above 7 where it was not above 7 before, and so none after it was started.
+pub generator-calls : (g : MtcGenerator) → T (pieceFits (g .last)) → (cs : List GeneratorCall)
+    → T (pieceFits (afterGeneratorCalls g cs .last))
+generator-calls g h cs = Generators.calls-fit cs g h
+
+pub started-calls : (t : MtcTime) (d : Direction) (cs : List GeneratorCall) → T (pieceFits (afterGeneratorCalls (started t d) cs .last))
+started-calls t d cs = Generators.calls-fit cs (started t d) tt
+
+-- No list of calls on a fresh reader leaves a record that is taken as fresh.
 pub calls-sound : (cs : List Call) → T (isSound (afterCalls fresh cs))
 calls-sound = Streams.calls-sound
 
