@@ -61,8 +61,7 @@ pub record LeastAbove (t u : MtcTime) : Type 0 where
   pub above : T (isEarlier t u)
   pub least : (v : MtcTime) → v .rate ≡ t .rate → T (isValid v) → T (isEarlier t v) → T (not (isEarlier v u))
 
--- The label after a label: one frame on, with a carry to seconds, minutes and hours and round midnight, and past the
--- numbers that drop-frame skips.
+-- One frame on, with a carry to seconds, minutes and hours and round midnight.
 abbrev pub carried : MtcTime → MtcTime
 carried t =
     cond (ltb (suc (t .frames)) (framesPerSecond (t .rate)))
@@ -71,9 +70,11 @@ carried t =
     (cond (ltb (suc (t .minutes)) 60) (label (t .rate) (t .hours) (suc (t .minutes)) 0 0)
     (cond (ltb (suc (t .hours)) 24) (label (t .rate) (suc (t .hours)) 0 0 0) (label (t .rate) 0 0 0 0))))
 
+-- Past the numbers that drop-frame skips: 00:01:00;00 goes to 00:01:00;02.
 abbrev pub pastSkipped : MtcTime → MtcTime
 pastSkipped t = cond (isSkipped t) (label (t .rate) (t .hours) (t .minutes) (t .seconds) 2) t
 
+-- The label after a label.
 unfoldable pub labelAfter : MtcTime → MtcTime
 labelAfter t = pastSkipped (carried t)
 
@@ -83,17 +84,18 @@ lastBefore r h m =
     cond (ltb 0 m) (label r h (m - 1) 59 (framesPerSecond r - 1))
     (cond (ltb 0 h) (label r (h - 1) 59 59 (framesPerSecond r - 1)) (label r 23 59 59 (framesPerSecond r - 1)))
 
--- The label before a label: one frame back, with a borrow from seconds, minutes and hours and round midnight, and past the
--- numbers that drop-frame skips.
+-- One frame back, with a borrow from seconds, minutes and hours and round midnight.
 abbrev pub borrowed : MtcTime → MtcTime
 borrowed t =
     cond (ltb 0 (t .frames)) (label (t .rate) (t .hours) (t .minutes) (t .seconds) (t .frames - 1))
     (cond (ltb 0 (t .seconds)) (label (t .rate) (t .hours) (t .minutes) (t .seconds - 1) (framesPerSecond (t .rate) - 1))
     (lastBefore (t .rate) (t .hours) (t .minutes)))
 
+-- Back past the numbers that drop-frame skips: 00:01:00;01 goes to 00:00:59;29.
 abbrev pub backPastSkipped : MtcTime → MtcTime
 backPastSkipped t = cond (isSkipped t) (lastBefore (t .rate) (t .hours) (t .minutes)) t
 
+-- The label before a label.
 unfoldable pub labelBefore : MtcTime → MtcTime
 labelBefore t = backPastSkipped (borrowed t)
 
