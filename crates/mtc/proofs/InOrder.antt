@@ -9,7 +9,7 @@ use lib.Dec.{T, leb, eqb, le→leb}
 use lib.ListN.{length, getD}
 use Rattle.mtc.specs.Generator.{first, after}
 use Rattle.mtc.specs.QuarterFrame.{pieceOf, valueOf}
-use Rattle.mtc.specs.Reader.{Standing, nibblesFit, pieceFits, control, ordered, orderOf, numberAfter, numberOf, readerBy, reportBy, rawOf, directionOf, reported, sequenceOf, eventWith, afterPiece, reportOf, afterByte, eventOf}
+use Rattle.mtc.specs.Reader.{Sound, Standing, nibblesFit, pieceFits, control, ordered, orderOf, numberAfter, numberOf, readerBy, reportBy, rawOf, directionOf, reported, sequenceOf, eventWith, afterPiece, reportOf, afterByte, eventOf}
 use Rattle.mtc.specs.declared.generator.Direction.{Direction}
 use Rattle.mtc.specs.declared.generator.MaybePiece.{MaybePiece}
 use Rattle.mtc.specs.declared.generator.MaybePiece.the-variants.{NoPiece, Piece}
@@ -17,7 +17,7 @@ use Rattle.mtc.specs.declared.reader.MaybeDirection.the-variants.{Going}
 use Rattle.mtc.specs.declared.reader.MaybeSequence.{MaybeSequence}
 use Rattle.mtc.specs.declared.reader.MtcReader.{MtcReader}
 use Rattle.mtc.proofs.Readers.{both, nibble-small, sound, sound-count, sound-first, sound-last, sound-nibbles}
-use Rattle.mtc.proofs.Sound.{Sound, as-is}
+use Rattle.mtc.proofs.Sound.{as-is}
 
 -- ---- bounds
 

@@ -4,7 +4,6 @@ use Prim.Native.Nat.{ℕ, _+_, _*_, _<_}
 use mathlib.Core.Path.{_≡_, refl}
 use mathlib.Core.List.{List, [], _∷_}
 use lib.Dec.{T}
-use lib.ListN.{length}
 use Rattle.labels.specs.St12.{isValid, labelBefore}
 use Rattle.labels.specs.Time.{addFrames}
 use Rattle.labels.specs.declared.time.MtcTime.{MtcTime}
@@ -24,7 +23,8 @@ use Rattle.mtc.proofs.Generators
 pub use Rattle.mtc.proofs.Generators.{sends, stops}
 -- A sound reader's bounds, what keeps it sound, and what it does with the next piece in its direction.
 pub use Rattle.mtc.proofs.InOrder.{sound-by, Bounds, bounds, next-piece, sequence-of}
-pub use Rattle.mtc.proofs.Sound.{Sound, as-is, byte-sound}
+pub use Rattle.mtc.specs.Reader.{Sound}
+pub use Rattle.mtc.proofs.Sound.{as-is, byte-sound}
 -- Full messages and user bits: written bytes are RP-004/008's, or refused; a buffer that fits or is short; the practice's full
 -- message of any label is read as it, what is written reads back, and reading accepts the practice's layouts and no other.
 pub use Rattle.mtc.proofs.Messages.{full-message-bytes, full-message-device, full-message-invalid, full-message-fits, full-message-short, full-message-read, full-message-back, full-message-layout, full-message-reads, group-bytes, user-bits-bytes, user-bits-fits, user-bits-short, user-bits-back, user-bits-layout, user-bits-reads}
@@ -65,10 +65,13 @@ pub sends-practice : (g : MtcGenerator) (t : MtcTime) (d : Direction) (n : ℕ) 
     → sent (n * 8) (runFrom g t d) ≡ sequencesFrom d t n
 sends-practice = QuarterFrames.sends-practice
 
--- A data byte's event has its piece, and RP-004/008's boundary mark.
-pub event-practice : (r : MtcReader) (n d : ℕ) → n < 8 → d < 16
-    → (eventOf r (dataByte n d) .piece ≡ n) × (eventOf r (dataByte n d) .boundary ≡ isBoundary n)
-event-practice = QuarterFrames.event-practice
+-- The event of a data byte has its piece.
+pub event-piece : (r : MtcReader) (n d : ℕ) → n < 8 → d < 16 → eventOf r (dataByte n d) .piece ≡ n
+event-piece = QuarterFrames.event-piece
+
+-- Every event has RP-004/008's boundary mark of its piece.
+pub event-boundary : (r : MtcReader) (b : ℕ) → eventOf r b .boundary ≡ isBoundary (eventOf r b .piece)
+event-boundary = QuarterFrames.event-boundary
 
 -- Forward the current time that a report of a valid label has is RP-004/008's.
 pub current-forward : (t : MtcTime) (p : MaybeTime) → T (isValid t) → reported t Forward p .current ≡ currentTime t
@@ -87,8 +90,7 @@ pub fresh-ready : (d : Direction) → Ready d fresh
 fresh-ready = QuarterFrames.fresh-ready
 
 -- So is a reader that just got a full message, unless it was going the other way.
-pub full-ready : (r : MtcReader) (d : Direction) (t : MtcTime) → T (isSound r) → length (r .nibbles) ≡ 8
-    → NotAgainst d (r .direction) → Ready d (afterFullMessage r t)
+pub full-ready : (r : MtcReader) (d : Direction) (t : MtcTime) → Sound r → NotAgainst d (r .direction) → Ready d (afterFullMessage r t)
 full-ready = QuarterFrames.full-ready
 
 -- ---- streams

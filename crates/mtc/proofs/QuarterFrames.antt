@@ -8,10 +8,9 @@ use mathlib.Core.Path.{_≡_, refl, sym, _∙_, ap, ap₂, subst}
 use native.Mathlib.Omega.{arith}
 use lib.Dec.{T, eqb, eqb→eq}
 use lib.IntN.{pos, negsuc}
-use lib.ListN.{length}
 use Rattle.mtc.specs.Generator.{final, move, sentAt}
-use Rattle.mtc.specs.QuarterFrame.{pieceOf, quarterFrame, fromByte, toByte, pieces}
-use Rattle.mtc.specs.Reader.{fresh, isSound, sameTime, reported, eventOf, afterFullMessage}
+use Rattle.mtc.specs.QuarterFrame.{quarterFrame, fromByte, toByte, pieces}
+use Rattle.mtc.specs.Reader.{fresh, Sound, sameTime, reported, eventOf, afterFullMessage}
 use Rattle.mtc.specs.Ready.{NotAgainst, Starts, anew, next, Ready, afterBytes, Reads}
 use Rattle.mtc.specs.Rp004.{dataByte, typeCode, InWidths, dataBytes, sequence, nextLabel, sequencesFrom, isBoundary, currentTime}
 use Rattle.labels.specs.St12.{isValid, labelAfter, labelBefore}
@@ -32,7 +31,7 @@ use Rattle.labels.proofs.Laws.{moved-valid, moved-by-sum, moved-by-one, moved-b
 use Rattle.mtc.proofs.Widths.{valid-widths}
 use Rattle.mtc.proofs.Rounds.{run, leave, left, round, round-left}
 use Rattle.mtc.proofs.Sending.{later, sends-first, sends-next}
-use Rattle.mtc.proofs.Sound.{Sound, as-is, full-sound}
+use Rattle.mtc.proofs.Sound.{as-is, full-sound}
 use Rattle.mtc.proofs.Streams.{reports, reports-run, bytes-sound, bytes-leave, fresh-sound}
 
 -- ---- a data byte
@@ -148,12 +147,13 @@ current-forward t p h = moves-practice t Forward h
 pub current-reverse : (t : MtcTime) (p : MaybeTime) → T (isValid t) → reported t Reverse p .current ≡ labelBefore t
 current-reverse t p h = moved-back-one t h
 
--- A data byte's event has its piece, and RP-004/008's boundary mark.
-pub event-practice : (r : MtcReader) (n d : ℕ) → n < 8 → d < 16
-    → (eventOf r (dataByte n d) .piece ≡ n) × (eventOf r (dataByte n d) .boundary ≡ isBoundary n)
-event-practice r n d h k =
-    let e : pieceOf (dataByte n d) ≡ n = omega arith in
-    (e, ap isBoundary e)
+-- The event of a data byte has its piece.
+pub event-piece : (r : MtcReader) (n d : ℕ) → n < 8 → d < 16 → eventOf r (dataByte n d) .piece ≡ n
+event-piece r n d h k = omega arith
+
+-- Every event has RP-004/008's boundary mark of its piece.
+pub event-boundary : (r : MtcReader) (b : ℕ) → eventOf r b .boundary ≡ isBoundary (eventOf r b .piece)
+event-boundary r b = refl
 
 -- ---- a whole sequence, read
 
@@ -161,31 +161,26 @@ split-sequence : (t : MtcTime) (d : Direction) → InWidths t → map split (seq
 split-sequence t d w = ap (map split) (sym (in-practice t d w)) ∙ split-pieces t d
 
 module _ (r : MtcReader) (d : Direction) (t : MtcTime) (h : Ready d r) (w : InWidths t) where
-  sound : Sound r
-  sound = record { within = h .sound; eight = h .nibbles }
-
   reports-are : reports (events r (sequence d t)) ≡ silent 7 ++ (Sequence (reported t d (r .previous)) ∷ [])
   unfolding run
   reports-are =
-      reports-run (sequence d t) r sound
+      reports-run (sequence d t) r (h .sound)
       ∙ ap (run r) (split-sequence t d w ∙ sym (append-nil (numbered d (values t))))
-      ∙ round (values t) r d (h .nibbles) (h .starts) []
+      ∙ round (values t) r d (h .sound .eight) (h .starts) []
       ∙ ap (λ (u : MtcTime). silent 7 ++ (Sequence (reported u d (r .previous)) ∷ [])) (raw-values t w)
 
   leaves : afterBytes r (sequence d t) ≡ left (values t) d
   leaves =
-      bytes-leave (sequence d t) r sound ∙ ap (leave r) (split-sequence t d w) ∙ round-left (values t) r d (h .nibbles) (h .starts)
+      bytes-leave (sequence d t) r (h .sound) ∙ ap (leave r) (split-sequence t d w) ∙ round-left (values t) r d (h .sound .eight) (h .starts)
 
   -- A reader that is ready for a sequence reads it.
   pub sequence-read : Reads d t r
   sequence-read =
-      let s : Sound (afterBytes r (sequence d t)) = bytes-sound (sequence d t) r sound in
       record {
         reports = reports-are;
         ready =
             record {
-              sound = s .within;
-              nibbles = s .eight;
+              sound = bytes-sound (sequence d t) r (h .sound);
               starts = subst (Starts d) (sym leaves) (next refl refl);
             };
         previous = ap (λ (x : MtcReader). x .previous) leaves ∙ ap Time (raw-values t w);
@@ -193,18 +188,13 @@ module _ (r : MtcReader) (d : Direction) (t : MtcTime) (h : Ready d r) (w : InWi
 
 -- A fresh reader is ready for either direction.
 pub fresh-ready : (d : Direction) → Ready d fresh
-fresh-ready d =
-    record { sound = fresh-sound .within; nibbles = fresh-sound .eight; starts = anew refl (inl refl) }
+fresh-ready d = record { sound = fresh-sound; starts = anew refl (inl refl) }
 
 -- So is a reader that just got a full message, unless it was going the other way.
-pub full-ready : (r : MtcReader) (d : Direction) (t : MtcTime) → T (isSound r) → length (r .nibbles) ≡ 8
-    → NotAgainst d (r .direction) → Ready d (afterFullMessage r t)
-full-ready r d t within eight n =
-    let h : Sound r = record { within = within; eight = eight } in
-    let s : Sound (afterFullMessage r t) = full-sound r h t in
+pub full-ready : (r : MtcReader) (d : Direction) (t : MtcTime) → Sound r → NotAgainst d (r .direction) → Ready d (afterFullMessage r t)
+full-ready r d t h n =
     record {
-      sound = s .within;
-      nibbles = s .eight;
+      sound = full-sound r h t;
       starts = anew refl (subst (λ (x : MtcReader). NotAgainst d (x .direction)) (sym (as-is r h)) n);
     }
 

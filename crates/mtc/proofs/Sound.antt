@@ -6,15 +6,10 @@ use native.Mathlib.Omega.{arith}
 use lib.Dec.{T, eqb, le→leb}
 use lib.ListN.{length, length-set}
 use Rattle.mtc.specs.QuarterFrame.{pieceOf, valueOf}
-use Rattle.mtc.specs.Reader.{Standing, isSound, taken, control, orderOf, numberOf, passed, stored, completed, informed, afterPiece, reportOf, afterByte, eventOf, afterFullMessage}
+use Rattle.mtc.specs.Reader.{Standing, isSound, Sound, taken, control, orderOf, numberOf, passed, stored, completed, informed, afterPiece, reportOf, afterByte, eventOf, afterFullMessage}
 use Rattle.labels.specs.declared.time.MtcTime.{MtcTime}
 use Rattle.mtc.specs.declared.reader.MtcReader.{MtcReader}
 use Rattle.mtc.proofs.Readers.{fit-set, sound, sound-first, sound-nibbles, taken-sound}
-
--- A sound record with eight nibbles.
-pub record Sound (r : MtcReader) : Type 0 where
-  pub within : T (isSound r)
-  pub eight : length (r .nibbles) ≡ 8
 
 -- Of two things, whichever a test picks.
 picked : {A : Type 0} (P : A → Type 0) (b : Bool) {x y : A} → P x → P y → P (cond b x y)

@@ -10,7 +10,7 @@ use lib.Dec.{T}
 use lib.ListN.{length, take, set, getD}
 use Rattle.mtc.specs.Generator.{first, move}
 use Rattle.mtc.specs.QuarterFrame.{pieceOf, pieces}
-use Rattle.mtc.specs.Reader.{fresh, isSound, nibblesFit, offset, sameTime, jumps, reported, reportOf, afterPiece, afterByte, afterFullMessage}
+use Rattle.mtc.specs.Reader.{Sound, fresh, isSound, nibblesFit, offset, sameTime, jumps, reported, reportOf, afterPiece, afterByte, afterFullMessage}
 use Rattle.mtc.specs.Ready.{next, afterBytes}
 use Rattle.mtc.specs.Rp004.{InWidths}
 use Rattle.labels.specs.St12.{isValid}
@@ -32,7 +32,7 @@ use Rattle.mtc.proofs.Nibbles.{opening, numbered, assembled, values, sp
 use Rattle.mtc.proofs.Rounds.{run, leave, left, round, run-first, Eighth, eighth}
 use Rattle.mtc.proofs.Sending.{later, sequence, sends-three}
 use Rattle.mtc.proofs.Shapes.{opposite, history, Shape, idle, piece-shape, Begun, Quiet, first-byte}
-use Rattle.mtc.proofs.Sound.{Sound, by-piece, report-by-piece, byte-sound, full-sound, same-length}
+use Rattle.mtc.proofs.Sound.{by-piece, report-by-piece, byte-sound, full-sound, same-length}
 
 -- ---- lists
 

@@ -3,9 +3,10 @@
 use Prim.Native.Nat.{ℕ, zero, suc, _+_, _*_, _%_}
 use mathlib.Core.Bool.{Bool, true, false, not, cond, _&&_, _||_}
 use mathlib.Core.List.{List}
-use lib.Dec.{leb, ltb, eqb}
+use mathlib.Core.Path.{_≡_}
+use lib.Dec.{T, leb, ltb, eqb}
 use lib.IntN.{ℤ, pos, negsuc}
-use lib.ListN.{getD, set, replicate}
+use lib.ListN.{length, getD, set, replicate}
 use Rattle.mtc.specs.Generator.{first, after, move}
 use Rattle.mtc.specs.QuarterFrame.{pieceOf, valueOf}
 use Rattle.labels.specs.Time.{addFrames, rawTime, bitsOf}
@@ -54,6 +55,11 @@ pieceFits (Piece p) = leb p 7
 -- Count and pieces at most 7, nibbles at most 15.
 unfoldable pub isSound : MtcReader → Bool
 isSound r = leb (r .count) 7 && (leb (r .first) 7 && (pieceFits (r .last) && nibblesFit 8 (r .nibbles)))
+
+-- A record that calls leave: sound, with its eight nibbles.
+pub record Sound (r : MtcReader) : Type 0 where
+  pub within : T (isSound r)
+  pub eight : length (r .nibbles) ≡ 8
 
 -- Any other record is taken as fresh.
 unfoldable pub taken : MtcReader → MtcReader

@@ -3,10 +3,8 @@ use Prim.Native.Nat.{ℕ}
 use mathlib.Core.List.{List, [], _∷_, _++_, map}
 use mathlib.Core.Logic.{_⊎_}
 use mathlib.Core.Path.{_≡_}
-use lib.Dec.{T}
-use lib.ListN.{length}
 use Rattle.mtc.specs.Generator.{first, final}
-use Rattle.mtc.specs.Reader.{isSound, found, reported}
+use Rattle.mtc.specs.Reader.{Sound, found, reported}
 use Rattle.mtc.specs.Rp004.{sequence}
 use Rattle.mtc.specs.Stream.{byte, afterCalls, events, silent}
 use Rattle.labels.specs.declared.time.MtcTime.{MtcTime}
@@ -33,8 +31,7 @@ pub data Starts (d : Direction) (r : MtcReader) : Type 0 where
 
 -- Ready for a sequence of a direction: the record is one that calls leave, and the direction's first piece starts a sequence.
 pub record Ready (d : Direction) (r : MtcReader) : Type 0 where
-  pub sound : T (isSound r)
-  pub nibbles : length (r .nibbles) ≡ 8
+  pub sound : Sound r
   pub starts : Starts d r
 
 -- The reader that data bytes leave.
