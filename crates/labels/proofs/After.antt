@@ -1,4 +1,4 @@
--- ST 12-1's label after a label is the label one count on; `next_valid` goes to the least valid label above. Assumes nothing.
+-- ST 12-1's label after a valid label is the label one count on, which moving by 1 gives. Assumes nothing.
 use Prim.Native.Nat.{ℕ, zero, suc, _+_, _-_, _*_, _/_, _%_, _≤_, _<_}
 use mathlib.Core.Path.{_≡_, refl, sym, ap, subst, _∙_}
 use mathlib.Core.Bool.{Bool, true, false, not, cond, _&&_}
@@ -21,19 +21,19 @@ use Rattle.labels.proofs.Validity.{Kept, skipped-kept, kept-skipped, In
 -- ---- one frame on
 
 -- The first frame number of a minute.
-abbrev first : TimeCodeType → ℕ → ℕ
+abbrev pub first : TimeCodeType → ℕ → ℕ
 first Fps24 m = 0
 first Fps25 m = 0
 first Fps30Drop m = cond (eqb (m % 10) 0) 0 2
 first Fps30 m = 0
 
-step-frame : (r : TimeCodeType) (m s f : ℕ) → formula r m s (suc f) ≡ formula r m s f + 1
+pub step-frame : (r : TimeCodeType) (m s f : ℕ) → formula r m s (suc f) ≡ formula r m s f + 1
 step-frame Fps24 m s f = omega arith
 step-frame Fps25 m s f = omega arith
 step-frame Fps30Drop m s f = omega arith
 step-frame Fps30 m s f = omega arith
 
-step-second : (r : TimeCodeType) (m s f : ℕ) → suc f ≡ framesPerSecond r → formula r m (suc s) 0 ≡ formula r m s f + 1
+pub step-second : (r : TimeCodeType) (m s f : ℕ) → suc f ≡ framesPerSecond r → formula r m (suc s) 0 ≡ formula r m s f + 1
 step-second Fps24 m s f e = omega arith
 step-second Fps25 m s f e = omega arith
 step-second Fps30Drop m s f e = omega arith
@@ -49,7 +49,7 @@ step-drop-minute m = go (eqb (suc m % 10) 0) refl
     go true e = omega (arith, eqb-true (suc m % 10) 0 e)
     go false e = dropped (eqb-false (suc m % 10) 0 e)
 
-step-minute : (r : TimeCodeType) (m s f : ℕ) → s ≡ 59 → suc f ≡ framesPerSecond r
+pub step-minute : (r : TimeCodeType) (m s f : ℕ) → s ≡ 59 → suc f ≡ framesPerSecond r
     → formula r (suc m) 0 (first r (suc m)) ≡ formula r m s f + 1
 step-minute Fps24 m s f es ef = omega arith
 step-minute Fps25 m s f es ef = omega arith
@@ -82,13 +82,13 @@ first-kept Fps30Drop h m = go (eqb (m % 10) 0) refl
     go false e = refl
 first-kept Fps30 h m = refl
 
-first-mod : (r : TimeCodeType) (a b : ℕ) → a % 10 ≡ b % 10 → first r a ≡ first r b
+pub first-mod : (r : TimeCodeType) (a b : ℕ) → a % 10 ≡ b % 10 → first r a ≡ first r b
 first-mod Fps24 a b e = refl
 first-mod Fps25 a b e = refl
 first-mod Fps30Drop a b e = rw e
 first-mod Fps30 a b e = refl
 
-first-zero : (r : TimeCodeType) → first r 0 ≡ 0
+pub first-zero : (r : TimeCodeType) → first r 0 ≡ 0
 first-zero Fps24 = refl
 first-zero Fps25 = refl
 first-zero Fps30Drop = refl
@@ -131,7 +131,7 @@ second-kept Fps30 h m s = refl
 -- ---- the label one count on
 
 -- A valid label whose formula is one more is the label one count on.
-one-on : (r : TimeCodeType) (h m s f h′ m′ s′ f′ : ℕ) → InRange (label r h m s f) → InRange (label r h′ m′ s′ f′)
+pub one-on : (r : TimeCodeType) (h m s f h′ m′ s′ f′ : ℕ) → InRange (label r h m s f) → InRange (label r h′ m′ s′ f′)
     → formula r (h′ * 60 + m′) s′ f′ ≡ formula r (h * 60 + m) s f + 1
     → label r h′ m′ s′ f′ ≡ labelAt (frameCount (label r h m s f) + 1) r
 one-on r h m s f h′ m′ s′ f′ k k′ e =
@@ -142,13 +142,13 @@ one-on r h m s f h′ m′ s′ f′ k k′ e =
     (count-is-formula (label r h′ m′ s′ f′) v′ ∙ e ∙ ap (λ (n : ℕ). n + 1) (sym (count-is-formula (label r h m s f) v)))
 
 -- After the day's last label comes its first.
-last-count : (r : TimeCodeType) (f : ℕ) → suc f ≡ framesPerSecond r → formula r (23 * 60 + 59) 59 f + 1 ≡ dayOf r
+pub last-count : (r : TimeCodeType) (f : ℕ) → suc f ≡ framesPerSecond r → formula r (23 * 60 + 59) 59 f + 1 ≡ dayOf r
 last-count Fps24 f e = omega arith
 last-count Fps25 f e = omega arith
 last-count Fps30Drop f e = omega arith
 last-count Fps30 f e = omega arith
 
-label-zero : (r : TimeCodeType) → label r 0 0 0 0 ≡ labelAt 0 r
+pub label-zero : (r : TimeCodeType) → label r 0 0 0 0 ≡ labelAt 0 r
 unfolding labelAt
 label-zero Fps24 = refl
 label-zero Fps25 = refl
@@ -182,7 +182,7 @@ module _ (r : TimeCodeType) (h m s f : ℕ) (k : InRange (label r h m s f)) wher
       (record { hours = hh; minutes = hm; seconds = lit≤ tt; frames = first-small r m′; kept = first-kept r h′ m′ })
       (rw (e, e₁) (step-minute r (h * 60 + m) s f es ef))
 
-  after-carry : OneOn (pastSkipped (carried (label r h m s f)))
+  pub after-carry : OneOn (pastSkipped (carried (label r h m s f)))
   after-carry = go₁ (ltb (suc f) (framesPerSecond r)) refl
     where
       at-second : suc f ≡ framesPerSecond r → s ≡ 59 → m ≡ 59 → h ≡ 23 → OneOn (pastSkipped (label r 0 0 0 0))

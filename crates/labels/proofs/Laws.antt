@@ -5,13 +5,14 @@ use mathlib.Core.Path.{_≡_, refl}
 use mathlib.Core.Bool.{true, false}
 use mathlib.Core.Logic.{_⊎_}
 use lib.Dec.{T}
-use lib.IntN.{ℤ, pos, _+ℤ_}
+use lib.IntN.{ℤ, pos, negsuc, _+ℤ_}
 use Rattle.labels.specs.declared.time.MtcTime.{MtcTime}
 use Rattle.labels.specs.declared.time.TimeCodeType.{TimeCodeType}
 use Rattle.labels.specs.declared.time.TimeCodeType.the-variants.{Fps30Drop}
-use Rattle.labels.specs.St12.{label, framesPerSecond, isDropFrame, isSkipped, isValid, LeastAbove, countBefore, labelsOfDay, labelAfter}
+use Rattle.labels.specs.St12.{label, framesPerSecond, isDropFrame, isSkipped, isValid, LeastAbove, countBefore, labelsOfDay, labelAfter, labelBefore}
 use Rattle.labels.specs.Time.{bitsOf, dayOf, formula, frameCount, labelAt, addFrames, nextValid, labelNumber}
 use Rattle.labels.proofs.After
+use Rattle.labels.proofs.Before
 use Rattle.labels.proofs.Counts
 use Rattle.labels.proofs.DayCount
 use Rattle.labels.proofs.Moving
@@ -43,10 +44,10 @@ pub count-by-formula : (t : MtcTime)
 unfolding frameCount
 count-by-formula t = refl
 
--- The skipped label 00:01:00;00 counts as 00:00:59;28 does.
-pub skipped-counts : frameCount (label Fps30Drop 0 1 0 0) ≡ frameCount (label Fps30Drop 0 0 59 28)
+-- The skipped label 00:01:00;00 counts 1,798, and so does 00:00:59;28.
+pub skipped-counts : (frameCount (label Fps30Drop 0 1 0 0) ≡ 1798) × (frameCount (label Fps30Drop 0 0 59 28) ≡ 1798)
 unfolding frameCount
-skipped-counts = refl
+skipped-counts = (refl, refl)
 
 -- ---- moves
 
@@ -89,6 +90,24 @@ labels-of-day = DayCount.labels-of-day
 -- Moving by 1 is ST 12-1's label after.
 pub moved-by-one : (t : MtcTime) → T (isValid t) → addFrames t (pos 1) ≡ labelAfter t
 moved-by-one = After.moved-by-one
+
+-- Moving by minus 1 is ST 12-1's label before.
+pub moved-back-one : (t : MtcTime) → T (isValid t) → addFrames t (negsuc 0) ≡ labelBefore t
+moved-back-one = Before.moved-back-one
+
+-- The labels after and before a valid label are valid.
+pub after-valid : (t : MtcTime) → T (isValid t) → T (isValid (labelAfter t))
+after-valid = Before.after-valid
+
+pub before-valid : (t : MtcTime) → T (isValid t) → T (isValid (labelBefore t))
+before-valid = Before.before-valid
+
+-- The label after the one before is the label itself, and so is the label before the one after.
+pub after-before : (t : MtcTime) → T (isValid t) → labelAfter (labelBefore t) ≡ t
+after-before = Before.after-before
+
+pub before-after : (t : MtcTime) → T (isValid t) → labelBefore (labelAfter t) ≡ t
+before-after = Before.before-after
 
 -- A skipped label with hours and minutes in range moves to the least valid label above it.
 pub next-valid-least : (t : MtcTime) → T (isSkipped t) → t .hours ≤ 23 → t .minutes ≤ 59 → LeastAbove t (nextValid t)

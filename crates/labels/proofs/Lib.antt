@@ -1,4 +1,5 @@
 mod After
+mod Before
 mod Counts
 mod DayCount
 mod Distance

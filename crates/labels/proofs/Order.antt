@@ -38,11 +38,11 @@ lower-same a p h = rw (le-ltb a a (omega arith), eq-eqb a a refl) h
 
 -- ---- a skipped label
 
-record Skipped (t : MtcTime) : Type 0 where
-  drop : t .rate ≡ Fps30Drop
-  start : t .seconds ≡ 0
-  low : t .frames < 2
-  minute : t .minutes % 10 ≡ 0 → ⊥
+pub record Skipped (t : MtcTime) : Type 0 where
+  pub drop : t .rate ≡ Fps30Drop
+  pub start : t .seconds ≡ 0
+  pub low : t .frames < 2
+  pub minute : t .minutes % 10 ≡ 0 → ⊥
 
 drop-rate : (r : TimeCodeType) → isDropFrame r ≡ true → r ≡ Fps30Drop
 drop-rate Fps24 e = absurd (subst T (sym e) tt)
@@ -50,7 +50,7 @@ drop-rate Fps25 e = absurd (subst T (sym e) tt)
 drop-rate Fps30Drop e = refl
 drop-rate Fps30 e = absurd (subst T (sym e) tt)
 
-skipped-facts : (t : MtcTime) → T (isSkipped t) → Skipped t
+pub skipped-facts : (t : MtcTime) → T (isSkipped t) → Skipped t
 unfolding isSkipped
 skipped-facts t = go (isDropFrame (t .rate)) (eqb (t .seconds) 0) (ltb (t .frames) 2) (eqb (t .minutes % 10) 0) refl refl refl refl
   where
@@ -106,6 +106,7 @@ next-valid-least t x h m =
     let k : Skipped t = skipped-facts t x in
     subst (LeastAbove t) (sym (moved (isSkipped t) x))
     (record {
+      rate = refl;
       valid = second-valid t k h m;
       above =
           lower-same (t .hours) _

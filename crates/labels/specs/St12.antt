@@ -1,7 +1,7 @@
 -- SMPTE ST 12-1, time addresses: which labels there are at each rate, which of them drop-frame skips, their order, how many
--- stand before a label, how many a day has, and the label after a label. The rates are named as MIDI Time Code has them:
--- 24, 25, 30 drop-frame and 30 frames. Left out: binary groups, colour frames, and rates above 30. Assumes nothing.
-use Prim.Native.Nat.{ℕ, zero, suc, _+_, _%_}
+-- stand before a label, how many a day has, and the labels after and before a label. The rates are named as MIDI Time Code has
+-- them: 24, 25, 30 drop-frame and 30 frames. Left out: binary groups, colour frames, and rates above 30. Assumes nothing.
+use Prim.Native.Nat.{ℕ, zero, suc, _+_, _-_, _%_}
 use mathlib.Core.Path.{_≡_}
 use mathlib.Core.Bool.{Bool, true, false, not, cond, _&&_, _||_}
 use lib.Dec.{T, leb, ltb, eqb}
@@ -54,14 +54,14 @@ isEarlier t u =
     lower (t .hours) (u .hours)
     (lower (t .minutes) (u .minutes) (lower (t .seconds) (u .seconds) (ltb (t .frames) (u .frames))))
 
--- The second is the least valid label above the first.
+-- The second is the least valid label above the first, at the same rate.
 pub record LeastAbove (t u : MtcTime) : Type 0 where
+  pub rate : u .rate ≡ t .rate
   pub valid : T (isValid u)
   pub above : T (isEarlier t u)
   pub least : (v : MtcTime) → v .rate ≡ t .rate → T (isValid v) → T (isEarlier t v) → T (not (isEarlier v u))
 
--- The label after a label: one frame on, with a carry to seconds, minutes and hours and round midnight, and past the
--- numbers that drop-frame skips.
+-- One frame on, with a carry to seconds, minutes and hours and round midnight.
 abbrev pub carried : MtcTime → MtcTime
 carried t =
     cond (ltb (suc (t .frames)) (framesPerSecond (t .rate)))
@@ -70,11 +70,34 @@ carried t =
     (cond (ltb (suc (t .minutes)) 60) (label (t .rate) (t .hours) (suc (t .minutes)) 0 0)
     (cond (ltb (suc (t .hours)) 24) (label (t .rate) (suc (t .hours)) 0 0 0) (label (t .rate) 0 0 0 0))))
 
+-- Past the numbers that drop-frame skips: 00:01:00;00 goes to 00:01:00;02.
 abbrev pub pastSkipped : MtcTime → MtcTime
 pastSkipped t = cond (isSkipped t) (label (t .rate) (t .hours) (t .minutes) (t .seconds) 2) t
 
+-- The label after a label.
 unfoldable pub labelAfter : MtcTime → MtcTime
 labelAfter t = pastSkipped (carried t)
+
+-- The last label before the start of a minute of an hour: of the minute before, of the hour before, or of the day.
+abbrev pub lastBefore : TimeCodeType → ℕ → ℕ → MtcTime
+lastBefore r h m =
+    cond (ltb 0 m) (label r h (m - 1) 59 (framesPerSecond r - 1))
+    (cond (ltb 0 h) (label r (h - 1) 59 59 (framesPerSecond r - 1)) (label r 23 59 59 (framesPerSecond r - 1)))
+
+-- One frame back, with a borrow from seconds, minutes and hours and round midnight.
+abbrev pub borrowed : MtcTime → MtcTime
+borrowed t =
+    cond (ltb 0 (t .frames)) (label (t .rate) (t .hours) (t .minutes) (t .seconds) (t .frames - 1))
+    (cond (ltb 0 (t .seconds)) (label (t .rate) (t .hours) (t .minutes) (t .seconds - 1) (framesPerSecond (t .rate) - 1))
+    (lastBefore (t .rate) (t .hours) (t .minutes)))
+
+-- Back past the numbers that drop-frame skips: 00:01:00;01 goes to 00:00:59;29.
+abbrev pub backPastSkipped : MtcTime → MtcTime
+backPastSkipped t = cond (isSkipped t) (lastBefore (t .rate) (t .hours) (t .minutes)) t
+
+-- The label before a label.
+unfoldable pub labelBefore : MtcTime → MtcTime
+labelBefore t = backPastSkipped (borrowed t)
 
 -- ---- counts
 

@@ -182,7 +182,7 @@ fn label_in(minutes: u16, place: u16) -> MtcTime
 }
 
 // The label of a count of a drop-frame day. Ten minutes have 17,982 frames, so a quotient by their tenth is the minute, but for
-// the two frames before some minutes and the two after each tenth, which go by the tens.
+// the last frame before each of the minutes 1 to 5 of ten. That frame and the first two of a tenth minute go by the tens.
 fn drop_label(n: u32) -> MtcTime
     requires { ⌜ n < 2589408 ⌝ }
     ensures { λ r. ⌜ r ≡ numbered TimeCodeType.Fps30Drop (withSkipped TimeCodeType.Fps30Drop n) ⌝ }
@@ -383,7 +383,7 @@ impl MtcTime {
         number_of(self.add_frames(delta))
     }
 
-    // The same at any rate, by the day.
+    // The label `delta` frames later, or earlier, at any rate, by the count and its day.
     fn moved(self, delta: i32) -> Self
         ensures { λ r. ⌜ r ≡ addFrames self delta ⌝ }
     {

@@ -1,13 +1,15 @@
 -- The generator: what its proofs cite. Assumes nothing.
 use Prim.Native.Nat.{ℕ, _+_, _%_, _≤_, _<_}
 use mathlib.Core.Bool.{Bool, true, false, cond}
+use mathlib.Core.List.{List, [], _∷_}
 use mathlib.Core.Path.{_≡_, _∙_}
 use native.Mathlib.Omega.{arith}
 use borrow.Author.Tests.{le-leb, lt-leb}
-use lib.Dec.{lit≤}
+use lib.Dec.{T, lit≤, le→leb}
 use lib.ListN.{getD}
 use Rattle.mtc.specs.QuarterFrame.{pieces}
-use Rattle.mtc.specs.Generator.{known, pieceNext, timeNext, sentAt, nextByteOf, nextByte, afterNextByte}
+use Rattle.mtc.specs.Generator.{known, pieceNext, timeNext, sentAt, nextByteOf, nextByte, afterNextByte, GeneratorCall, next, running, turn, locate, afterGeneratorCall, afterGeneratorCalls}
+use Rattle.mtc.specs.Reader.{pieceFits}
 use Rattle.labels.specs.declared.time.MtcTime.{MtcTime}
 use Rattle.mtc.specs.declared.generator.Direction.{Direction}
 use Rattle.mtc.specs.declared.generator.Direction.the-variants.{Forward, Reverse}
@@ -55,20 +57,31 @@ next-small Forward (Piece l) = omega arith
 next-small Reverse NoPiece = lit≤ tt
 next-small Reverse (Piece l) = omega arith
 
--- A call leaves no last piece above 7: the other calls keep the last piece or forget it.
-pub sends-known : (g : MtcGenerator) → known (g .last) ≡ g .last → known (afterNextByte g .last) ≡ afterNextByte g .last
+next-fits : (g : MtcGenerator) → T (pieceFits (g .last)) → T (pieceFits (afterNextByte g .last))
 unfolding afterNextByte
-sends-known g h = go (g .running)
+next-fits g h = go (g .running)
   where
     p : ℕ
     p = pieceNext (g .direction) (known (g .last))
 
-    next : MtcGenerator
-    next = sentAt (timeNext (g .direction) (known (g .last)) (g .time)) (g .direction) p
+    sent : MtcGenerator
+    sent = sentAt (timeNext (g .direction) (known (g .last)) (g .time)) (g .direction) p
 
-    go : (b : Bool) → known (cond b next g .last) ≡ cond b next g .last
-    go true = rw (le-leb p 7 (next-small (g .direction) (known (g .last))))
+    go : (b : Bool) → T (pieceFits (cond b sent g .last))
+    go true = le→leb p 7 (next-small (g .direction) (known (g .last)))
     go false = h
+
+call-fits : (g : MtcGenerator) (c : GeneratorCall) → T (pieceFits (g .last)) → T (pieceFits (afterGeneratorCall g c .last))
+call-fits g next h = next-fits g h
+call-fits g (running b) h = h
+call-fits g (turn d) h = h
+call-fits g (locate t) h = tt
+
+-- No list of calls leaves a last piece above 7.
+pub calls-fit : (cs : List GeneratorCall) (g : MtcGenerator) → T (pieceFits (g .last)) → T (pieceFits (afterGeneratorCalls g cs .last))
+unfolding afterGeneratorCalls
+calls-fit [] g h = h
+calls-fit (c ∷ cs) g h = calls-fit cs (afterGeneratorCall g c) (call-fits g c h)
 
 -- ---- the piece after one
 

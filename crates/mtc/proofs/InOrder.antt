@@ -9,16 +9,15 @@ use lib.Dec.{T, leb, eqb, le→leb}
 use lib.ListN.{length, getD}
 use Rattle.mtc.specs.Generator.{first, after}
 use Rattle.mtc.specs.QuarterFrame.{pieceOf, valueOf}
-use Rattle.mtc.specs.Reader.{nibblesFit, pieceFits, control, ordered, orderOf, numberAfter, numberOf, readerBy, reportBy, rawOf, directionOf, reported, sequenceOf, eventWith, afterPiece, reportOf, afterByte, eventOf}
+use Rattle.mtc.specs.Reader.{Sound, Standing, nibblesFit, pieceFits, control, ordered, orderOf, numberAfter, numberOf, readerBy, reportBy, rawOf, directionOf, reported, sequenceOf, eventWith, afterPiece, reportOf, afterByte, eventOf}
 use Rattle.mtc.specs.declared.generator.Direction.{Direction}
 use Rattle.mtc.specs.declared.generator.MaybePiece.{MaybePiece}
 use Rattle.mtc.specs.declared.generator.MaybePiece.the-variants.{NoPiece, Piece}
 use Rattle.mtc.specs.declared.reader.MaybeDirection.the-variants.{Going}
 use Rattle.mtc.specs.declared.reader.MaybeSequence.{MaybeSequence}
 use Rattle.mtc.specs.declared.reader.MtcReader.{MtcReader}
-use Rattle.mtc.specs.declared.reader.Order.{Order}
 use Rattle.mtc.proofs.Readers.{both, nibble-small, sound, sound-count, sound-first, sound-last, sound-nibbles}
-use Rattle.mtc.proofs.Sound.{Sound, as-is}
+use Rattle.mtc.proofs.Sound.{as-is}
 
 -- ---- bounds
 
@@ -58,15 +57,15 @@ module _ (r : MtcReader) (d : Direction) (l p v n : ℕ) (el : r .last ≡ Piece
 
   its-number : numberOf (control r) (orderOf (control r) p) p ≡ n
   unfolding numberOf
-  its-number = ap (λ (o : Order). numberOf (control r) o p) in-order ∙ en
+  its-number = ap (λ (o : Standing). numberOf (control r) o p) in-order ∙ en
 
   left : afterPiece r p v ≡ readerBy r (ordered true (Going d) true) n p v
   unfolding afterPiece
-  left = ap₂ (λ (o : Order) (k : ℕ). readerBy r o k p v) in-order its-number
+  left = ap₂ (λ (o : Standing) (k : ℕ). readerBy r o k p v) in-order its-number
 
   said : reportOf r p v ≡ reportBy r (ordered true (Going d) true) n p v
   unfolding reportOf
-  said = ap₂ (λ (o : Order) (k : ℕ). reportBy r o k p v) in-order its-number
+  said = ap₂ (λ (o : Standing) (k : ℕ). reportBy r o k p v) in-order its-number
 
 -- The next piece, by its number, leaves this reader and gives this event.
 pub next-piece : (r : MtcReader) → Sound r → (b l n : ℕ) (d : Direction) → r .last ≡ Piece l → r .direction ≡ Going d → after d l ≡ pieceOf b

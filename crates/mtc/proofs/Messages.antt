@@ -1,5 +1,5 @@
--- The laws of full messages and user bits: what is written is RP-004/008's message, reading it gives it back, and reading
--- accepts the practice's layouts and no other. Assumes nothing.
+-- The laws of full messages and user bits: what is written is RP-004/008's message, what is refused, reading it gives it back,
+-- and reading accepts the practice's layouts and no other. Assumes nothing.
 use Prim.Native.Nat.{ℕ, _+_, _*_, _/_, _%_, _≤_, _<_}
 use mathlib.Core.Path.{_≡_, refl, sym, ap, ap₂, _∙_}
 use mathlib.Core.Bool.{Bool, true, false, _&&_}
@@ -10,12 +10,13 @@ use native.Mathlib.Omega.{arith}
 use lib.Dec.{T, leb, lit≤}
 use lib.ListN.{length, getD}
 use borrow.Author.Tests.{le-leb}
-use Rattle.universal.specs.Emission.{Emission, sent, answer}
+use Rattle.universal.specs.Emission.{Emission, sent, stopped, answer}
 use Rattle.universal.specs.Message.{allLow, message}
 use Rattle.universal.specs.Refusals.{tooSmall, gives, refused}
 use Rattle.universal.proofs.Laws.{answer-fits, answer-short, all-low-cons, all-low-none, opening-with-sub-id2, message-whole}
 use Rattle.labels.specs.St12.{isValid}
 use Rattle.labels.specs.Time.{bitsOf, typeOf, rawTime, hoursByte}
+use Rattle.mtc.specs.Rp004.{InWidths}
 use Rattle.mtc.specs.Rp004Messages.{Groups, yy, hr, fullMessageBytes, userBitsBytes, fourBytes}
 use Rattle.mtc.specs.Kind.{timeCode, isTimeCode, partsOf, dataOf, ReadsOnly}
 use Rattle.mtc.specs.FullMessage.{fullMessage, receivedFull, fullMessageFrom, fullData, fullMessageWritten}
@@ -26,10 +27,9 @@ use Rattle.labels.specs.declared.time.TimeCodeType.{TimeCodeType}
 use Rattle.labels.specs.declared.time.TimeCodeType.the-variants.{Fps24, Fps25, Fps30Drop, Fps30}
 use Rattle.mtc.specs.declared.user_bits.UserBits.{UserBits}
 use Rattle.mtc.proofs.Groups.{eight, nibble-below, data-low}
-use Rattle.labels.proofs.Laws.{fps-small}
 use Rattle.mtc.proofs.Reading.{reads-only}
-use Rattle.labels.proofs.Laws.{InRange, valid-facts}
-use Rattle.mtc.proofs.Writing.{checks-passed}
+use Rattle.mtc.proofs.Widths.{valid-widths}
+use Rattle.mtc.proofs.Writing.{device-stopped, value-stopped, checks-passed}
 
 holds : (b : Bool) → T b → b ≡ true
 holds true h = refl
@@ -65,42 +65,48 @@ type-back Fps25 = refl
 type-back Fps30Drop = refl
 type-back Fps30 = refl
 
-hours-with-type : (t : MtcTime) → InRange t → hoursByte t ≡ hr t
-hours-with-type t k =
-    let hours : t .hours < 32 = omega (arith, k .hours) in
-    rw (type-bits (t .rate), mod-eq-of-lt hours)
+module _ (t : MtcTime) (w : InWidths t) where
+  hours-with-type : hoursByte t ≡ hr t
+  hours-with-type = rw (type-bits (t .rate), mod-eq-of-lt (w .hours))
 
-full-data-low : (t : MtcTime) → InRange t → allLow (fullData t) ≡ true
-full-data-low t k =
-    all-low-cons (hoursByte t) _ (omega (arith, hours-with-type t k, type-small (t .rate), k .hours))
-    (all-low-cons (t .minutes) _ (omega (arith, k .minutes))
-    (all-low-cons (t .seconds) _ (omega (arith, k .seconds))
-    (all-low-cons (t .frames) _ (omega (arith, k .frames, fps-small (t .rate))) all-low-none)))
+  full-data-low : allLow (fullData t) ≡ true
+  full-data-low =
+      all-low-cons (hoursByte t) _ (omega (arith, hours-with-type, type-small (t .rate), w .hours))
+      (all-low-cons (t .minutes) _ (omega (arith, w .minutes))
+      (all-low-cons (t .seconds) _ (omega (arith, w .seconds))
+      (all-low-cons (t .frames) _ (omega (arith, w .frames)) all-low-none)))
 
--- The four bytes of a valid label, read again.
-raw-back : (t : MtcTime) → InRange t → rawTime (hr t) (t .minutes) (t .seconds) (t .frames) ≡ t
-raw-back t k =
-    let type : hr t / 32 ≡ yy (t .rate) = omega (arith, k .hours) in
-    let hours : hr t % 32 ≡ t .hours = omega (arith, k .hours) in
-    let minutes : t .minutes < 64 = omega (arith, k .minutes) in
-    let seconds : t .seconds < 64 = omega (arith, k .seconds) in
-    let frames : t .frames < 32 = omega (arith, k .frames, fps-small (t .rate)) in
-    rw (type, type-back (t .rate), hours, mod-eq-of-lt minutes, mod-eq-of-lt seconds, mod-eq-of-lt frames)
+  -- The four bytes of a label, read again.
+  raw-back : rawTime (hr t) (t .minutes) (t .seconds) (t .frames) ≡ t
+  raw-back =
+      let type : hr t / 32 ≡ yy (t .rate) = omega (arith, w .hours) in
+      let hours : hr t % 32 ≡ t .hours = omega (arith, w .hours) in
+      rw (type, type-back (t .rate), hours, mod-eq-of-lt (w .minutes), mod-eq-of-lt (w .seconds), mod-eq-of-lt (w .frames))
 
-full-bytes-back : (device : ℕ) (t : MtcTime) → InRange t
+-- RP-004/008's full message of any device and any label in its widths, valid or not, is read as these.
+pub full-message-read : (device : ℕ) (t : MtcTime) → InWidths t
     → fullMessageFrom (partsOf (fullMessageBytes device t)) (dataOf (fullMessageBytes device t)) ≡ gives (some (fullMessage device t))
 unfolding fullMessageFrom isTimeCode fullMessageBytes
-full-bytes-back device t k = ap (λ (u : MtcTime). gives (some (fullMessage device u))) (raw-back t k)
+full-message-read device t w = ap (λ (u : MtcTime). gives (some (fullMessage device u))) (raw-back t w)
+
+-- A device above 127 is refused with 5, whatever the label is; a label that is not valid with 3. Nothing goes out.
+pub full-message-device : (m : FullMessage) → 127 < m .«device_id» → fullMessageWritten m ≡ stopped 5
+unfolding fullMessageWritten
+full-message-device m h = device-stopped (m .«device_id») (isValid (m .time)) 1 (fullData (m .time)) h
+
+pub full-message-invalid : (m : FullMessage) → m .«device_id» ≤ 127 → isValid (m .time) ≡ false → fullMessageWritten m ≡ stopped 3
+unfolding fullMessageWritten
+full-message-invalid m h v = value-stopped (m .«device_id») (isValid (m .time)) 1 (fullData (m .time)) h v
 
 module _ (m : FullMessage) (low : m .«device_id» ≤ 127) (valid : T (isValid (m .time))) where
   -- A valid label and a device of at most 127 go out as RP-004/008's full message.
   pub full-message-bytes : fullMessageWritten m ≡ sent (fullMessageBytes (m .«device_id») (m .time))
   unfolding fullMessageWritten fullMessageBytes
   full-message-bytes =
-      let k : InRange (m .time) = valid-facts (m .time) valid in
+      let w : InWidths (m .time) = valid-widths (m .time) valid in
       checks-passed (m .«device_id») (isValid (m .time)) 1 (fullData (m .time)) low (holds (isValid (m .time)) valid)
-      ∙ time-code-bytes (m .«device_id») 1 (fullData (m .time)) low (lit≤ tt) (full-data-low (m .time) k)
-      ∙ rw (hours-with-type (m .time) k)
+      ∙ time-code-bytes (m .«device_id») 1 (fullData (m .time)) low (lit≤ tt) (full-data-low (m .time) w)
+      ∙ rw (hours-with-type (m .time) w)
 
   -- A buffer of 10 bytes or more holds it; a shorter one is refused with 4 and 10.
   pub full-message-fits : (room : ℕ) → 10 ≤ room → answer (fullMessageWritten m) room ≡ gives 10
@@ -113,7 +119,7 @@ module _ (m : FullMessage) (low : m .«device_id» ≤ 127) (valid : T (isValid 
 
   -- Reading what was written gives it back.
   pub full-message-back : fullMessageFrom (partsOf (fullMessageWritten m .bytes)) (dataOf (fullMessageWritten m .bytes)) ≡ gives (some m)
-  full-message-back = rw full-message-bytes (full-bytes-back (m .«device_id») (m .time) (valid-facts (m .time) valid))
+  full-message-back = rw full-message-bytes (full-message-read (m .«device_id») (m .time) (valid-widths (m .time) valid))
 
 -- The split parts of the practice's message: Real Time, 01, 01, and four data bytes.
 pub full-message-layout : (device : ℕ) (t : MtcTime)

@@ -1,18 +1,20 @@
--- Laws of quarter frames: the data bytes of a label are RP-004/008's, and read in either order they give the label back. Each
--- holds of every label whose counts fit their valid-widths, so of every valid one. Assumes nothing.
-use Prim.Native.Nat.{ℕ, _+_, _*_, _/_, _%_, _<_}
+-- Laws of quarter frames: data bytes, the pieces of a label, the sequences that a generator sends and those that a reader reads
+-- are RP-004/008's. What is said of a label holds where its counts fit their widths, so of every valid one. Assumes nothing.
+use Prim.Native.Nat.{ℕ, zero, suc, _+_, _*_, _/_, _%_, _<_}
 use mathlib.Core.Bool.{Bool, true, false, _&&_}
-use mathlib.Core.List.{List, [], _∷_, _++_, map, reverse}
-use mathlib.Core.Path.{_≡_, refl, sym, _∙_, ap, ap₂}
+use mathlib.Core.List.{List, [], _∷_, _++_, map, reverse, append-nil}
+use mathlib.Core.Logic.{inl}
+use mathlib.Core.Path.{_≡_, refl, sym, _∙_, ap, ap₂, subst}
 use native.Mathlib.Omega.{arith}
 use lib.Dec.{T, eqb, eqb→eq}
 use lib.IntN.{pos, negsuc}
-use Rattle.mtc.specs.Generator.{move}
-use Rattle.mtc.specs.QuarterFrame.{pieces}
-use Rattle.mtc.specs.Reader.{fresh, sameTime, reported, orderOf, numberOf, sequenceOf, reportOf, afterPiece}
-use Rattle.mtc.specs.Rp004.{typeCode, InWidths, dataBytes, sequence, MovesTo}
-use Rattle.labels.specs.St12.{isValid, labelAfter}
-use Rattle.mtc.specs.Stream.{runFrom, sent, events, inOrder}
+use Rattle.mtc.specs.Generator.{final, move, sentAt}
+use Rattle.mtc.specs.QuarterFrame.{quarterFrame, fromByte, toByte, pieces}
+use Rattle.mtc.specs.Reader.{fresh, Sound, sameTime, reported, eventOf, afterFullMessage}
+use Rattle.mtc.specs.Ready.{NotAgainst, Starts, anew, next, Ready, afterBytes, Reads}
+use Rattle.mtc.specs.Rp004.{dataByte, typeCode, InWidths, dataBytes, sequence, nextLabel, sequencesFrom, isBoundary, currentTime}
+use Rattle.labels.specs.St12.{isValid, labelAfter, labelBefore}
+use Rattle.mtc.specs.Stream.{runFrom, sent, events, silent, inOrder}
 use Rattle.labels.specs.Time.{addFrames, bitsOf, typeOf}
 use Rattle.labels.specs.declared.time.MtcTime.{MtcTime}
 use Rattle.labels.specs.declared.time.TimeCodeType.{TimeCodeType}
@@ -21,15 +23,42 @@ use Rattle.mtc.specs.declared.generator.Direction.{Direction}
 use Rattle.mtc.specs.declared.generator.Direction.the-variants.{Forward, Reverse}
 use Rattle.mtc.specs.declared.generator.MtcGenerator.{MtcGenerator}
 use Rattle.mtc.specs.declared.reader.MaybeSequence.the-variants.{Sequence}
-use Rattle.mtc.specs.declared.reader.MaybeTime.the-variants.{NoTime}
-use Rattle.mtc.specs.declared.reader.MtcEvent.{MtcEvent}
-use Rattle.mtc.proofs.Nibbles.{Values, numbered, assembled, values, split-pieces, type-of-bits, raw-values}
-use Rattle.labels.proofs.Laws.{moved-by-one}
-use Rattle.labels.proofs.Laws.{moved-valid, moved-by-sum, moved-by-none}
+use Rattle.mtc.specs.declared.reader.MaybeTime.{MaybeTime}
+use Rattle.mtc.specs.declared.reader.MaybeTime.the-variants.{Time}
+use Rattle.mtc.specs.declared.reader.MtcReader.{MtcReader}
+use Rattle.mtc.proofs.Nibbles.{numbered, values, split, split-pieces, type-of-bits, raw-values}
+use Rattle.labels.proofs.Laws.{moved-valid, moved-by-sum, moved-by-one, moved-back-one}
 use Rattle.mtc.proofs.Widths.{valid-widths}
-use Rattle.mtc.proofs.Rounds.{run, silent}
-use Rattle.mtc.proofs.Sending.{later, sends-three}
-use Rattle.mtc.proofs.Streams.{reports-run, fresh-sound}
+use Rattle.mtc.proofs.Rounds.{run, leave, left, round, round-left}
+use Rattle.mtc.proofs.Sending.{later, sends-first, sends-next}
+use Rattle.mtc.proofs.Sound.{as-is, full-sound}
+use Rattle.mtc.proofs.Streams.{reports, reports-run, bytes-sound, bytes-leave, fresh-sound}
+
+-- ---- a data byte
+
+-- A piece and its value go out as RP-004/008's data byte, and come back from it.
+pub byte-written : (n d : ℕ) → n < 8 → d < 16 → toByte (quarterFrame n d) ≡ dataByte n d
+byte-written n d h k =
+    let i : n % 8 ≡ n = omega arith in
+    let j : d % 16 ≡ d = omega arith in
+    ap₂ dataByte i j
+
+pub byte-read : (n d : ℕ) → n < 8 → d < 16 → fromByte (dataByte n d) ≡ quarterFrame n d
+byte-read n d h k =
+    let i : dataByte n d / 16 % 8 ≡ n = omega arith in
+    let j : dataByte n d % 16 ≡ d = omega arith in
+    ap₂ quarterFrame i j
+
+-- Every byte to 7FH is the data byte of what it is read as.
+pub byte-again : (b : ℕ) → b < 128 → dataByte (fromByte b .piece) (fromByte b .value) ≡ b
+byte-again b h = omega arith
+
+-- A byte from 80H on is read as the same byte without bit 7.
+pub high-bit-ignored : (b : ℕ) → fromByte (b + 128) ≡ fromByte b
+high-bit-ignored b =
+    let i : (b + 128) / 16 % 8 ≡ b / 16 % 8 = omega arith in
+    let j : (b + 128) % 16 ≡ b % 16 = omega arith in
+    ap₂ quarterFrame i j
 
 -- ---- the pieces of a label
 
@@ -68,61 +97,105 @@ pieces-practice t w =
     ∷ e7 i
     ∷ []
 
--- ---- put together again
-
-run-fresh : (v : Values) (d : Direction) → run fresh (numbered d v) ≡ silent 7 ++ (Sequence (reported (assembled v) d NoTime) ∷ [])
-unfolding run reportOf afterPiece orderOf numberOf sequenceOf
-run-fresh v Forward = refl
-run-fresh v Reverse = refl
-
--- A fresh reader that gets a label's data bytes in either order reports that label at the eighth.
-pub pieces-read : (t : MtcTime) (d : Direction) → InWidths t
-    → map (λ (e : MtcEvent). e .sequence) (events fresh (inOrder d (pieces t)))
-    ≡ silent 7 ++ (Sequence (reported t d NoTime) ∷ [])
-pieces-read t d w =
-    reports-run (inOrder d (pieces t)) fresh fresh-sound
-    ∙ ap (run fresh) (split-pieces t d)
-    ∙ run-fresh (values t) d
-    ∙ ap (λ (u : MtcTime). silent 7 ++ (Sequence (reported u d NoTime) ∷ [])) (raw-values t w)
-
--- ---- the next sequence
-
--- The generator's and the reader's move of two frames is RP-004/008's.
-pub moves-practice : (t : MtcTime) (d : Direction) → T (isValid t) → MovesTo d t (addFrames t (move d))
-moves-practice t Forward h =
-    sym (moved-by-sum t (pos 1) (pos 1)) ∙ moved-by-one (addFrames t (pos 1)) (moved-valid t (pos 1)) ∙ ap labelAfter (moved-by-one t h)
-moves-practice t Reverse h =
-    sym (moved-by-none t h) ∙ sym (moved-by-sum t (negsuc 1) (pos 2))
-    ∙ sym (moved-by-sum (addFrames t (negsuc 1)) (pos 1) (pos 1))
-    ∙ moved-by-one (addFrames (addFrames t (negsuc 1)) (pos 1)) (moved-valid (addFrames t (negsuc 1)) (pos 1))
-    ∙ ap labelAfter (moved-by-one (addFrames t (negsuc 1)) (moved-valid t (negsuc 1)))
-
 in-practice : (t : MtcTime) (d : Direction) → InWidths t → inOrder d (pieces t) ≡ sequence d t
 in-practice t Forward w = pieces-practice t w
 in-practice t Reverse w = ap reverse (pieces-practice t w)
 
--- Three sequences of RP-004/008 from a label on.
-pub record Sequences (t : MtcTime) (d : Direction) (bytes : List ℕ) : Type 0 where
-  pub second : MtcTime
-  pub third : MtcTime
-  pub moves : MovesTo d t second
-  pub moves-on : MovesTo d second third
-  pub are : bytes ≡ sequence d t ++ (sequence d second ++ sequence d third)
+-- ---- the next sequence
 
--- A generator located at a valid time and set running sends RP-004/008's sequences.
-pub sends-practice : (g : MtcGenerator) (t : MtcTime) (d : Direction) → T (isValid t)
-    → Sequences t d (sent 24 (runFrom g t d))
-sends-practice g t d h =
+-- The generator's and the reader's move of two frames is RP-004/008's.
+pub moves-practice : (t : MtcTime) (d : Direction) → T (isValid t) → addFrames t (move d) ≡ nextLabel d t
+moves-practice t Forward h =
+    sym (moved-by-sum t (pos 1) (pos 1)) ∙ moved-by-one (addFrames t (pos 1)) (moved-valid t (pos 1)) ∙ ap labelAfter (moved-by-one t h)
+moves-practice t Reverse h =
+    sym (moved-by-sum t (negsuc 0) (negsuc 0))
+    ∙ moved-back-one (addFrames t (negsuc 0)) (moved-valid t (negsuc 0))
+    ∙ ap labelBefore (moved-back-one t h)
+
+eight-more : (n : ℕ) → suc n * 8 ≡ suc (suc (suc (suc (suc (suc (suc (suc (n * 8))))))))
+eight-more n = omega arith
+
+-- After a sequence, so many more.
+sends-on : (n : ℕ) (t : MtcTime) (d : Direction) → T (isValid t)
+    → sent (n * 8) (sentAt t d (final d)) ≡ sequencesFrom d (nextLabel d t) n
+unfolding sent sequencesFrom
+sends-on zero t d h = refl
+sends-on (suc n) t d h =
+    let moves : later d t ≡ nextLabel d t = moves-practice t d h in
+    let valid : T (isValid (later d t)) = moved-valid t (move d) in
+    ap (λ (k : ℕ). sent k (sentAt t d (final d))) (eight-more n)
+    ∙ sends-next t d (n * 8)
+    ∙ ap₂ _++_ (in-practice (later d t) d (valid-widths (later d t) valid)) (sends-on n (later d t) d valid)
+    ∙ ap (λ (u : MtcTime). sequence d u ++ sequencesFrom d (nextLabel d u) n) moves
+
+-- A generator located at a valid time and set running sends RP-004/008's sequences from that time on, as many as are asked for.
+pub sends-practice : (g : MtcGenerator) (t : MtcTime) (d : Direction) (n : ℕ) → T (isValid t)
+    → sent (n * 8) (runFrom g t d) ≡ sequencesFrom d t n
+unfolding sent sequencesFrom
+sends-practice g t d zero h = refl
+sends-practice g t d (suc n) h =
+    ap (λ (k : ℕ). sent k (runFrom g t d)) (eight-more n)
+    ∙ sends-first g t d (n * 8)
+    ∙ ap₂ _++_ (in-practice t d (valid-widths t h)) (sends-on n t d h)
+
+-- ---- what a reader says of it
+
+-- Forward the reported current time is RP-004/008's; in reverse it is the label before.
+pub current-forward : (t : MtcTime) (p : MaybeTime) → T (isValid t) → reported t Forward p .current ≡ currentTime t
+current-forward t p h = moves-practice t Forward h
+
+pub current-reverse : (t : MtcTime) (p : MaybeTime) → T (isValid t) → reported t Reverse p .current ≡ labelBefore t
+current-reverse t p h = moved-back-one t h
+
+-- The event of a data byte has its piece.
+pub event-piece : (r : MtcReader) (n d : ℕ) → n < 8 → d < 16 → eventOf r (dataByte n d) .piece ≡ n
+event-piece r n d h k = omega arith
+
+-- Every event has RP-004/008's boundary mark of its piece.
+pub event-boundary : (r : MtcReader) (b : ℕ) → eventOf r b .boundary ≡ isBoundary (eventOf r b .piece)
+event-boundary r b = refl
+
+-- ---- a whole sequence, read
+
+split-sequence : (t : MtcTime) (d : Direction) → InWidths t → map split (sequence d t) ≡ numbered d (values t)
+split-sequence t d w = ap (map split) (sym (in-practice t d w)) ∙ split-pieces t d
+
+module _ (r : MtcReader) (d : Direction) (t : MtcTime) (h : Ready d r) (w : InWidths t) where
+  reports-are : reports (events r (sequence d t)) ≡ silent 7 ++ (Sequence (reported t d (r .previous)) ∷ [])
+  unfolding run
+  reports-are =
+      reports-run (sequence d t) r (h .sound)
+      ∙ ap (run r) (split-sequence t d w ∙ sym (append-nil (numbered d (values t))))
+      ∙ round (values t) r d (h .sound .eight) (h .starts) []
+      ∙ ap (λ (u : MtcTime). silent 7 ++ (Sequence (reported u d (r .previous)) ∷ [])) (raw-values t w)
+
+  leaves : afterBytes r (sequence d t) ≡ left (values t) d
+  leaves =
+      bytes-leave (sequence d t) r (h .sound) ∙ ap (leave r) (split-sequence t d w) ∙ round-left (values t) r d (h .sound .eight) (h .starts)
+
+  -- A reader that is ready for a sequence reads it.
+  pub sequence-read : Reads d t r
+  sequence-read =
+      record {
+        reports = reports-are;
+        ready =
+            record {
+              sound = bytes-sound (sequence d t) r (h .sound);
+              starts = subst (Starts d) (sym leaves) (next refl refl);
+            };
+        previous = ap (λ (x : MtcReader). x .previous) leaves ∙ ap Time (raw-values t w);
+      }
+
+-- A fresh reader is ready for either direction.
+pub fresh-ready : (d : Direction) → Ready d fresh
+fresh-ready d = record { sound = fresh-sound; starts = anew refl (inl refl) }
+
+-- So is a reader that just got a full message, unless it was going the other way.
+pub full-ready : (r : MtcReader) (d : Direction) (t : MtcTime) → Sound r → NotAgainst d (r .direction) → Ready d (afterFullMessage r t)
+full-ready r d t h n =
     record {
-      second = later d t;
-      third = later d (later d t);
-      moves = moves-practice t d h;
-      moves-on = moves-practice (later d t) d (moved-valid t (move d));
-      are =
-          sends-three g t d
-          ∙ ap₂ _++_ (in-practice t d (valid-widths t h))
-          (ap₂ _++_ (in-practice (later d t) d (valid-widths (later d t) (moved-valid t (move d))))
-          (in-practice (later d (later d t)) d (valid-widths (later d (later d t)) (moved-valid (later d t) (move d)))));
+      sound = full-sound r h t;
+      starts = anew refl (subst (λ (x : MtcReader). NotAgainst d (x .direction)) (sym (as-is r h)) n);
     }
 
 -- ---- a discontinuity

@@ -12,7 +12,7 @@ use lib.Dec.{T, leb, eqb, leb→le, le→leb}
 use lib.ListN.{getD, set}
 use Rattle.mtc.specs.Generator.{first, after, move}
 use Rattle.mtc.specs.QuarterFrame.{fromByte}
-use Rattle.mtc.specs.Reader.{nibblesFit, pieceFits, isSound, taken, fresh, Control, control, found, ordered, outOfOrder, orderOf, starts, numberOf, passed, stored, completed, sequenceOf, readerBy, reportBy, eventWith, rawOf, directionOf, reported, sameTime, jumps, afterPiece, reportOf, afterByte, eventOf}
+use Rattle.mtc.specs.Reader.{Standing, nibblesFit, pieceFits, isSound, taken, fresh, Control, control, found, ordered, outOfOrder, orderOf, starts, numberOf, passed, stored, completed, sequenceOf, readerBy, reportBy, eventWith, rawOf, directionOf, reported, sameTime, jumps, afterPiece, reportOf, afterByte, eventOf}
 use Rattle.labels.specs.Time.{addFrames, bitsOf}
 use Rattle.labels.specs.declared.time.MtcTime.{MtcTime}
 use Rattle.mtc.specs.declared.generator.Direction.{Direction}
@@ -27,7 +27,6 @@ use Rattle.mtc.specs.declared.reader.MaybeTime.the-variants.{Time}
 use Rattle.mtc.specs.declared.reader.MtcEvent.{MtcEvent}
 use Rattle.mtc.specs.declared.reader.MtcReader.{MtcReader}
 use Rattle.mtc.specs.declared.reader.MtcSequence.{MtcSequence}
-use Rattle.mtc.specs.declared.reader.Order.{Order}
 
 -- ---- both of two tests
 
@@ -193,7 +192,7 @@ module _ (r : Control) (p : ℕ) where
 
 -- ---- a piece's number
 
-module _ (r : Control) (o : Order) (p : ℕ) {h : ℕ} (eh : h ≡ cond (o .next) (r .count) 0) where
+module _ (r : Control) (o : Standing) (p : ℕ) {h : ℕ} (eh : h ≡ cond (o .next) (r .count) 0) where
   pub number-next : 0 < h → h + 1 ≡ numberOf r o p
   unfolding numberOf
   number-next l = rw (← eh, ne-eqb h 0 (λ e. omega arith))
@@ -215,7 +214,7 @@ module _ (q : QuarterFrame) (b : ℕ) (e : q ≡ fromByte b) where
   pub value-small : q .value ≤ 15
   value-small = rw e (omega arith)
 
-module _ (r₀ : MtcReader) (b : ℕ) {r : MtcReader} {q : QuarterFrame} {o : Order} {n : ℕ}
+module _ (r₀ : MtcReader) (b : ℕ) {r : MtcReader} {q : QuarterFrame} {o : Standing} {n : ℕ}
     (er : r ≡ taken r₀) (eq : q ≡ fromByte b) (eo : o ≡ orderOf (control r) (q .piece)) (en : n ≡ numberOf (control r) o (q .piece)) where
   after-byte : readerBy r o n (q .piece) (q .value) ≡ afterByte r₀ b
   unfolding afterPiece

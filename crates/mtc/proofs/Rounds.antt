@@ -1,22 +1,27 @@
 -- The reader on whole sequences: what the bytes of one report, and the reader that they leave. Assumes nothing.
 use Prim.Native.Nat.{ℕ}
-use mathlib.Core.Bool.{true, false}
+use mathlib.Core.Bool.{Bool, true, false, cond}
 use mathlib.Core.List.{List, [], _∷_, _++_}
 use mathlib.Core.Logic.{_⊎_, inl, inr}
-use mathlib.Core.Path.{_≡_, refl, sym, _∙_, ap, subst}
+use mathlib.Core.Path.{_≡_, refl, sym, _∙_, ap, ap₂, subst}
 use native.Mathlib.Omega.{arith}
-use lib.ListN.{length, set, replicate}
-use Rattle.mtc.specs.Generator.{first, final}
-use Rattle.mtc.specs.Reader.{offset, reported, orderOf, numberOf, sequenceOf, afterPiece, reportOf}
+use borrow.Author.Tests.{eqb-false, ne-eqb}
+use lib.Dec.{eqb}
+use lib.ListN.{length, set}
+use Rattle.mtc.specs.Generator.{first, after, final}
+use Rattle.mtc.specs.Reader.{Control, control, found, offset, reported, orderOf, numberOf, sequenceOf, readerBy, reportBy, afterPiece, reportOf}
+use Rattle.mtc.specs.Ready.{NotAgainst, Starts, anew, next, again}
+use Rattle.mtc.specs.Stream.{silent}
 use Rattle.labels.specs.Time.{addFrames}
 use Rattle.mtc.specs.declared.generator.Direction.{Direction}
 use Rattle.mtc.specs.declared.generator.Direction.the-variants.{Forward, Reverse}
 use Rattle.mtc.specs.declared.generator.MaybePiece.{MaybePiece}
-use Rattle.mtc.specs.declared.generator.MaybePiece.the-variants.{Piece}
+use Rattle.mtc.specs.declared.generator.MaybePiece.the-variants.{NoPiece, Piece}
 use Rattle.mtc.specs.declared.reader.MaybeDirection.{MaybeDirection}
 use Rattle.mtc.specs.declared.reader.MaybeDirection.the-variants.{NoDirection, Going}
 use Rattle.mtc.specs.declared.reader.MaybeSequence.{MaybeSequence}
 use Rattle.mtc.specs.declared.reader.MaybeSequence.the-variants.{NoSequence, Sequence}
+use Rattle.mtc.specs.declared.reader.MaybeTime.{MaybeTime}
 use Rattle.mtc.specs.declared.reader.MaybeTime.the-variants.{Time}
 use Rattle.mtc.specs.declared.reader.MtcReader.{MtcReader}
 use Rattle.mtc.proofs.Nibbles.{Nibble, Values, opening, seven, numbered, listed, assembled}
@@ -27,8 +32,10 @@ unfoldable pub run : MtcReader → List Nibble → List MaybeSequence
 run r [] = []
 run r (q ∷ qs) = reportOf r (q .piece) (q .value) ∷ run (afterPiece r (q .piece) (q .value)) qs
 
-abbrev pub silent : ℕ → List MaybeSequence
-silent n = replicate n NoSequence
+-- The reader that they leave.
+unfoldable pub leave : MtcReader → List Nibble → MtcReader
+leave r [] = r
+leave r (q ∷ qs) = leave (afterPiece r (q .piece) (q .value)) qs
 
 -- ---- readers with known parts
 
@@ -63,14 +70,97 @@ with r n c f l d =
       time = r .time;
     }
 
--- ---- a sequence after the direction's last piece
+-- ---- the first piece of a sequence
 
--- Ready for a sequence: nothing held, the last piece was the direction's last.
-pub record Ready (d : Direction) (r : MtcReader) : Type 0 where
-  pub nibbles : length (r .nibbles) ≡ 8
-  pub count : r .count ≡ 0
-  pub last : r .last ≡ Piece (final d)
-  pub direction : r .direction ≡ Going d
+-- It is number 1, and leaves its direction or none.
+Opens : Direction → Control → Type 0
+Opens d c = (numberOf c (orderOf c (first d)) (first d) ≡ 1) × NotAgainst d (orderOf c (first d) .direction)
+
+abbrev parts : ℕ → ℕ → MaybePiece → MaybeDirection → Control
+parts c f l m = record { count = c; first = f; last = l; direction = m }
+
+opens-anew : (d : Direction) (c f : ℕ) (m : MaybeDirection) → NotAgainst d m → Opens d (parts c f NoPiece m)
+unfolding Opens orderOf numberOf
+opens-anew Forward c f m (inl e) = subst (λ (x : MaybeDirection). Opens Forward (parts c f NoPiece x)) (sym e) (refl, inl refl)
+opens-anew Forward c f m (inr e) = subst (λ (x : MaybeDirection). Opens Forward (parts c f NoPiece x)) (sym e) (refl, inr refl)
+opens-anew Reverse c f m (inl e) = subst (λ (x : MaybeDirection). Opens Reverse (parts c f NoPiece x)) (sym e) (refl, inl refl)
+opens-anew Reverse c f m (inr e) = subst (λ (x : MaybeDirection). Opens Reverse (parts c f NoPiece x)) (sym e) (refl, inr refl)
+
+opens-next : (d : Direction) (f : ℕ) (m : MaybeDirection) → Opens d (parts 0 f (Piece (final d)) m)
+unfolding Opens orderOf numberOf
+opens-next Forward f NoDirection = (refl, inr refl)
+opens-next Forward f (Going Forward) = (refl, inr refl)
+opens-next Forward f (Going Reverse) = (refl, inr refl)
+opens-next Reverse f NoDirection = (refl, inr refl)
+opens-next Reverse f (Going Forward) = (refl, inr refl)
+opens-next Reverse f (Going Reverse) = (refl, inr refl)
+
+-- A piece that is beside another in neither direction does not come after it.
+beside : (d : Direction) (l p : ℕ) → found l p ≡ NoDirection → after d l ≡ p → ⊥
+beside d l p = go (eqb (after Forward l) p) (eqb (after Reverse l) p) refl refl d
+  where
+    go : (x y : Bool) → eqb (after Forward l) p ≡ x → eqb (after Reverse l) p ≡ y → (e : Direction)
+        → cond x (Going Forward) (cond y (Going Reverse) NoDirection) ≡ NoDirection → after e l ≡ p → ⊥
+    go true y ex ey e h = let z : _≡_ {A = ℕ} 0 1 = cc in absurd (omega arith)
+    go false true ex ey e h = let z : _≡_ {A = ℕ} 0 1 = cc in absurd (omega arith)
+    go false false ex ey Forward h = eqb-false (after Forward l) p ex
+    go false false ex ey Reverse h = eqb-false (after Reverse l) p ey
+
+opens-again : (d : Direction) (c f l : ℕ) (m : MaybeDirection) → found l (first d) ≡ NoDirection → NotAgainst d m
+    → Opens d (parts c f (Piece l) m)
+unfolding Opens orderOf numberOf
+opens-again d c f l m e q = go d m q (not-after Forward) (not-after Reverse)
+  where
+    not-after : (x : Direction) → eqb (after x l) (first d) ≡ false
+    not-after x = ne-eqb (after x l) (first d) (beside x l (first d) e)
+
+    go : (x : Direction) (m : MaybeDirection) → NotAgainst x m → eqb (after Forward l) (first x) ≡ false
+        → eqb (after Reverse l) (first x) ≡ false → Opens x (parts c f (Piece l) m)
+    go Forward m (inl q) i j = subst (λ (y : MaybeDirection). Opens Forward (parts c f (Piece l) y)) (sym q) (rw (i, j) (refl, inl refl))
+    go Forward m (inr q) i j = subst (λ (y : MaybeDirection). Opens Forward (parts c f (Piece l) y)) (sym q) (rw (i, j) (refl, inr refl))
+    go Reverse m (inl q) i j = subst (λ (y : MaybeDirection). Opens Reverse (parts c f (Piece l) y)) (sym q) (rw (i, j) (refl, inl refl))
+    go Reverse m (inr q) i j = subst (λ (y : MaybeDirection). Opens Reverse (parts c f (Piece l) y)) (sym q) (rw (i, j) (refl, inr refl))
+
+opens : (d : Direction) (r : MtcReader) → Starts d r → Opens d (control r)
+opens d r (anew el q) =
+    subst (Opens d) (sym (λ i. parts (r .count) (r .first) (el i) (r .direction))) (opens-anew d (r .count) (r .first) (r .direction) q)
+opens d r (next el ec) =
+    subst (Opens d) (sym (λ i. parts (ec i) (r .first) (el i) (r .direction))) (opens-next d (r .first) (r .direction))
+opens d r (again l el e q) =
+    subst (Opens d) (sym (λ i. parts (r .count) (r .first) (el i) (r .direction)))
+    (opens-again d (r .count) (r .first) l (r .direction) e q)
+
+-- What it leaves: one piece held, and nothing reported.
+record Opened (d : Direction) (r : MtcReader) (v : ℕ) (s : MtcReader) (q : MaybeSequence) : Type 0 where
+  way : MaybeDirection
+  not-against : NotAgainst d way
+  nibbles : s .nibbles ≡ set (r .nibbles) (first d) v
+  count : s .count ≡ 1
+  first-is : s .first ≡ first d
+  last : s .last ≡ Piece (first d)
+  direction : s .direction ≡ way
+  previous : s .previous ≡ r .previous
+  report : q ≡ NoSequence
+
+opened : (d : Direction) (r : MtcReader) (v : ℕ) → Starts d r → Opened d r v (afterPiece r (first d) v) (reportOf r (first d) v)
+unfolding Opens afterPiece reportOf
+opened d r v h =
+    let o = orderOf (control r) (first d) in
+    let k = opens d r h in
+    subst (λ (n : ℕ). Opened d r v (readerBy r o n (first d) v) (reportBy r o n (first d) v)) (sym (k .0))
+    (record {
+      way = o .direction;
+      not-against = k .1;
+      nibbles = refl;
+      count = refl;
+      first-is = refl;
+      last = refl;
+      direction = refl;
+      previous = refl;
+      report = refl;
+    })
+
+-- ---- the other seven
 
 module _ (v : Values) where
   -- The reader that a whole sequence of the values leaves.
@@ -88,57 +178,75 @@ module _ (v : Values) where
         time = Time (addFrames (assembled v) (offset d));
       }
 
-  pub left-ready : (d : Direction) → Ready d (left d)
-  left-ready d = record { nibbles = refl; count = refl; last = refl; direction = refl }
-
-  round-at : (r : MtcReader) (d : Direction) (n : List ℕ) → Eight n → (f : ℕ) (rest : List Nibble)
-      → run (with r n 0 f (Piece (final d)) (Going d)) (numbered d v ++ rest)
-      ≡ silent 7 ++ (Sequence (reported (assembled v) d (r .previous)) ∷ run (left d) rest)
-  unfolding run reportOf afterPiece orderOf numberOf sequenceOf
-  round-at r Forward n (eight a b c d e f g h) k rest = refl
-  round-at r Reverse n (eight a b c d e f g h) k rest = refl
-
-  pub round : (r : MtcReader) (d : Direction) → Ready d r → (rest : List Nibble)
-      → run r (numbered d v ++ rest)
-      ≡ silent 7 ++ (Sequence (reported (assembled v) d (r .previous)) ∷ run (left d) rest)
-  round r d h rest =
-      ap (λ (s : MtcReader). run s (numbered d v ++ rest)) (known r h)
-      ∙ round-at r d (r .nibbles) (eight-of (r .nibbles) (h .nibbles)) (r .first) rest
-    where
-      known : (s : MtcReader) → Ready d s → s ≡ with s (s .nibbles) 0 (s .first) (Piece (final d)) (Going d)
-      known s k = λ i. with s (s .nibbles) (k .count i) (s .first) (k .last i) (k .direction i)
-
--- ---- the first sequence of a stream
-
-module _ (v : Values) where
   pub run-first : (r : MtcReader) (d : Direction) (rest : List Nibble) → run r (numbered d v ++ rest)
       ≡ reportOf r (first d) (opening d v) ∷ run (afterPiece r (first d) (opening d v)) (seven d v ++ rest)
   unfolding run
   run-first r d rest = refl
 
-  -- What the other seven report, and the reader that they leave.
-  pub record Eighth (d : Direction) (s : MtcReader) : Type 0 where
-    pub report : MaybeSequence
-    pub is : (report ≡ NoSequence) ⊎ (report ≡ Sequence (reported (assembled v) d (s .previous)))
-    pub next : MtcReader
-    pub ready : Ready d next
-    pub runs : (rest : List Nibble) → run s (seven d v ++ rest) ≡ silent 6 ++ (report ∷ run next rest)
+  -- A reader that holds the first piece.
+  abbrev holding : MtcReader → Direction → List ℕ → MaybeDirection → MtcReader
+  holding s d n m = with s (set n (first d) (opening d v)) 1 (first d) (Piece (first d)) m
 
   -- Whether or not the direction is known, the other seven complete the sequence.
   Completes : MtcReader → Direction → List ℕ → List Nibble → MaybeDirection → Type 0
   Completes s d n rest m =
-      run (with s (set n (first d) (opening d v)) 1 (first d) (Piece (first d)) m) (seven d v ++ rest)
+      (run (holding s d n m) (seven d v ++ rest)
       ≡ silent 6
       ++ (Sequence (reported (assembled v) d (s .previous))
-      ∷ run (left v d) rest)
+      ∷ run (left d) rest))
+      × (leave (holding s d n m) (seven d v) ≡ left d)
 
   held-at : (s : MtcReader) (d : Direction) (n : List ℕ) → Eight n → (rest : List Nibble) (m : MaybeDirection)
-      → (m ≡ NoDirection) ⊎ (m ≡ Going d) → Completes s d n rest m
-  unfolding Completes run reportOf afterPiece orderOf numberOf sequenceOf
-  held-at s Forward n (eight a b c d e f g h) rest m (inl q) = subst (Completes s Forward n rest) (sym q) refl
-  held-at s Forward n (eight a b c d e f g h) rest m (inr q) = subst (Completes s Forward n rest) (sym q) refl
-  held-at s Reverse n (eight a b c d e f g h) rest m (inl q) = subst (Completes s Reverse n rest) (sym q) refl
-  held-at s Reverse n (eight a b c d e f g h) rest m (inr q) = subst (Completes s Reverse n rest) (sym q) refl
+      → NotAgainst d m → Completes s d n rest m
+  unfolding Completes run leave reportOf afterPiece orderOf numberOf sequenceOf
+  held-at s Forward n (eight a b c d e f g h) rest m (inl q) = subst (Completes s Forward n rest) (sym q) (refl, refl)
+  held-at s Forward n (eight a b c d e f g h) rest m (inr q) = subst (Completes s Forward n rest) (sym q) (refl, refl)
+  held-at s Reverse n (eight a b c d e f g h) rest m (inl q) = subst (Completes s Reverse n rest) (sym q) (refl, refl)
+  held-at s Reverse n (eight a b c d e f g h) rest m (inr q) = subst (Completes s Reverse n rest) (sym q) (refl, refl)
+
+  -- ---- a whole sequence
+
+  module _ (r : MtcReader) (d : Direction) (eights : length (r .nibbles) ≡ 8) (starts : Starts d r) where
+    abbrev second : MtcReader
+    second = afterPiece r (first d) (opening d v)
+
+    abbrev begun : Opened d r (opening d v) second (reportOf r (first d) (opening d v))
+    begun = opened d r (opening d v) starts
+
+    is-holding : second ≡ holding second d (r .nibbles) (begun .way)
+    is-holding =
+        λ i. with second (begun .nibbles i) (begun .count i) (begun .first-is i) (begun .last i) (begun .direction i)
+
+    completes : (rest : List Nibble) → Completes second d (r .nibbles) rest (begun .way)
+    completes rest = held-at second d (r .nibbles) (eight-of (r .nibbles) eights) rest (begun .way) (begun .not-against)
+
+    -- The eighth piece reports, and no other.
+    pub round : (rest : List Nibble)
+        → run r (numbered d v ++ rest)
+        ≡ silent 7 ++ (Sequence (reported (assembled v) d (r .previous)) ∷ run (left d) rest)
+    unfolding Completes
+    round rest =
+        run-first r d rest
+        ∙ ap₂ _∷_ (begun .report)
+        (ap (λ (x : MtcReader). run x (seven d v ++ rest)) is-holding ∙ completes rest .0
+        ∙ ap (λ (p : MaybeTime). silent 6 ++ (Sequence (reported (assembled v) d p) ∷ run (left d) rest)) (begun .previous))
+
+    -- The reader that they leave.
+    pub round-left : leave r (numbered d v) ≡ left d
+    unfolding Completes leave
+    round-left = ap (λ (x : MtcReader). leave x (seven d v)) is-holding ∙ completes [] .1
+
+-- ---- the first sequence of a stream
+
+module _ (v : Values) where
+  -- What the seven after the first piece report, and the reader that they leave.
+  pub record Eighth (d : Direction) (s : MtcReader) : Type 0 where
+    pub report : MaybeSequence
+    pub is : (report ≡ NoSequence) ⊎ (report ≡ Sequence (reported (assembled v) d (s .previous)))
+    pub next : MtcReader
+    pub eights : length (next .nibbles) ≡ 8
+    pub starts : Starts d next
+    pub runs : (rest : List Nibble) → run s (seven d v ++ rest) ≡ silent 6 ++ (report ∷ run next rest)
 
   -- The reader that turns round at the second byte, and holds nothing up to the eighth.
   abbrev turned : MtcReader → Direction → MtcReader
@@ -170,18 +278,20 @@ module _ (v : Values) where
         report = Sequence (reported (assembled v) d (s .previous));
         is = inr refl;
         next = left v d;
-        ready = left-ready v d;
+        eights = refl;
+        starts = next refl refl;
         runs =
             λ rest.
             ap (λ (x : MtcReader). run x (seven d v ++ rest)) (λ i. with s (en i) (ec i) (ef i) (el i) (ed i))
-            ∙ held-at s d n (eight-of n len) rest m q;
+            ∙ held-at v s d n (eight-of n len) rest m q .0;
       }
   eighth s d n _ len (turning ec el ed) =
       record {
         report = NoSequence;
         is = inl refl;
         next = turned s d;
-        ready = record { nibbles = len; count = refl; last = refl; direction = refl };
+        eights = len;
+        starts = next refl refl;
         runs =
             λ rest.
             ap (λ (x : MtcReader). run x (seven d v ++ rest)) (λ i. with s (s .nibbles) (ec i) (s .first) (el i) (ed i))

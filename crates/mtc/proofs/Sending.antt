@@ -1,9 +1,9 @@
--- What a located, running generator sends, whatever its record was: the pieces of its time and of the two after it. Assumes
--- nothing.
-use Prim.Native.Nat.{ℕ}
-use mathlib.Core.List.{List, _++_}
-use mathlib.Core.Path.{_≡_, refl, _∙_}
-use Rattle.mtc.specs.Generator.{move, nextByte, afterNextByte}
+-- What a located, running generator sends, whatever its record was: the pieces of its time, and then of the times two frames on,
+-- sequence by sequence. Assumes nothing.
+use Prim.Native.Nat.{ℕ, suc}
+use mathlib.Core.List.{List, _++_, append-nil}
+use mathlib.Core.Path.{_≡_, refl, _∙_, ap}
+use Rattle.mtc.specs.Generator.{final, move, sentAt, nextByte, afterNextByte}
 use Rattle.mtc.specs.QuarterFrame.{pieces}
 use Rattle.mtc.specs.Stream.{runFrom, sent, inOrder, SentLaw}
 use Rattle.labels.specs.Time.{addFrames}
@@ -21,11 +21,29 @@ later d t = addFrames t (move d)
 abbrev pub sequence : Direction → MtcTime → List ℕ
 sequence d t = inOrder d (pieces t)
 
+-- The first eight bytes of a located, running generator are its time's sequence.
+pub sends-first : (g : MtcGenerator) (t : MtcTime) (d : Direction) (k : ℕ)
+    → sent (suc (suc (suc (suc (suc (suc (suc (suc k)))))))) (runFrom g t d) ≡ sequence d t ++ sent k (sentAt t d (final d))
+unfolding sent nextByte afterNextByte pieces
+sends-first g t Forward k = refl
+sends-first g t Reverse k = refl
+
+-- The eight bytes after a sequence are the sequence two frames on.
+pub sends-next : (t : MtcTime) (d : Direction) (k : ℕ)
+    → sent (suc (suc (suc (suc (suc (suc (suc (suc k)))))))) (sentAt t d (final d))
+    ≡ sequence d (later d t) ++ sent k (sentAt (later d t) d (final d))
+unfolding sent nextByte afterNextByte pieces
+sends-next t Forward k = refl
+sends-next t Reverse k = refl
+
 pub sends-three : (g : MtcGenerator) (t : MtcTime) (d : Direction)
     → sent 24 (runFrom g t d) ≡ sequence d t ++ (sequence d (later d t) ++ sequence d (later d (later d t)))
-unfolding sent nextByte afterNextByte pieces
-sends-three g t Forward = refl
-sends-three g t Reverse = refl
+unfolding sent
+sends-three g t d =
+    sends-first g t d 16
+    ∙ ap (λ (l : List ℕ). sequence d t ++ l)
+    (sends-next t d 8
+    ∙ ap (λ (l : List ℕ). sequence d (later d t) ++ l) (sends-next (later d t) d 0 ∙ append-nil (sequence d (later d (later d t)))))
 
 pub sent-law : SentLaw
 sent-law g t Forward = sends-three g t Forward ∙ rw (moved-by-sum t (move Forward) (move Forward))

@@ -13,7 +13,7 @@ use lib.Dec.{T, eqb, ltb, eqb→eq}
 use lib.ListN.{take, set}
 use Rattle.mtc.specs.Generator.{first, after}
 use Rattle.mtc.specs.QuarterFrame.{pieceOf}
-use Rattle.mtc.specs.Reader.{control, found, outOfOrder, orderOf, starts, numberAfter, numberOf, stored, readerBy, reportBy, afterPiece, reportOf}
+use Rattle.mtc.specs.Reader.{Standing, control, found, outOfOrder, orderOf, starts, numberAfter, numberOf, stored, readerBy, reportBy, afterPiece, reportOf}
 use Rattle.mtc.specs.declared.generator.Direction.{Direction}
 use Rattle.mtc.specs.declared.generator.Direction.the-variants.{Forward, Reverse}
 use Rattle.mtc.specs.declared.generator.MaybePiece.the-variants.{Piece}
@@ -22,7 +22,6 @@ use Rattle.mtc.specs.declared.reader.MaybeDirection.the-variants.{NoDire
 use Rattle.mtc.specs.declared.reader.MaybeSequence.{MaybeSequence}
 use Rattle.mtc.specs.declared.reader.MaybeSequence.the-variants.{NoSequence}
 use Rattle.mtc.specs.declared.reader.MtcReader.{MtcReader}
-use Rattle.mtc.specs.declared.reader.Order.{Order}
 use Rattle.mtc.proofs.Readers.{at-most, both-r, order-second, order-next, order-turned}
 
 -- ---- directions
@@ -115,7 +114,7 @@ module _ (bs : List ℕ) (r : MtcReader) (p : ℕ) where
       let x = found (first d) p in
       let q : outOfOrder (control r) NoDirection x ≡ orderOf (control r) p =
       ap (λ (m : MaybeDirection). outOfOrder (control r) m x) (sym n) ∙ order-second (control r) p l refl n in
-      let s = second-next r x (ap (λ (o : Order). o .next) q ∙ e) in
+      let s = second-next r x (ap (λ (o : Standing). o .next) q ∙ e) in
       let same : s .0 ≡ d = same-first (s .0) d (sym (s .2) ∙ f) in
       record {
         way = d;
@@ -123,7 +122,7 @@ module _ (bs : List ℕ) (r : MtcReader) (p : ℕ) where
         few = omega arith;
         count = c;
         direction =
-            sym (ap (λ (o : Order). o .direction) q)
+            sym (ap (λ (o : Standing). o .direction) q)
             ∙ ap (λ (m : MaybeDirection). outOfOrder (control r) NoDirection m .direction) (s .1)
             ∙ ap Going same;
         piece =
@@ -142,14 +141,14 @@ module _ (bs : List ℕ) (r : MtcReader) (p : ℕ) where
             number = k;
             few = s;
             count = c;
-            direction = sym (ap (λ (o : Order). o .direction) (order-next (control r) p l n (eqb-true _ p i)));
+            direction = sym (ap (λ (o : Standing). o .direction) (order-next (control r) p l n (eqb-true _ p i)));
             piece = sym (eqb-true _ p i) ∙ piece-after d k s;
             before = h;
           }
       go false i =
           never
           (sym (turned-next r d (found (pieceAt d k) p))
-          ∙ ap (λ (o : Order). o .next) (order-turned (control r) p l refl n (eqb-false _ p i))
+          ∙ ap (λ (o : Standing). o .next) (order-turned (control r) p l refl n (eqb-false _ p i))
           ∙ e)
 
   follows : Shape bs r → (r .count ≡ 0 → ⊥) → orderOf (control r) p .next ≡ true → Follows bs r p
@@ -172,7 +171,7 @@ number true zero true = opens refl refl
 number true zero false = none refl refl
 number true (suc c) b = goes-on refl (λ e. omega arith) (rw (ne-eqb (suc c) 0 (λ e. omega arith)))
 
-kept : (r : MtcReader) (o : Order) (n p v : ℕ) → (n ≡ 0 → ⊥) → (n ≡ 8 → ⊥) → readerBy r o n p v ≡ stored r o n p v
+kept : (r : MtcReader) (o : Standing) (n p v : ℕ) → (n ≡ 0 → ⊥) → (n ≡ 8 → ⊥) → readerBy r o n p v ≡ stored r o n p v
 kept r o n p v y z = rw (ne-eqb n 0 y, ne-eqb n 8 z)
 
 -- ---- every call keeps the shape
@@ -201,7 +200,7 @@ module _ (bs : List ℕ) (b : ℕ) (s : MtcReader) where
       going d 0 (omega arith) c (l ∙ ap Piece i) n (ap (λ (x : ℕ). x ∷ []) i)
 
 module _ (bs : List ℕ) (r : MtcReader) (h : Shape bs r) (b v : ℕ) where
-  o : Order
+  o : Standing
   o = orderOf (control r) (pieceOf b)
 
   -- The reader by a piece's number.
@@ -262,7 +261,7 @@ last-piece Reverse Forward k l h = (refl, omega arith)
 last-piece Reverse Reverse k l h = absurd (omega arith)
 
 module _ (bs : List ℕ) (r : MtcReader) (h : Shape bs r) (d : Direction) (v : ℕ) where
-  x : Order
+  x : Standing
   x = orderOf (control r) (first d)
 
   First : ℕ → Type 0

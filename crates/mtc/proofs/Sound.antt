@@ -6,16 +6,10 @@ use native.Mathlib.Omega.{arith}
 use lib.Dec.{T, eqb, le→leb}
 use lib.ListN.{length, length-set}
 use Rattle.mtc.specs.QuarterFrame.{pieceOf, valueOf}
-use Rattle.mtc.specs.Reader.{isSound, taken, control, orderOf, numberOf, passed, stored, completed, informed, afterPiece, reportOf, afterByte, eventOf, afterFullMessage}
+use Rattle.mtc.specs.Reader.{Standing, isSound, Sound, taken, control, orderOf, numberOf, passed, stored, completed, informed, afterPiece, reportOf, afterByte, eventOf, afterFullMessage}
 use Rattle.labels.specs.declared.time.MtcTime.{MtcTime}
 use Rattle.mtc.specs.declared.reader.MtcReader.{MtcReader}
-use Rattle.mtc.specs.declared.reader.Order.{Order}
 use Rattle.mtc.proofs.Readers.{fit-set, sound, sound-first, sound-nibbles, taken-sound}
-
--- A sound record with eight nibbles.
-pub record Sound (r : MtcReader) : Type 0 where
-  pub within : T (isSound r)
-  pub eight : length (r .nibbles) ≡ 8
 
 -- Of two things, whichever a test picks.
 picked : {A : Type 0} (P : A → Type 0) (b : Bool) {x y : A} → P x → P y → P (cond b x y)
@@ -27,14 +21,14 @@ is-true true h = refl
 is-true false h = absurd h
 
 module _ (r : MtcReader) (h : Sound r) where
-  passed-sound : (o : Order) (p : ℕ) → p ≤ 7 → Sound (passed r o p)
+  passed-sound : (o : Standing) (p : ℕ) → p ≤ 7 → Sound (passed r o p)
   passed-sound o p e =
       record {
         within = sound (passed r o p) (omega arith) (sound-first r (h .within)) (le→leb p 7 e) (sound-nibbles r (h .within));
         eight = h .eight;
       }
 
-  stored-sound : (o : Order) (n p v : ℕ) → p ≤ 7 → v ≤ 15 → Sound (stored r o n p v)
+  stored-sound : (o : Standing) (n p v : ℕ) → p ≤ 7 → v ≤ 15 → Sound (stored r o n p v)
   stored-sound o n p v e f =
       record {
         within =

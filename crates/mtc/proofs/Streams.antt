@@ -10,10 +10,11 @@ use lib.Dec.{T}
 use lib.ListN.{length, take, set, getD}
 use Rattle.mtc.specs.Generator.{first, move}
 use Rattle.mtc.specs.QuarterFrame.{pieceOf, pieces}
-use Rattle.mtc.specs.Reader.{fresh, isSound, nibblesFit, offset, sameTime, jumps, reported, reportOf, afterPiece, afterByte, afterFullMessage}
+use Rattle.mtc.specs.Reader.{Sound, fresh, isSound, nibblesFit, offset, sameTime, jumps, reported, reportOf, afterPiece, afterByte, afterFullMessage}
+use Rattle.mtc.specs.Ready.{next, afterBytes}
 use Rattle.mtc.specs.Rp004.{InWidths}
 use Rattle.labels.specs.St12.{isValid}
-use Rattle.mtc.specs.Stream.{Call, byte, full, runFrom, sent, afterCalls, events, newest, lastSeven, report, frames, shifted, reporting, sevenBefore, StreamLaw}
+use Rattle.mtc.specs.Stream.{Call, byte, full, runFrom, sent, afterCalls, events, silent, newest, lastSeven, report, frames, shifted, reporting, sevenBefore, StreamLaw}
 use Rattle.labels.specs.Time.{addFrames, bitsOf}
 use Rattle.labels.specs.declared.time.MtcTime.{MtcTime}
 use Rattle.mtc.specs.declared.generator.Direction.{Direction}
@@ -28,10 +29,10 @@ use Rattle.mtc.specs.declared.reader.MtcReader.{MtcReader}
 use Rattle.labels.proofs.Laws.{moved-valid, moved-by-sum}
 use Rattle.mtc.proofs.Widths.{valid-widths}
 use Rattle.mtc.proofs.Nibbles.{opening, numbered, assembled, values, split, split-pieces, raw-values}
-use Rattle.mtc.proofs.Rounds.{run, silent, left, left-ready, round, run-first, Eighth, eighth}
+use Rattle.mtc.proofs.Rounds.{run, leave, left, round, run-first, Eighth, eighth}
 use Rattle.mtc.proofs.Sending.{later, sequence, sends-three}
 use Rattle.mtc.proofs.Shapes.{opposite, history, Shape, idle, piece-shape, Begun, Quiet, first-byte}
-use Rattle.mtc.proofs.Sound.{Sound, by-piece, report-by-piece, byte-sound, full-sound, same-length}
+use Rattle.mtc.proofs.Sound.{by-piece, report-by-piece, byte-sound, full-sound, same-length}
 
 -- ---- lists
 
@@ -107,6 +108,18 @@ reports-run (b ∷ bs) r h =
     ap₂ _∷_ (report-by-piece r h b)
     (reports-run bs (afterByte r b) (byte-sound r h b) ∙ ap (λ (s : MtcReader). run s (map split bs)) (by-piece r h b))
 
+-- The reader that bytes leave: it is sound, and the one that their pieces leave.
+pub bytes-sound : (bs : List ℕ) (r : MtcReader) → Sound r → Sound (afterBytes r bs)
+unfolding afterCalls
+bytes-sound [] r h = h
+bytes-sound (b ∷ bs) r h = bytes-sound bs (afterByte r b) (byte-sound r h b)
+
+pub bytes-leave : (bs : List ℕ) (r : MtcReader) → Sound r → afterBytes r bs ≡ leave r (map split bs)
+unfolding afterCalls leave
+bytes-leave [] r h = refl
+bytes-leave (b ∷ bs) r h =
+    bytes-leave bs (afterByte r b) (byte-sound r h b) ∙ ap (λ (s : MtcReader). leave s (map split bs)) (by-piece r h b)
+
 length-events : (bs : List ℕ) (r : MtcReader) → length (events r bs) ≡ length bs
 unfolding events
 length-events [] r = refl
@@ -154,9 +167,9 @@ module _ (a b c : MtcTime) (d : Direction) (bs : List ℕ) (r : MtcReader) (h : 
       ∙ ap (λ (l : List MaybeSequence). report1 ∷ l)
       (after-eight .runs (numbered d (values b) ++ (numbered d (values c) ++ []))
       ∙ ap (λ (l : List MaybeSequence). silent 6 ++ (after-eight .report ∷ l))
-      (round (values b) (after-eight .next) d (after-eight .ready) (numbered d (values c) ++ [])
+      (round (values b) (after-eight .next) d (after-eight .eights) (after-eight .starts) (numbered d (values c) ++ [])
       ∙ ap (λ (l : List MaybeSequence). silent 7 ++ (report16 ∷ l))
-      (round (values c) (left (values b) d) d (left-ready (values b) d) [])))
+      (round (values c) (left (values b) d) d refl (next refl refl) [])))
 
 -- ---- times from T
 

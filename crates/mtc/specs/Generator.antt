@@ -1,6 +1,7 @@
 -- What 000's generator does, on every record: one definition for each public call of src/generator.rt. Assumes nothing.
 use Prim.Native.Nat.{ℕ, _+_, _%_}
 use mathlib.Core.Bool.{Bool, true, cond}
+use mathlib.Core.List.{List, [], _∷_}
 use lib.Dec.{leb, eqb}
 use lib.IntN.{ℤ, pos, negsuc}
 use lib.ListN.{getD}
@@ -101,3 +102,24 @@ withDirection g d = record { time = g .time; direction = d; last = g .last; runn
 -- At a new time: the last piece is forgotten, direction and running are kept.
 abbrev pub located : MtcGenerator → MtcTime → MtcGenerator
 located g t = record { time = t; direction = g .direction; last = NoPiece; running = g .running }
+
+-- ---- lists of calls
+
+-- A call that hands back a generator: of `next_byte`, of `set_running`, of `set_direction` or of `locate`.
+pub data GeneratorCall : Type 0 where
+  next : GeneratorCall
+  running : Bool → GeneratorCall
+  turn : Direction → GeneratorCall
+  locate : MtcTime → GeneratorCall
+
+-- The generator that a call leaves.
+abbrev pub afterGeneratorCall : MtcGenerator → GeneratorCall → MtcGenerator
+afterGeneratorCall g next = afterNextByte g
+afterGeneratorCall g (running b) = withRunning g b
+afterGeneratorCall g (turn d) = withDirection g d
+afterGeneratorCall g (locate t) = located g t
+
+-- The generator that a list of calls leaves.
+unfoldable pub afterGeneratorCalls : MtcGenerator → List GeneratorCall → MtcGenerator
+afterGeneratorCalls g [] = g
+afterGeneratorCalls g (c ∷ cs) = afterGeneratorCalls (afterGeneratorCall g c) cs

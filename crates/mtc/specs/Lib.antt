@@ -3,6 +3,7 @@ pub mod Generator
 pub mod Kind
 pub mod QuarterFrame
 pub mod Reader
+pub mod Ready
 pub mod Rp004
 pub mod Rp004Messages
 pub mod Stream

@@ -14,9 +14,13 @@ pieceOf byte = byte / 16 % 8
 abbrev pub valueOf : ℕ → ℕ
 valueOf byte = byte % 16
 
+-- A piece with its value.
+abbrev pub quarterFrame : ℕ → ℕ → QuarterFrame
+quarterFrame p v = record { piece = p; value = v }
+
 -- Bit 7 is ignored.
 abbrev pub fromByte : ℕ → QuarterFrame
-fromByte byte = record { piece = pieceOf byte; value = valueOf byte }
+fromByte byte = quarterFrame (pieceOf byte) (valueOf byte)
 
 -- Piece and value, each masked to its bits.
 abbrev pub toByte : QuarterFrame → ℕ

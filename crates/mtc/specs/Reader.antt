@@ -3,9 +3,10 @@
 use Prim.Native.Nat.{ℕ, zero, suc, _+_, _*_, _%_}
 use mathlib.Core.Bool.{Bool, true, false, not, cond, _&&_, _||_}
 use mathlib.Core.List.{List}
-use lib.Dec.{leb, ltb, eqb}
+use mathlib.Core.Path.{_≡_}
+use lib.Dec.{T, leb, ltb, eqb}
 use lib.IntN.{ℤ, pos, negsuc}
-use lib.ListN.{getD, set, replicate}
+use lib.ListN.{length, getD, set, replicate}
 use Rattle.mtc.specs.Generator.{first, after, move}
 use Rattle.mtc.specs.QuarterFrame.{pieceOf, valueOf}
 use Rattle.labels.specs.Time.{addFrames, rawTime, bitsOf}
@@ -23,7 +24,6 @@ use Rattle.mtc.specs.declared.reader.MaybeTime.the-variants.{NoTime, Tim
 use Rattle.mtc.specs.declared.reader.MtcEvent.{MtcEvent}
 use Rattle.mtc.specs.declared.reader.MtcReader.{MtcReader}
 use Rattle.mtc.specs.declared.reader.MtcSequence.{MtcSequence}
-use Rattle.mtc.specs.declared.reader.Order.{Order}
 
 -- ---- fresh readers
 
@@ -56,6 +56,11 @@ pieceFits (Piece p) = leb p 7
 unfoldable pub isSound : MtcReader → Bool
 isSound r = leb (r .count) 7 && (leb (r .first) 7 && (pieceFits (r .last) && nibblesFit 8 (r .nibbles)))
 
+-- A record that calls leave: sound, with its eight nibbles.
+pub record Sound (r : MtcReader) : Type 0 where
+  pub within : T (isSound r)
+  pub eight : length (r .nibbles) ≡ 8
+
 -- Any other record is taken as fresh.
 unfoldable pub taken : MtcReader → MtcReader
 taken r = cond (isSound r) r fresh
@@ -76,27 +81,32 @@ control r = record { count = r .count; first = r .first; last = r .last; directi
 abbrev pub found : ℕ → ℕ → MaybeDirection
 found l p = cond (eqb (after Forward l) p) (Going Forward) (cond (eqb (after Reverse l) p) (Going Reverse) NoDirection)
 
--- Of a piece: it is the next one in its direction; the direction that it leaves; it keeps the lock.
-abbrev pub ordered : Bool → MaybeDirection → Bool → Order
+-- How a piece stands to those before it: it is the next one in its direction; the direction that it leaves; it keeps the lock.
+pub record Standing : Type 0 where
+  pub next : Bool
+  pub direction : MaybeDirection
+  pub keeps : Bool
+
+abbrev pub ordered : Bool → MaybeDirection → Bool → Standing
 ordered next d keeps = record { next = next; direction = d; keeps = keeps }
 
 -- Without a direction the second piece gives it, and goes on where the sequence began at that direction's first piece. A
 -- piece beside the last one turns a direction and drops the lock; any other only drops the lock.
-abbrev pub outOfOrder : Control → MaybeDirection → MaybeDirection → Order
+abbrev pub outOfOrder : Control → MaybeDirection → MaybeDirection → Standing
 outOfOrder c NoDirection (Going f) = ordered (ltb 0 (c .count) && eqb (c .first) (first f)) (Going f) true
 outOfOrder c NoDirection NoDirection = ordered false NoDirection false
 outOfOrder c (Going d) (Going f) = ordered false (Going f) false
 outOfOrder c (Going d) NoDirection = ordered false (Going d) false
 
 -- A piece after a last piece, in a direction: it is the next one, or out of order. The first piece of all is not the next one.
-abbrev pub orderAfter : Control → MaybePiece → MaybeDirection → ℕ → Order
+abbrev pub orderAfter : Control → MaybePiece → MaybeDirection → ℕ → Standing
 orderAfter c NoPiece d p = ordered false d true
 orderAfter c (Piece l) NoDirection p = outOfOrder c NoDirection (found l p)
 orderAfter c (Piece l) (Going d) p =
     cond (eqb (after d l) p) (ordered true (Going d) true) (outOfOrder c (Going d) (found l p))
 
 -- How a piece stands to those before it.
-unfoldable pub orderOf : Control → ℕ → Order
+unfoldable pub orderOf : Control → ℕ → Standing
 orderOf c p = orderAfter c (c .last) (c .direction) p
 
 -- A piece starts a sequence: the first one of the direction, and without a direction 0 or 7.
@@ -109,7 +119,7 @@ abbrev pub numberAfter : ℕ → Bool → ℕ
 numberAfter held begins = cond (eqb held 0) (cond begins 1 0) (held + 1)
 
 -- The number of a piece: a piece that is not the next one finds none held.
-unfoldable pub numberOf : Control → Order → ℕ → ℕ
+unfoldable pub numberOf : Control → Standing → ℕ → ℕ
 numberOf c o p = numberAfter (cond (o .next) (c .count) 0) (starts (o .direction) p)
 
 -- ---- what is carried along: nibbles and times
@@ -170,7 +180,7 @@ completed r =
 -- ---- one piece
 
 -- The reader after a piece, with these nibbles, count and first piece.
-abbrev pub taking : MtcReader → Order → ℕ → List ℕ → ℕ → ℕ → MtcReader
+abbrev pub taking : MtcReader → Standing → ℕ → List ℕ → ℕ → ℕ → MtcReader
 taking r o p nibbles count first =
     record {
       nibbles = nibbles;
@@ -185,20 +195,20 @@ taking r o p nibbles count first =
     }
 
 -- A piece that belongs to no sequence.
-abbrev pub passed : MtcReader → Order → ℕ → MtcReader
+abbrev pub passed : MtcReader → Standing → ℕ → MtcReader
 passed r o p = taking r o p (r .nibbles) 0 (r .first)
 
 -- The n-th piece of a sequence.
-abbrev pub stored : MtcReader → Order → ℕ → ℕ → ℕ → MtcReader
+abbrev pub stored : MtcReader → Standing → ℕ → ℕ → ℕ → MtcReader
 stored r o n p v = taking r o p (set (r .nibbles) p v) (n % 8) (cond (eqb n 1) p (r .first))
 
 -- By the piece's number: it passes, completes a sequence, or is kept.
-abbrev pub readerBy : MtcReader → Order → ℕ → ℕ → ℕ → MtcReader
+abbrev pub readerBy : MtcReader → Standing → ℕ → ℕ → ℕ → MtcReader
 readerBy r o n p v =
     cond (eqb n 0) (passed r o p) (cond (eqb n 8) (completed (stored r o n p v)) (stored r o n p v))
 
 -- Only the eighth piece reports.
-abbrev pub reportBy : MtcReader → Order → ℕ → ℕ → ℕ → MaybeSequence
+abbrev pub reportBy : MtcReader → Standing → ℕ → ℕ → ℕ → MaybeSequence
 reportBy r o n p v = cond (eqb n 8) (Sequence (sequenceOf (stored r o n p v))) NoSequence
 
 -- A piece, with pieces 0 and 4 marking frame boundaries, and what it reports.

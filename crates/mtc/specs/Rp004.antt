@@ -1,9 +1,11 @@
--- MIDI Time Code, RP-004/008: the data byte of a quarter frame message, the eight pieces of a label, their order, and the move
--- from one sequence to the next, in the document's order. Left out: cueing and set-up messages. Assumes nothing.
-use Prim.Native.Nat.{ℕ, _+_, _*_, _/_, _%_, _<_}
-use mathlib.Core.List.{List, [], _∷_, reverse}
-use mathlib.Core.Path.{_≡_}
-use Rattle.labels.specs.St12.{labelAfter}
+-- MIDI Time Code, RP-004/008: the data byte of a quarter frame message, the eight pieces of a label, their order, the sequences
+-- from a label on, the frame boundaries and the current time, in the document's order. Left out: cueing and set-up messages.
+-- Assumes nothing.
+use Prim.Native.Nat.{ℕ, zero, suc, _+_, _*_, _/_, _%_, _<_}
+use mathlib.Core.Bool.{Bool, _||_}
+use mathlib.Core.List.{List, [], _∷_, _++_, reverse}
+use lib.Dec.{eqb}
+use Rattle.labels.specs.St12.{labelAfter, labelBefore}
 use Rattle.labels.specs.declared.time.MtcTime.{MtcTime}
 use Rattle.labels.specs.declared.time.TimeCodeType.{TimeCodeType}
 use Rattle.labels.specs.declared.time.TimeCodeType.the-variants.{Fps24, Fps25, Fps30Drop, Fps30}
@@ -65,6 +67,19 @@ sequence Forward t = dataBytes t
 sequence Reverse t = reverse (dataBytes t)
 
 -- A sequence takes two frames: the next one has the label two after, in reverse the label two before.
-abbrev pub MovesTo : Direction → MtcTime → MtcTime → Type 0
-MovesTo Forward t u = u ≡ labelAfter (labelAfter t)
-MovesTo Reverse t u = t ≡ labelAfter (labelAfter u)
+abbrev pub nextLabel : Direction → MtcTime → MtcTime
+nextLabel Forward t = labelAfter (labelAfter t)
+nextLabel Reverse t = labelBefore (labelBefore t)
+
+-- The data bytes of so many sequences, from a label on.
+unfoldable pub sequencesFrom : Direction → MtcTime → ℕ → List ℕ
+sequencesFrom d t zero = []
+sequencesFrom d t (suc n) = sequence d t ++ sequencesFrom d (nextLabel d t) n
+
+-- Pieces 0 and 4 stand on frame boundaries.
+abbrev pub isBoundary : ℕ → Bool
+isBoundary piece = eqb piece 0 || eqb piece 4
+
+-- The current time at the end of a sequence forward: its label is two frames late. In reverse the page does not say.
+abbrev pub currentTime : MtcTime → MtcTime
+currentTime t = labelAfter (labelAfter t)

@@ -8,7 +8,7 @@ use mathlib.Core.Logic.{_⊎_, _≢_}
 use mathlib.Core.Path.{_≡_}
 use lib.Dec.{T}
 use lib.IntN.{ℤ, pos, negℤ}
-use lib.ListN.{length, take, getD}
+use lib.ListN.{length, take, getD, replicate}
 use Rattle.mtc.specs.Generator.{nextByte, afterNextByte, located, withDirection, withRunning}
 use Rattle.mtc.specs.QuarterFrame.{pieceOf, pieces}
 use Rattle.mtc.specs.Reader.{fresh, afterByte, eventOf, afterFullMessage}
@@ -71,6 +71,10 @@ newest bs (full t ∷ cs) = newest [] cs
 -- The last seven bytes, in the order in which they came. They are fewer where a full message stands after the first of them.
 abbrev pub lastSeven : List Call → List ℕ
 lastSeven cs = reverse (take 7 (newest [] cs))
+
+-- Answers without a report.
+abbrev pub silent : ℕ → List MaybeSequence
+silent n = replicate n NoSequence
 
 -- ---- the claim
 

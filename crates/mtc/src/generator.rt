@@ -67,12 +67,6 @@ pub enum MaybePiece {
     Piece(u8),
 }
 
-// A data byte, or refusal 8.
-pub enum NextByte {
-    Byte(u8),
-    Refused(SysexError),
-}
-
 // The time that the current or next sequence encodes, the direction, the last piece sent, and whether it runs. The caller
 // sends each data byte at its quarter frame, piece 0 at the start of the frame that the sequence encodes.
 pub struct MtcGenerator {
@@ -80,6 +74,12 @@ pub struct MtcGenerator {
     pub direction: Direction,
     pub last: MaybePiece,
     pub running: bool,
+}
+
+// A data byte, or refusal 8.
+pub enum NextByte {
+    Byte(u8),
+    Refused(SysexError),
 }
 
 // The answer of `next_byte`, with the generator that comes back.

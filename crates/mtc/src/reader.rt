@@ -220,7 +220,7 @@ impl MtcReader {
     // How a piece stands to those before it.
     fn order(self, p: u8) -> Order
         requires { ⌜ T (isSound self) ⌝ }
-        ensures { λ r. ⌜ r ≡ orderOf (control self) p ⌝ }
+        ensures { λ r. ⌜ ordered (r .next) (r .direction) (r .keeps) ≡ orderOf (control self) p ⌝ }
     {
         let last = self.last;
         let direction = self.direction;
@@ -241,7 +241,7 @@ impl MtcReader {
     // The second piece gives the direction, and goes on where the sequence began at its first piece. A piece beside the last
     // one turns a direction and drops the lock; any other only drops the lock.
     fn out_of_order(self, direction: MaybeDirection, found: MaybeDirection) -> Order
-        ensures { λ r. ⌜ r ≡ outOfOrder (control self) direction found ⌝ }
+        ensures { λ r. ⌜ ordered (r .next) (r .direction) (r .keeps) ≡ outOfOrder (control self) direction found ⌝ }
     {
         let MaybeDirection::Going(f) = found else {
             return ordered(false, direction, false);
@@ -258,7 +258,7 @@ impl MtcReader {
     // The number of a piece in its sequence, 1 to 8; 0 where it belongs to none.
     fn number(self, o: Order, p: u8) -> u8
         requires { ⌜ self .count ≤ 7 ⌝ }
-        ensures { λ r. ⌜ (r ≡ numberOf (control self) o p) × (r ≤ 8) ⌝ }
+        ensures { λ r. ⌜ (r ≡ numberOf (control self) (ordered (o .next) (o .direction) (o .keeps)) p) × (r ≤ 8) ⌝ }
     {
         let direction = o.direction;
         let held = held(o.next, self.count);
@@ -273,7 +273,7 @@ impl MtcReader {
 
     // The reader after a piece, with these nibbles, count and first piece.
     fn taking(self, o: Order, p: u8, nibbles: [u8; 8], count: u8, first: u8) -> Self
-        ensures { λ r. ⌜ r ≡ taking self o p nibbles count first ⌝ }
+        ensures { λ r. ⌜ r ≡ taking self (ordered (o .next) (o .direction) (o .keeps)) p nibbles count first ⌝ }
     {
         let direction = o.direction;
         let previous = self.previous;
@@ -293,7 +293,7 @@ impl MtcReader {
 
     // The reader after a piece that belongs to no sequence.
     fn passed(self, o: Order, p: u8) -> Self
-        ensures { λ r. ⌜ r ≡ passed self o p ⌝ }
+        ensures { λ r. ⌜ r ≡ passed self (ordered (o .next) (o .direction) (o .keeps)) p ⌝ }
     {
         let nibbles = self.nibbles;
         self.taking(o, p, nibbles, 0, self.first)
@@ -302,7 +302,7 @@ impl MtcReader {
     // The reader after the n-th piece of a sequence.
     fn stored(self, o: Order, n: u8, p: u8, value: u8) -> Self
         requires { ⌜ p ≤ 7 ⌝ }
-        ensures { λ r. ⌜ r ≡ stored self o n p value ⌝ }
+        ensures { λ r. ⌜ r ≡ stored self (ordered (o .next) (o .direction) (o .keeps)) n p value ⌝ }
     {
         let mut nibbles = self.nibbles;
         nibbles[p as usize] = value;
@@ -364,7 +364,7 @@ fn nibbles_fit(nibbles: [u8; 8]) -> bool
 
 // How a piece stands to those before it, put together.
 fn ordered(next: bool, direction: MaybeDirection, keeps: bool) -> Order
-    ensures { λ r. ⌜ r ≡ ordered next direction keeps ⌝ }
+    ensures { λ r. ⌜ ordered (r .next) (r .direction) (r .keeps) ≡ ordered next direction keeps ⌝ }
 {
     Order {
         next,
