@@ -9,6 +9,8 @@ use lib.Dec.{T, leb, ltb, eqb, le→leb, lt→ltb}
 use Rattle.labels.specs.declared.time.MtcTime.{MtcTime}
 use Rattle.labels.specs.declared.time.TimeCodeType.{TimeCodeType}
 use Rattle.labels.specs.declared.time.TimeCodeType.the-variants.{Fps24, Fps25, Fps30Drop, Fps30}
+-- What holds of a valid label.
+pub use Rattle.labels.specs.Time.{InRange, Widths}
 use Rattle.labels.specs.St12.{label, framesPerSecond, isDropFrame, isSkipped, isValid}
 use Rattle.labels.proofs.Rates.{fps-small}
 
@@ -56,13 +58,7 @@ kept-skipped h m s f (inr k) = go (eqb s 0) refl
 
 -- ---- a valid label
 
-pub record InRange (t : MtcTime) : Type 0 where
-  pub hours : t .hours ≤ 23
-  pub minutes : t .minutes ≤ 59
-  pub seconds : t .seconds ≤ 59
-  pub frames : t .frames < framesPerSecond (t .rate)
-  pub kept : isSkipped t ≡ false
-
+-- Its numbers are in their ranges, and it is none of the skipped.
 pub valid-facts : (t : MtcTime) → T (isValid t) → InRange t
 unfolding isValid
 valid-facts t v =
@@ -105,13 +101,6 @@ in-range-valid r h m s f hh hm hs hf k =
     kept Fps25 k = refl
     kept Fps30Drop k = kept-skipped h m s f (k refl)
     kept Fps30 k = refl
-
--- The widths in which RP-004/008 and RP-013 send a label's numbers: five bits of frames and hours, six of seconds and minutes.
-pub record Widths (t : MtcTime) : Type 0 where
-  pub frames : t .frames < 32
-  pub seconds : t .seconds < 64
-  pub minutes : t .minutes < 64
-  pub hours : t .hours < 32
 
 -- A valid label's numbers fit them.
 pub valid-widths : (t : MtcTime) → T (isValid t) → Widths t

@@ -1,9 +1,10 @@
 -- What 000 does with labels, on every input: one definition for each public call of src/time.rt. Assumes nothing.
-use Prim.Native.Nat.{ℕ, _+_, _-_, _*_, _/_, _%_}
+use Prim.Native.Nat.{ℕ, _+_, _-_, _*_, _/_, _%_, _≤_, _<_}
+use mathlib.Core.Path.{_≡_}
 use mathlib.Core.Bool.{Bool, true, false, cond}
 use lib.IntN.{ℤ, pos, negsuc}
 use lib.Dec.{eqb}
-use Rattle.labels.specs.St12.{label, framesPerSecond, isValid, pastSkipped}
+use Rattle.labels.specs.St12.{label, framesPerSecond, isSkipped, isValid, pastSkipped}
 use Rattle.labels.specs.declared.time.MtcTime.{MtcTime}
 use Rattle.labels.specs.declared.time.NewTime.{NewTime}
 use Rattle.labels.specs.declared.time.NewTime.the-variants.{Valid, Refused}
@@ -102,3 +103,20 @@ addFrames t d = labelAt (frameCount t + modZ d (dayOf (t .rate))) (t .rate)
 unfoldable pub labelNumber : MtcTime → ℕ
 labelNumber t =
     t .hours + t .minutes * 256 + t .seconds * 65536 + t .frames * 16777216 + bitsOf (t .rate) * 4294967296
+
+-- ---- what holds of a valid label
+
+-- Its numbers are in their ranges, and it is none of the skipped.
+pub record InRange (t : MtcTime) : Type 0 where
+  pub hours : t .hours ≤ 23
+  pub minutes : t .minutes ≤ 59
+  pub seconds : t .seconds ≤ 59
+  pub frames : t .frames < framesPerSecond (t .rate)
+  pub kept : isSkipped t ≡ false
+
+-- The widths in which RP-004/008 and RP-013 send a label's numbers: five bits of frames and hours, six of seconds and minutes.
+pub record Widths (t : MtcTime) : Type 0 where
+  pub frames : t .frames < 32
+  pub seconds : t .seconds < 64
+  pub minutes : t .minutes < 64
+  pub hours : t .hours < 32

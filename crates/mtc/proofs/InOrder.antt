@@ -9,6 +9,8 @@ use lib.Dec.{T, leb, eqb, le→leb}
 use lib.ListN.{length, getD}
 use Rattle.mtc.specs.Generator.{first, after}
 use Rattle.mtc.specs.QuarterFrame.{pieceOf, valueOf}
+-- A sound reader's bounds.
+pub use Rattle.mtc.specs.Reader.{Bounds}
 use Rattle.mtc.specs.Reader.{Sound, Standing, nibblesFit, pieceFits, control, ordered, orderOf, numberAfter, numberOf, readerBy, reportBy, rawOf, directionOf, reported, sequenceOf, eventWith, afterPiece, reportOf, afterByte, eventOf}
 use Rattle.mtc.specs.declared.generator.Direction.{Direction}
 use Rattle.mtc.specs.declared.generator.MaybePiece.{MaybePiece}
@@ -30,13 +32,6 @@ all-fit (suc k) n h = both (nibblesFit k n) (leb (getD n k 0) 15) (all-fit k n h
 pub sound-by : (r : MtcReader) → r .count ≤ 7 → r .first ≤ 7 → T (pieceFits (r .last)) → ((j : ℕ) → getD (r .nibbles) j 0 ≤ 15)
     → length (r .nibbles) ≡ 8 → Sound r
 sound-by r c f l n e = record { within = sound r c f l (all-fit 8 (r .nibbles) n); eight = e }
-
-pub record Bounds (r : MtcReader) : Type 0 where
-  pub count : r .count ≤ 7
-  pub first : r .first ≤ 7
-  pub last : (p : ℕ) → r .last ≡ Piece p → p ≤ 7
-  pub nibbles : (j : ℕ) → j < 8 → getD (r .nibbles) j 0 ≤ 15
-  pub eight : length (r .nibbles) ≡ 8
 
 pub bounds : (r : MtcReader) → Sound r → Bounds r
 bounds r h =

@@ -1,6 +1,6 @@
 -- What 000's reader does, on every record: one definition for each public call of src/reader.rt. The count, the first and
 -- last piece and the direction decide what becomes of a piece; nibbles, times and marks are carried along. Assumes nothing.
-use Prim.Native.Nat.{ℕ, zero, suc, _+_, _*_, _%_}
+use Prim.Native.Nat.{ℕ, zero, suc, _+_, _*_, _%_, _≤_, _<_}
 use mathlib.Core.Bool.{Bool, true, false, not, cond, _&&_, _||_}
 use mathlib.Core.List.{List}
 use mathlib.Core.Path.{_≡_}
@@ -59,6 +59,14 @@ isSound r = leb (r .count) 7 && (leb (r .first) 7 && (pieceFits (r .last) && nib
 -- A record that calls leave: sound, with its eight nibbles.
 pub record Sound (r : MtcReader) : Type 0 where
   pub within : T (isSound r)
+  pub eight : length (r .nibbles) ≡ 8
+
+-- The bounds of such a record.
+pub record Bounds (r : MtcReader) : Type 0 where
+  pub count : r .count ≤ 7
+  pub first : r .first ≤ 7
+  pub last : (p : ℕ) → r .last ≡ Piece p → p ≤ 7
+  pub nibbles : (j : ℕ) → j < 8 → getD (r .nibbles) j 0 ≤ 15
   pub eight : length (r .nibbles) ≡ 8
 
 -- Any other record is taken as fresh.
