@@ -3,3 +3,4 @@ mod Demand3
 pub mod Instances
 pub mod Laws
 mod Obeying
+mod Running
