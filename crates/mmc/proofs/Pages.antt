@@ -2,7 +2,7 @@
 use Prim.Native.Nat.{ℕ, zero, suc, _-_, _≤_, _<_}
 use mathlib.Core.Path.{_≡_, refl, sym, ap, ap₂, _∙_}
 use mathlib.Core.Bool.{Bool, true, false, not, _||_, true≢false}
-use mathlib.Core.Logic.{inl, inr}
+use mathlib.Core.Logic.{_⊎_, inl, inr}
 use mathlib.Core.List.{List, [], _∷_, _++_}
 use native.Mathlib.Omega.{arith}
 use borrow.Author.Tests.{eq-eqb, ne-eqb, leb-true, leb-false, eqb-true, eqb-false, not-true}
@@ -15,10 +15,10 @@ use Rattle.mmc.specs.declared.length.Length.the-variants.{Fixed, Count}
 use Rattle.mmc.specs.Length.{commandLength, fieldLength, lengthOf}
 use Rattle.mmc.specs.Named.{nameFits, lastOf}
 use Rattle.mmc.specs.Rp013.{Follows, prefixed, Name, Item, After, IsItem, Spell}
-use Rattle.mmc.specs.Strings.{ruleOf, counted, itemBytes, joined, dataFits, itemFits, allFit, zerosItem, isZeros, anyZeros}
+use Rattle.mmc.specs.Strings.{ruleOf, counted, itemBytes, joined, dataFits, itemFits, allFit, zerosItem, isZeros, anyZeros, OfPageOrZeros}
 use Rattle.universal.specs.Message.{allLow}
 use Rattle.universal.proofs.Laws.{all-low-append, all-low-byte}
-use Rattle.universal.proofs.Tests.{and-parts}
+use Rattle.universal.proofs.Tests.{and-parts, and-all}
 use Rattle.mmc.proofs.Puts.{name-length}
 use Rattle.mmc.proofs.Ranges.{in-range, below-range, above-range}
 
@@ -243,3 +243,32 @@ fits-spell kind (x ∷ xs) h l z =
     let b = and-parts (allLow (itemBytes kind x)) (allLow (joined kind xs))
     (sym (all-low-append (itemBytes kind x) (joined kind xs)) ∙ l) in
     (itemBytes kind x, joined kind xs, fits-item kind x (t .0) (b .0) (o .0), fits-spell kind xs (t .1) (b .1) (o .1), refl)
+
+-- Items that fit, with bytes to 7FH, are the page's or named 00 00 00.
+pub page-or-zeros : (kind : Kind) (xs : List Item) → allFit kind xs ≡ true → allLow (joined kind xs) ≡ true → OfPageOrZeros kind xs
+unfolding allFit joined
+page-or-zeros kind [] h l = tt
+page-or-zeros kind (x ∷ xs) h l =
+    let t = and-parts (itemFits kind x) (allFit kind xs) h in
+    let b = and-parts (allLow (itemBytes kind x)) (allLow (joined kind xs))
+    (sym (all-low-append (itemBytes kind x) (joined kind xs)) ∙ l) in
+    (one (isZeros x) refl (t .0) (b .0), page-or-zeros kind xs (t .1) (b .1))
+  where
+    one : (z : Bool) → isZeros x ≡ z → itemFits kind x ≡ true → allLow (itemBytes kind x) ≡ true
+        → IsItem kind x (itemBytes kind x) ⊎ (x ≡ zerosItem)
+    one true e f low = inr (zeros-item kind x f e)
+    one false e f low = inl (fits-item kind x f low e)
+
+zeros-fits : (kind : Kind) → itemFits kind zerosItem ≡ true
+unfolding itemFits nameFits
+zeros-fits kind = rw (length-zero kind)
+
+-- Such items fit.
+pub taken-fits : (kind : Kind) (xs : List Item) → OfPageOrZeros kind xs → allFit kind xs ≡ true
+unfolding allFit
+taken-fits kind [] t = refl
+taken-fits kind (x ∷ xs) t = and-all (itemFits kind x) (allFit kind xs) (one (t .0)) (taken-fits kind xs (t .1))
+  where
+    one : IsItem kind x (itemBytes kind x) ⊎ (x ≡ zerosItem) → itemFits kind x ≡ true
+    one (inl i) = item-fits kind x (itemBytes kind x) i .0
+    one (inr e) = ap (itemFits kind) e ∙ zeros-fits kind

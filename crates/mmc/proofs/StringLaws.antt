@@ -10,8 +10,7 @@ use native.Mathlib.Nat.{le-refl}
 use native.Mathlib.Omega.{arith}
 use borrow.Author.Tests.{ne-eqb}
 use lib.Dec.{eqb, lit≤}
-use lib.ListN.{length, take, drop, length-append}
-use lib.Seq.{take-append-seam}
+use lib.ListN.{length}
 use Rattle.mmc.specs.declared.command.MmcCommand.{MmcCommand}
 use Rattle.mmc.specs.declared.command.MmcCommand.the-variants as C
 use Rattle.mmc.specs.declared.field.InfoField.{InfoField}
@@ -30,7 +29,7 @@ use Rattle.mmc.specs.Message.{messageFrom, messageBy}
 use Rattle.mmc.specs.Named.{nameFits, lastOf}
 use Rattle.mmc.specs.Part.{partOf}
 use Rattle.mmc.specs.Rp013.{Follows, Name, Item, IsItem, Spell, WellFormed, subId1, lastDevice, envelope, Message}
-use Rattle.mmc.specs.Strings.{before, walkFrom, readsOf, nextOf, item, itemAt, places, given, back, itemBytes, joined, itemFits, allFit, zerosItem, isZeros, anyZeros, locatedAt, readAs, Found, Walk, walk, walkMeans, onTo, Meaning, meaning, meanings, readFrom, commandsRead, commandPair, fieldPair, Sound, Given, pairOf, emission, emissions, pairsOf, SoundList, commandBack, fieldBack}
+use Rattle.mmc.specs.Strings.{before, walkFrom, readsOf, nextOf, item, itemAt, places, given, back, itemBytes, joined, itemFits, allFit, zerosItem, isZeros, anyZeros, OfPageOrZeros, locatedAt, readAs, Found, Walk, walk, walkMeans, onTo, Meaning, meaning, meanings, readFrom, commandsRead, commandPair, fieldPair, Sound, Given, pairOf, emission, emissions, pairsOf, SoundList, commandBack, fieldBack}
 use Rattle.mmc.specs.Split.{Located, Next, partsAs}
 use Rattle.mmc.specs.Writings.{messageOf}
 use Rattle.codes.specs.TimeCode.{zeroed}
@@ -177,11 +176,11 @@ pub length-by-page : (kind : Kind) (byte : ℕ) (rule : Length) → 1 ≤ byte �
 length-by-page kind byte rule a h =
     (λ e. subst (Follows kind byte) e (Pages.length-follows kind byte a h), Pages.follows-length kind byte rule)
 
--- 00H, which the page does not have, is one without data.
+-- A name that ends with 00H, which the page does not have, has no data.
 pub length-zero : (kind : Kind) → lengthOf kind 0 ≡ Fixed 0
 length-zero = Pages.length-zero
 
--- So is one above 7FH, which no message has.
+-- Nor has one that ends above 7FH, which no message has.
 pub length-above : (kind : Kind) (byte : ℕ) → 127 < byte → lengthOf kind byte ≡ Fixed 0
 length-above = Pages.length-above
 
@@ -240,10 +239,20 @@ walk-by-page kind body l = (
       ),
 )
 
--- So the splitter accepts the page's well-formed strings, those with an item named 00 00 00, and no others.
-pub walk-takes : (kind : Kind) (body : List ℕ) → allLow body ≡ true → walk kind body 0 .stop ≡ refusal 9
+-- The walk ends with 9 exactly where the string is the bytes of items of the page and of items named 00 00 00.
+pub walk-takes : (kind : Kind) (body : List ℕ) → allLow body ≡ true
+    → (walk kind body 0 .stop ≡ refusal 9) ↔ ((xs : List Item) × OfPageOrZeros kind xs × (body ≡ joined kind xs))
+walk-takes kind body l = (
+  λ h.
+      let w : body ≡ joined kind (walk kind body 0 .items) = walk-whole kind body h in
+      (walk kind body 0 .items, Pages.page-or-zeros kind (walk kind body 0 .items) (walk-fits kind body) (ap allLow (sym w) ∙ l), w),
+  λ t. walk-exact kind body .1 (t .0, Pages.taken-fits kind (t .0) (t .1), t .2),
+)
+
+-- So a string that it accepts is well-formed, or has an item named 00 00 00.
+pub walk-else : (kind : Kind) (body : List ℕ) → allLow body ≡ true → walk kind body 0 .stop ≡ refusal 9
     → WellFormed kind body ⊎ (anyZeros (walk kind body 0 .items) ≡ true)
-walk-takes kind body l h = go (anyZeros (walk kind body 0 .items)) refl
+walk-else kind body l h = go (anyZeros (walk kind body 0 .items)) refl
   where
     go : (b : Bool) → anyZeros (walk kind body 0 .items) ≡ b → WellFormed kind body ⊎ (anyZeros (walk kind body 0 .items) ≡ true)
     go true e = inr e
@@ -413,13 +422,6 @@ message-by u d = go (u .«real_time») (eqb (u .«sub_id1») 6) (eqb (u .«sub_i
     go true false true false = refl
     go true false false e = refl
     go false c r e = refl
-
--- The string of a message stands after the four opening bytes, up to F7H.
-pub message-string : (kind : Kind) (device : ℕ) (string : List ℕ)
-    → take (length (envelope kind device string) - 5) (drop 4 (envelope kind device string)) ≡ string
-message-string kind device string =
-    let n : length (envelope kind device string) - 5 ≡ length string = omega (arith, length-append string (247 ∷ [])) in
-    rw n (take-append-seam string (247 ∷ []))
 
 -- ---- the definitions' equations, for crates above
 

@@ -45,7 +45,7 @@ abbrev pub prefixed : ℕ → ℕ → List ℕ
 prefixed zero last = last ∷ []
 prefixed (suc k) last = 0x00 ∷ prefixed k last
 
--- A name: at most two prefixes, and its last byte, which is none.
+-- A name: at most two prefixes, and a last byte that is not 00H.
 pub record Name (name : List ℕ) (last : ℕ) : Type 0 where
   pub prefixes : ℕ
   pub few : prefixes ≤ 2

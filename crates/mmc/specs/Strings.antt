@@ -4,6 +4,7 @@ use Prim.Native.Nat.{ℕ, zero, suc, _+_, _*_, _≤_}
 use mathlib.Core.Path.{_≡_}
 use mathlib.Core.Bool.{Bool, true, false, _&&_, _||_}
 use mathlib.Core.List.{List, [], _∷_, _++_, map}
+use mathlib.Core.Logic.{_⊎_}
 use lib.Dec.{eqb}
 use lib.ListN.{length}
 use Rattle.mmc.specs.declared.command.MmcCommand.{MmcCommand}
@@ -21,7 +22,7 @@ use Rattle.mmc.specs.Item.{commandItem, fieldItem}
 use Rattle.mmc.specs.Length.{lengthOf}
 use Rattle.mmc.specs.Named.{nameFits, lastOf}
 use Rattle.mmc.specs.Part.{part, partOf}
-use Rattle.mmc.specs.Rp013.{Item}
+use Rattle.mmc.specs.Rp013.{Item, IsItem}
 use Rattle.mmc.specs.Split.{splitAt, Located, Next, next, nextAs}
 use Rattle.codes.specs.TimeCode.{standardList, shortList, zeroed}
 use Rattle.universal.specs.Emission.{Emission, sent, _then_}
@@ -78,6 +79,11 @@ isZeros x = eqb (lastOf (x .name)) 0
 unfoldable pub anyZeros : List Item → Bool
 anyZeros [] = false
 anyZeros (x ∷ xs) = isZeros x || anyZeros xs
+
+-- Each of the items is one of the page, or the one named 00 00 00.
+abbrev pub OfPageOrZeros : Kind → List Item → Type 0
+OfPageOrZeros kind [] = Unit
+OfPageOrZeros kind (x ∷ xs) = (IsItem kind x (itemBytes kind x) ⊎ (x ≡ zerosItem)) × OfPageOrZeros kind xs
 
 -- ---- where items stand
 

@@ -15,7 +15,7 @@ use lib.Seq.{length-sets, sets-eq, set-out, getD-set-same, getD-set-other}
 use Rattle.universal.specs.Refusals.{Refusal, refusal, tooSmall, gives, refused}
 use Rattle.universal.specs.Overlay.{overlay}
 use Rattle.universal.specs.Emission.{Emission, sent, stopped, check, resume, _then_, answer, reached, reachedIn, fitted}
-use Rattle.universal.specs.Midi1.{hasSubId2, subId2Given, subId2Bytes, classId, inside, universalBytes, Allowed}
+use Rattle.universal.specs.Midi1.{hasSubId2, subId2Given, subId2Bytes, classId, inside, universalBytes, InLayout, Allowed}
 use Rattle.universal.specs.Message.{subId2Value, allLow, dataBytes, header, opening, message, lengthAt, closing}
 use Rattle.universal.specs.declared.message.Universal.{Universal}
 use Rattle.universal.specs.declared.message.MaybeSubId2.the-variants.{NoSubId2, SubId2}
@@ -330,9 +330,9 @@ message-low u bs i h first last =
 
 -- ---- by MIDI 1.0
 
--- A message that MIDI 1.0 allows is written as exactly its bytes.
-pub message-by-midi1 : (u : Universal) (bs : List ℕ) → Allowed u bs → message u bs ≡ sent (universalBytes u bs)
-message-by-midi1 u bs a =
+-- A message in MIDI 1.0's layout is written as exactly its bytes.
+pub message-in-layout : (u : Universal) (bs : List ℕ) → InLayout u bs → message u bs ≡ sent (universalBytes u bs)
+message-in-layout u bs a =
     let device : u .«device_id» ≤ 127 = a .low 1 (omega arith) in
     let subId1 : u .«sub_id1» ≤ 127 = a .low 2 (omega arith) in
     let rest : allLow (subId2Bytes (u .«sub_id2») ++ bs) ≡ true =
@@ -344,12 +344,16 @@ message-by-midi1 u bs a =
     message-whole u bs (ap (λ (e : Emission). e .stop) o) (parts .1)
     ∙ ap (λ (e : Emission). sent (e .bytes ++ bs ++ 247 ∷ [])) o
 
--- A message is accepted just where MIDI 1.0 allows it.
-pub accepted-by-midi1 : (u : Universal) (bs : List ℕ) → (message u bs .stop ≡ none) ↔ Allowed u bs
-accepted-by-midi1 u bs = (allowed, λ a. ap (λ (e : Emission). e .stop) (message-by-midi1 u bs a))
+-- So is every message that MIDI 1.0 has.
+pub message-by-midi1 : (u : Universal) (bs : List ℕ) → Allowed u bs → message u bs ≡ sent (universalBytes u bs)
+message-by-midi1 u bs a = message-in-layout u bs (a .layout)
+
+-- A message is accepted just where it is in that layout. So more is accepted than MIDI 1.0 has: families that it does not define.
+pub accepted-by-midi1 : (u : Universal) (bs : List ℕ) → (message u bs .stop ≡ none) ↔ InLayout u bs
+accepted-by-midi1 u bs = (laid, λ a. ap (λ (e : Emission). e .stop) (message-in-layout u bs a))
   where
-    allowed : message u bs .stop ≡ none → Allowed u bs
-    allowed h =
+    laid : message u bs .stop ≡ none → InLayout u bs
+    laid h =
         let parts = message-accepted u bs h in
         let a : Accepted u = accepted u (parts .0) in
         let start : List ℕ = classId (u .«real_time») ∷ u .«device_id» ∷ u .«sub_id1» ∷ subId2Value (u .«sub_id2») .bytes in

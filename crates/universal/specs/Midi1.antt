@@ -1,6 +1,6 @@
 -- MIDI 1.0 detailed specification v4.2.1, System Exclusive: the bytes of a Universal message (pp. 34, 35; Table VII, p. T-8),
 -- which families carry a sub-ID 2 (Table VIIa, pp. T-9, T-10), which messages there are, and whom a device ID addresses
--- (p. 35). Left out: manufacturers' messages, which families are assigned, and what the data of each says. Assumes nothing.
+-- (p. 35). Left out: manufacturers' messages, and what the data of each says. Assumes nothing.
 use Prim.Native.Nat.{ℕ, _≤_, _<_}
 use mathlib.Core.Path.{_≡_}
 use mathlib.Core.Bool.{Bool, true, false, _&&_, _||_}
@@ -49,7 +49,17 @@ inside u bs = classId (u .«real_time») ∷ u .«device_id» ∷ u .«sub_id1»
 abbrev pub universalBytes : Universal → List ℕ → List ℕ
 universalBytes u bs = 240 ∷ (inside u bs ++ 247 ∷ [])
 
--- Which messages there are: each byte inside is at most 7FH, and a sub-ID 2 stands just where the family carries one.
-pub record Allowed (u : Universal) (bs : List ℕ) : Type 0 where
+-- The families that there are (Table VIIa): Real Time 01H to 08H, Non-Real Time 01H to 09H and 7BH to 7FH.
+abbrev pub isDefined : Bool → ℕ → Bool
+isDefined true n = leb 1 n && leb n 8
+isDefined false n = (leb 1 n && leb n 9) || (leb 123 n && leb n 127)
+
+-- The layout of a message: each byte inside is at most 7FH, and a sub-ID 2 stands just where the family carries one.
+pub record InLayout (u : Universal) (bs : List ℕ) : Type 0 where
   pub low : (i : ℕ) → i < length (inside u bs) → getD (inside u bs) i 0 ≤ 127
   pub family : subId2Given (u .«sub_id2») ≡ hasSubId2 (u .«real_time») (u .«sub_id1»)
+
+-- Which messages there are: those in this layout, of a family that there is.
+pub record Allowed (u : Universal) (bs : List ℕ) : Type 0 where
+  pub layout : InLayout u bs
+  pub defined : isDefined (u .«real_time») (u .«sub_id1») ≡ true
