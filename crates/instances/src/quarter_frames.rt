@@ -98,7 +98,7 @@ fn first_reports() -> bool {
 }
 
 fn full_message() -> bool {
-    let mut out = [0u8; 10];
+    let mut out = [0xEEu8; 10];
     let message = FullMessage {
         device_id: 0x7F,
         time: label(1, 37, 52, 16, 3),
