@@ -15,9 +15,9 @@ use Rattle.mtc.specs.declared.reader.MtcEvent.{MtcEvent}
 use Rattle.mtc.specs.Generator.{nextByte, afterNextByte, started}
 use Rattle.mtc.specs.QuarterFrame.{pieces}
 use Rattle.mtc.specs.Reader.{fresh, nibblesFit, isSound, taken, orderOf, numberOf, sequenceOf, afterPiece, reportOf}
-use Rattle.labels.specs.St12.{label, isSkipped, isValid}
+use Rattle.labels.specs.St12.{label, isValid}
 use Rattle.mtc.specs.Stream.{sent, byte, afterCalls, events}
-use Rattle.labels.specs.Time.{frameCount, labelAt, modZ, addFrames, bitsOf}
+use Rattle.labels.specs.Time.{addFrames, bitsOf}
 use Rattle.mtc.specs.UserBits.{groupBytes}
 use mathlib.Core.Bool.{false}
 use lib.ListN.{replicate}
@@ -171,5 +171,5 @@ table =
     ∷ []
 
 pub instances : map (λ (r : Row). r .given) table ≡ map (λ (r : Row). r .stated) table
-unfolding table groupBytes pieces events sent afterCalls nextByte afterNextByte nibblesFit isSound taken orderOf numberOf sequenceOf afterPiece reportOf frameCount labelAt modZ addFrames stringAnswer stringLeft stringState afterItems openedCommands begun sound ready admitted W.given closedMessage wholeMessage commandItem locateTargetItem locateFieldItem standardItem standardFits standardList isValid isSkipped opening overlay readFrom walkFrom nextCommand next splitAt prefixesAt measured lengthOf commandLength readCommand readByte readLocate partOf isInside
+unfolding table groupBytes pieces events sent afterCalls nextByte afterNextByte nibblesFit isSound taken orderOf numberOf sequenceOf afterPiece reportOf addFrames stringAnswer stringLeft stringState afterItems openedCommands begun sound ready admitted W.given closedMessage wholeMessage commandItem locateTargetItem locateFieldItem standardItem standardFits standardList isValid opening overlay readFrom walkFrom nextCommand next splitAt prefixesAt measured lengthOf commandLength readCommand readByte readLocate partOf isInside
 instances = refl
