@@ -94,7 +94,7 @@ fn some_generator(number: u64) -> MtcGenerator {
 
 // Forward, by a string.
 fn forward(listener: Listener, number: u64, time: MtcTime) -> bool {
-    let mut out = [0u8; 64];
+    let mut out = [0xEEu8; 64];
     let device_id = if number & 1 == 0 { 0x7F } else { 5 };
     let length = write(&mut out, device_id, number, time);
     let generator = obeyed(&out, length, 5, some_generator(number));

@@ -80,7 +80,7 @@ fn finish(writer: Writer, out: &mut [u8; 64]) -> Written {
 
 // So many Stops.
 fn stops(count: usize) -> Written {
-    let mut out = [0u8; 64];
+    let mut out = [0xEEu8; 64];
     let mut writer = open_commands(&mut out, 0);
     let mut i: usize = 0;
     while i < count {
@@ -125,9 +125,11 @@ fn alone(out: &mut [u8], command: MmcCommand) -> Written {
     writer.close_message(out)
 }
 
+// Writing that is refused, with the four opening bytes emitted.
 fn field_seven_written() -> bool {
-    let mut out = [0u8; 16];
-    is_refused(alone(&mut out, MmcCommand::LocateField { register: 7 }), 3)
+    let mut out = [0xEEu8; 9];
+    let written = alone(&mut out, MmcCommand::LocateField { register: 7 });
+    is_refused(written, 3) && check::same(&out, b"\xF0\x7F\x7F\x06\xEE\xEE\xEE\xEE\xEE")
 }
 
 // Subframes 100 are refused with the bytes before them emitted.

@@ -32,7 +32,7 @@ fn begins(out: &[u8], bytes: &[u8]) -> bool {
 
 // Commands to all devices.
 fn is_command(command: MmcCommand, source: &[u8], message: &[u8]) -> bool {
-    let mut out = [0u8; 16];
+    let mut out = [0xEEu8; 16];
     let opened = open_commands(&mut out, 0x7F);
     let wrote = opened.put_command(&mut out, source, command);
     let writer = wrote.writer;
@@ -54,7 +54,7 @@ fn is_read_command(body: &[u8], message: &[u8]) -> bool {
 
 // Responses of device 01H.
 fn is_field(field: InfoField, message: &[u8]) -> bool {
-    let mut out = [0u8; 16];
+    let mut out = [0xEEu8; 16];
     let opened = open_responses(&mut out, 0x01);
     let wrote = opened.put_field(&mut out, b"", field);
     let writer = wrote.writer;

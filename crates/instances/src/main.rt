@@ -4,6 +4,7 @@ mod demand3;
 mod examples;
 mod formats;
 mod quarter_frames;
+mod reader;
 mod stream;
 mod strings;
 mod tally;

@@ -1,6 +1,5 @@
 // Quarter frames, full messages and user bits: document 01's instances and RP-004/008's published examples.
-use crate::stream::fresh;
-use crate::stream::hears;
+use crate::reader::give_byte;
 use crate::tally::Tally;
 use crate::tally::case;
 use crate::tally::none;
@@ -31,8 +30,8 @@ fn forward() -> MtcReader {
     let mut reader = MtcReader::new();
     let mut i: usize = 0;
     while i < 8 {
-        let stepped = reader.step(bytes[i]);
-        reader = stepped.reader;
+        let given = give_byte(reader, bytes[i]);
+        reader = given.reader;
         i = i + 1;
     }
     reader
@@ -45,8 +44,8 @@ fn reverse(last: usize) -> MtcReader {
     let mut left: usize = 8;
     while left > last {
         left = left - 1;
-        let stepped = reader.step(bytes[left]);
-        reader = stepped.reader;
+        let given = give_byte(reader, bytes[left]);
+        reader = given.reader;
     }
     reader
 }
@@ -59,12 +58,28 @@ fn current_is(reader: MtcReader, frames: u8) -> bool {
     }
 }
 
+// The answer to the byte of this number: a report at the sixteenth alone, whose raw time is 01:37:52:18 and current 01:37:52:20.
+fn sixteenth_only(number: u8, sequence: MaybeSequence) -> bool {
+    match sequence {
+        MaybeSequence::NoSequence => number != 16,
+        MaybeSequence::Sequence(report) => {
+            let raw = report.raw;
+            let current = report.current;
+            number == 16
+                && same(raw, label(1, 37, 52, 18, 3))
+                && same(current, label(1, 37, 52, 20, 3))
+        }
+    }
+}
+
 // After 76 61 H a forward stream first reports at its sixteenth byte.
 fn late() -> bool {
-    let mut reader = hears(hears(fresh(), 0x76), 0x61).reader;
+    let one = give_byte(MtcReader::new(), 0x76);
+    let two = give_byte(one.reader, 0x61);
+    let mut reader = two.reader;
     let mut generator = MtcGenerator::new(label(1, 37, 52, 16, 3), Direction::Forward);
     let mut number: u8 = 1;
-    while number < 16 {
+    while number <= 16 {
         let sent = generator.next_byte();
         generator = sent.generator;
         let byte = sent.byte;
@@ -72,13 +87,12 @@ fn late() -> bool {
             mtc::NextByte::Byte(x) => x,
             mtc::NextByte::Refused(_) => return false,
         };
-        let stepped = reader.step(x);
-        reader = stepped.reader;
-        let event = stepped.event;
+        let given = give_byte(reader, x);
+        reader = given.reader;
+        let event = given.event;
         let sequence = event.sequence;
-        match sequence {
-            MaybeSequence::NoSequence => {}
-            MaybeSequence::Sequence(_) => return false,
+        if !sixteenth_only(number, sequence) {
+            return false;
         }
         number = number + 1;
     }
@@ -88,8 +102,8 @@ fn late() -> bool {
 // After pieces 7 down to 1 the first byte of a forward stream ends a sequence.
 fn first_reports() -> bool {
     let reader = reverse(1);
-    let stepped = reader.step(0x00);
-    let event = stepped.event;
+    let given = give_byte(reader, 0x00);
+    let event = given.event;
     let sequence = event.sequence;
     match sequence {
         MaybeSequence::NoSequence => false,
@@ -98,7 +112,7 @@ fn first_reports() -> bool {
 }
 
 fn full_message() -> bool {
-    let mut out = [0u8; 10];
+    let mut out = [0xEEu8; 10];
     let message = FullMessage {
         device_id: 0x7F,
         time: label(1, 37, 52, 16, 3),

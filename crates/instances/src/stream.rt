@@ -1,4 +1,6 @@
 // A reader that has heard some calls gets the next twenty-four bytes of a generator: what it answers is held to demand 3.
+use crate::reader::give_byte;
+use crate::reader::give_message;
 use crate::times::label;
 use crate::times::same;
 use mtc::Direction;
@@ -41,8 +43,8 @@ fn one_more(since: u8) -> u8 {
 // The reader gets a byte.
 pub(crate) fn hears(listener: Listener, byte: u8) -> Listener {
     let reader = listener.reader;
-    let stepped = reader.step(byte);
-    let after = stepped.reader;
+    let given = give_byte(reader, byte);
+    let after = given.reader;
     let piece = (byte / 16 % 8) as u32;
     let pieces = ((listener.pieces & 0o777777) << 3) | piece;
     Listener {
@@ -56,7 +58,7 @@ pub(crate) fn hears(listener: Listener, byte: u8) -> Listener {
 pub(crate) fn informed(listener: Listener, time: MtcTime) -> Listener {
     let reader = listener.reader;
     Listener {
-        reader: reader.informed(FullMessage { device_id: 0, time }),
+        reader: give_message(reader, FullMessage { device_id: 0, time }),
         pieces: listener.pieces,
         since: 0,
     }
@@ -137,9 +139,9 @@ fn next_turn(
             right: false,
         },
         NextByte::Byte(x) => {
-            let stepped = reader.step(x);
-            let left = stepped.reader;
-            let event = stepped.event;
+            let given = give_byte(reader, x);
+            let left = given.reader;
+            let event = given.event;
             Turn {
                 generator: after,
                 reader: left,

@@ -1,6 +1,7 @@
 -- Document 01's instances that are marked *, all of them, and the reader's after 76 61 H, as one computed table: what the definitions
 -- give, beside what the document says. A label stands as hours, minutes, seconds, frames and the rate's two bits; an answer as 0 and
--- its number, or as a refusal's number and values. Assumes nothing.
+-- its number, or as a refusal's number and values. A buffer begins as bytes EEH, so that a byte that was not written shows. Assumes
+-- nothing.
 use Prim.Native.Nat.{ℕ, suc}
 use mathlib.Core.Path.{_≡_, refl}
 use mathlib.Core.List.{List, [], _∷_, _++_, map, reverse}
@@ -14,13 +15,12 @@ use Rattle.mtc.specs.declared.reader.MtcEvent.{MtcEvent}
 use Rattle.mtc.specs.Generator.{nextByte, afterNextByte, started}
 use Rattle.mtc.specs.QuarterFrame.{pieces}
 use Rattle.mtc.specs.Reader.{fresh, nibblesFit, isSound, taken, orderOf, numberOf, sequenceOf, afterPiece, reportOf}
-use Rattle.labels.specs.St12.{label, isSkipped, isValid}
+use Rattle.labels.specs.St12.{label, isValid}
 use Rattle.mtc.specs.Stream.{sent, byte, afterCalls, events}
-use Rattle.labels.specs.Time.{frameCount, labelAt, modZ, addFrames, bitsOf}
+use Rattle.labels.specs.Time.{addFrames, bitsOf}
 use Rattle.mtc.specs.UserBits.{groupBytes}
 use mathlib.Core.Bool.{false}
-use mathlib.Core.Option.{Option, none, some}
-use lib.ListN.{length, replicate}
+use lib.ListN.{replicate}
 use Rattle.mmc.specs.declared.command.MmcCommand.{MmcCommand}
 use Rattle.mmc.specs.declared.command.MmcCommand.the-variants.{Stop, Play, DeferredPlay, FastForward, Rewind, RecordStrobe, RecordExit, Pause, Reset, Write, LocateField, LocateTarget, Move, Other}
 use Rattle.mmc.specs.declared.length.Kind.the-variants.{Commands}
@@ -81,10 +81,6 @@ abbrev answerNumbers : Answer ℕ → List ℕ
 answerNumbers (gives n) = 0 ∷ n ∷ []
 answerNumbers (refused r) = refusalNumbers r
 
-abbrev stopNumbers : Option Refusal → List ℕ
-stopNumbers none = []
-stopNumbers (some r) = refusalNumbers r
-
 -- A command by its name's last byte and its values; 255 for another, with where its name and data stand.
 abbrev commandNumbers : MmcCommand → List ℕ
 commandNumbers Stop = 1 ∷ []
@@ -125,6 +121,10 @@ target subframes =
 abbrev locatePlay : ℕ → List (Given Commands)
 locatePlay subframes = given Commands [] (LocateTarget (target subframes)) ∷ given Commands [] Play ∷ []
 
+-- Locate to field 7.
+abbrev locateSeven : List (Given Commands)
+locateSeven = given Commands [] (LocateField 7) ∷ []
+
 abbrev stops : ℕ → List (Given Commands)
 stops n = replicate n (given Commands [] Stop)
 
@@ -146,29 +146,30 @@ table =
     -- user groups 1 to 8 give 87 65 43 21 H
     ∷ row (groupBytes (1 ∷ 2 ∷ 3 ∷ 4 ∷ 5 ∷ 6 ∷ 7 ∷ 8 ∷ [])) (0x87 ∷ 0x65 ∷ 0x43 ∷ 0x21 ∷ [])
     -- Locate 01:00:00:00 at 25, subframes 0, then Play, device 7FH: a buffer of 14 passes
-    ∷ row (answerNumbers (stringAnswer Commands 127 (locatePlay 0) (replicate 14 0))) (0 ∷ 14 ∷ [])
-    ∷ row (stringLeft Commands 127 (locatePlay 0) (replicate 14 0))
+    ∷ row (answerNumbers (stringAnswer Commands 127 (locatePlay 0) (replicate 14 0xEE))) (0 ∷ 14 ∷ [])
+    ∷ row (stringLeft Commands 127 (locatePlay 0) (replicate 14 0xEE))
     (0xF0 ∷ 0x7F ∷ 0x7F ∷ 0x06 ∷ 0x44 ∷ 0x06 ∷ 0x01 ∷ 0x21 ∷ 0x00 ∷ 0x00 ∷ 0x00 ∷ 0x00 ∷ 0x02 ∷ 0xF7 ∷ [])
     -- 13 is 4 with 14, the first 13 bytes written
-    ∷ row (answerNumbers (stringAnswer Commands 127 (locatePlay 0) (replicate 13 0))) (4 ∷ 14 ∷ [])
-    ∷ row (stringLeft Commands 127 (locatePlay 0) (replicate 13 0))
+    ∷ row (answerNumbers (stringAnswer Commands 127 (locatePlay 0) (replicate 13 0xEE))) (4 ∷ 14 ∷ [])
+    ∷ row (stringLeft Commands 127 (locatePlay 0) (replicate 13 0xEE))
     (0xF0 ∷ 0x7F ∷ 0x7F ∷ 0x06 ∷ 0x44 ∷ 0x06 ∷ 0x01 ∷ 0x21 ∷ 0x00 ∷ 0x00 ∷ 0x00 ∷ 0x00 ∷ 0x02 ∷ [])
     -- body 00H is 2, 00 00 00 H is one unknown item
     ∷ row (readNumbers (commandsRead (0 ∷ []))) (2 ∷ [])
     ∷ row (readNumbers (commandsRead (0 ∷ 0 ∷ 0 ∷ []))) (255 ∷ 0 ∷ 3 ∷ 3 ∷ 0 ∷ 9 ∷ [])
     -- 48 Stops pass, 49 and 0 are 2
-    ∷ row (answerNumbers (stringAnswer Commands 0 (stops 48) (replicate 60 0))) (0 ∷ 53 ∷ [])
-    ∷ row (answerNumbers (stringAnswer Commands 0 (stops 49) (replicate 60 0))) (2 ∷ [])
-    ∷ row (answerNumbers (stringAnswer Commands 0 (stops 0) (replicate 60 0))) (2 ∷ [])
+    ∷ row (answerNumbers (stringAnswer Commands 0 (stops 48) (replicate 60 0xEE))) (0 ∷ 53 ∷ [])
+    ∷ row (answerNumbers (stringAnswer Commands 0 (stops 49) (replicate 60 0xEE))) (2 ∷ [])
+    ∷ row (answerNumbers (stringAnswer Commands 0 (stops 0) (replicate 60 0xEE))) (2 ∷ [])
     -- 44 02 00 07 H reads as Locate field 7; writing that is 3
     ∷ row (readNumbers (commandsRead (0x44 ∷ 0x02 ∷ 0x00 ∷ 0x07 ∷ []))) (68 ∷ 0 ∷ 7 ∷ 9 ∷ [])
-    ∷ row (stopNumbers (commandItem [] (LocateField 7) .stop)) (3 ∷ [])
+    ∷ row (answerNumbers (stringAnswer Commands 127 locateSeven (replicate 9 0xEE))) (3 ∷ [])
+    ∷ row (stringLeft Commands 127 locateSeven (replicate 9 0xEE)) (0xF0 ∷ 0x7F ∷ 0x7F ∷ 0x06 ∷ 0xEE ∷ 0xEE ∷ 0xEE ∷ 0xEE ∷ 0xEE ∷ [])
     -- subframes 100 in a written Locate is 3, with the four opening bytes and 44 06 01 H emitted
-    ∷ row (answerNumbers (stringAnswer Commands 127 (locatePlay 100) (replicate 14 0))) (3 ∷ [])
-    ∷ row (stringLeft Commands 127 (locatePlay 100) (replicate 14 0))
-    (0xF0 ∷ 0x7F ∷ 0x7F ∷ 0x06 ∷ 0x44 ∷ 0x06 ∷ 0x01 ∷ 0 ∷ 0 ∷ 0 ∷ 0 ∷ 0 ∷ 0 ∷ 0 ∷ [])
+    ∷ row (answerNumbers (stringAnswer Commands 127 (locatePlay 100) (replicate 14 0xEE))) (3 ∷ [])
+    ∷ row (stringLeft Commands 127 (locatePlay 100) (replicate 14 0xEE))
+    (0xF0 ∷ 0x7F ∷ 0x7F ∷ 0x06 ∷ 0x44 ∷ 0x06 ∷ 0x01 ∷ 0xEE ∷ 0xEE ∷ 0xEE ∷ 0xEE ∷ 0xEE ∷ 0xEE ∷ 0xEE ∷ [])
     ∷ []
 
 pub instances : map (λ (r : Row). r .given) table ≡ map (λ (r : Row). r .stated) table
-unfolding table groupBytes pieces events sent afterCalls nextByte afterNextByte nibblesFit isSound taken orderOf numberOf sequenceOf afterPiece reportOf frameCount labelAt modZ addFrames stringAnswer stringLeft stringState afterItems openedCommands begun sound ready admitted W.given closedMessage wholeMessage commandItem locateTargetItem locateFieldItem standardItem standardFits standardList isValid isSkipped opening overlay readFrom walkFrom nextCommand next splitAt prefixesAt measured lengthOf commandLength readCommand readByte readLocate partOf isInside
+unfolding table groupBytes pieces events sent afterCalls nextByte afterNextByte nibblesFit isSound taken orderOf numberOf sequenceOf afterPiece reportOf addFrames stringAnswer stringLeft stringState afterItems openedCommands begun sound ready admitted W.given closedMessage wholeMessage commandItem locateTargetItem locateFieldItem standardItem standardFits standardList isValid opening overlay readFrom walkFrom nextCommand next splitAt prefixesAt measured lengthOf commandLength readCommand readByte readLocate partOf isInside
 instances = refl

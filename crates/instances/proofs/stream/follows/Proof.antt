@@ -13,35 +13,35 @@ Inv-loop time direction first reader₀ generator₀ number₀ reader generator 
 abbrev μ-loop : tie.MeasureT-loop
 μ-loop time direction first reader₀ generator₀ number₀ reader generator number = 25 - number
 
--- src/stream.rt:159:9
+-- src/stream.rt:161:9
 may-be-first-requires : tie.Need-may-be-first-requires Inv-loop μ-loop
 may-be-first-requires c κs = search needs
 
--- src/stream.rt:163:5
+-- src/stream.rt:165:5
 loop-holds : tie.Need-loop-holds Inv-loop μ-loop
 loop-holds c = search needs
 
--- src/stream.rt:164:13
+-- src/stream.rt:166:13
 next-turn-requires : tie.Need-next-turn-requires Inv-loop μ-loop
 next-turn-requires c κs = search needs
 
--- src/stream.rt:166:13
+-- src/stream.rt:168:13
 returns : tie.Need-returns Inv-loop μ-loop
 returns c = search needs
 
--- src/stream.rt:170:18
+-- src/stream.rt:172:18
 add-number : tie.Need-add-number Inv-loop μ-loop
 add-number c = search needs
 
--- src/stream.rt:163:5
+-- src/stream.rt:165:5
 loop-less : tie.Need-loop-less Inv-loop μ-loop
 loop-less c = search needs
 
--- src/stream.rt:163:5
+-- src/stream.rt:165:5
 loop-again : tie.Need-loop-again Inv-loop μ-loop
 loop-again c = search needs
 
--- src/stream.rt:153:1
+-- src/stream.rt:155:1
 returns-2 : tie.Need-returns-2 Inv-loop μ-loop
 returns-2 c = search needs
 
