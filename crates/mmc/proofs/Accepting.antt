@@ -36,7 +36,7 @@ none-some : (r : Refusal) → some r ≡ none → ⊥
 none-some r p = let z : _≡_ {A = ℕ} 0 1 = cc in omega arith
 
 -- A writing that goes on has not failed.
-not-failed : (w : Writing) → sound w .stop ≡ none → w .stop ≡ none
+pub not-failed : (w : Writing) → sound w .stop ≡ none → w .stop ≡ none
 unfolding sound
 not-failed w = go (leb (w .items) 256 && leb (w .at) 40000)
   where
@@ -49,12 +49,13 @@ pub record Taken (w : Writing) (e : Emission) : Type 0 where
   pub going : w .stop ≡ none
   pub own : e .stop ≡ none
   pub whole : admitted w e ≡ e
+  pub room : w .items < 256
 
 pub taken : (w : Writing) (e : Emission) → admitted w e .stop ≡ none → Taken w e
 unfolding admitted
 taken w e h =
     let k = then-accepted (record { bytes = []; stop = ready w }) e h in
-    record { going = not-failed w (ready-told w (k .0) .0); own = k .1; whole = takes w e (k .0) }
+    record { going = not-failed w (ready-told w (k .0) .0); own = k .1; whole = takes w e (k .0); room = ready-told w (k .0) .1 }
 
 -- ---- a list of items
 
@@ -156,7 +157,7 @@ gives-refused : (n : ℕ) (r : Refusal) → refused r ≡ gives n → ⊥
 gives-refused n r p = let z : _≡_ {A = ℕ} 0 1 = cc in omega arith
 
 -- An answer with a length came after no refusal, and the length fits.
-ended-gives : (s : Option Refusal) (m room n : ℕ) → ended s m room ≡ gives n → (s ≡ none) × (n ≡ m) × (n ≤ room)
+pub ended-gives : (s : Option Refusal) (m room n : ℕ) → ended s m room ≡ gives n → (s ≡ none) × (n ≡ m) × (n ≤ room)
 ended-gives none m room n e = go (leb m room) refl e
   where
     go : (b : Bool) → leb m room ≡ b → fitted b m ≡ gives n → (_≡_ {A = Option Refusal} none none) × (n ≡ m) × (n ≤ room)
@@ -197,7 +198,7 @@ pub record WrittenWhole (kind : Kind) (device : ℕ) (gs : List (Given kind)) (o
       ≡ (240 ∷ 127 ∷ device ∷ subId1 kind ∷ []) ++ (emissions kind gs .bytes ++ 247 ∷ [])
 
 -- Bytes from the buffer's start on that fit are its front.
-front : (out m : List ℕ) (n : ℕ) → n ≡ length m → n ≤ length out → take n (overlay out 0 m) ≡ m
+pub front : (out m : List ℕ) (n : ℕ) → n ≡ length m → n ≤ length out → take n (overlay out 0 m) ≡ m
 front out m n e l =
     let fit : 0 + length m ≤ length out = omega arith in
     ap (take n) (overlay-fits out 0 m fit) ∙ take-at m (drop (0 + length m) out) n (sym e)

@@ -13,7 +13,7 @@ use Rattle.mmc.specs.Command.{CommandCase, other, readCommand}
 use Rattle.mmc.specs.Field as Fld
 use Rattle.mmc.specs.Field.{FieldCase, readField}
 use Rattle.mmc.specs.Item.{commandItem, fieldItem}
-use Rattle.mmc.specs.Rp013Commands.{Command, commandBytes, IsCommand, Field, fieldBytes, IsField}
+use Rattle.mmc.specs.Rp013Commands.{Command, commandBytes, receivedBytes, IsCommand, Field, fieldBytes, IsField}
 use Rattle.universal.specs.Emission.{sent}
 use Rattle.mmc.proofs.CommandReading as reading
 use Rattle.mmc.proofs.CommandWriting as writing
@@ -25,9 +25,9 @@ pub command-written-by-page : (p : Command) (source : List ℕ) (c : MmcCommand)
     → commandItem source c ≡ sent (commandBytes p)
 command-written-by-page = writing.command-written-by-page
 
--- Where the page's bytes of a command stand in a string, it is read as one that stands for it.
-pub command-read-by-page : (p : Command) (body pre post : List ℕ) (place : ℕ) → IsCommand p → body ≡ pre ++ (commandBytes p ++ post)
-    → place ≡ length pre → CommandAt body place p
+-- Where the page's bytes of a command stand in a string, with data past its own or none, it is read as one that stands for it.
+pub command-read-by-page : (p : Command) (past body pre post : List ℕ) (place : ℕ) → IsCommand p
+    → body ≡ pre ++ (receivedBytes p past ++ post) → place ≡ length pre → CommandAt body place p past
 command-read-by-page = reading.command-read-by-page
 
 -- A field that stands for one of the page is written as the page's bytes.

@@ -1,6 +1,6 @@
 -- The page's bytes of commands and fields are read as what stands for them; and which names and data are read as each case,
 -- exactly. Assumes nothing.
-use Prim.Native.Nat.{ℕ, _+_, _-_, _≤_, _<_, zero-le}
+use Prim.Native.Nat.{ℕ, suc, _+_, _-_, _≤_, _<_, zero-le}
 use native.Mathlib.Nat.{zero-add}
 use mathlib.Core.Path.{_≡_, refl, sym, ap, ap₂, subst, _∙_}
 use mathlib.Core.Bool.{Bool, true, false, cond, true≢false}
@@ -21,22 +21,25 @@ use Rattle.mmc.specs.declared.length.Kind.the-variants.{Commands, Fields
 use Rattle.mmc.specs.declared.length.Length.{Length}
 use Rattle.mmc.specs.declared.length.Length.the-variants.{Fixed, Count}
 use Rattle.mmc.specs.ByPage.{StandsFor, FieldStandsFor, CommandAt, FieldAt, ReadsAs, FieldReadsAs}
-use Rattle.mmc.specs.Command.{CommandCase, stop, play, deferredPlay, fastForward, rewind, recordStrobe, recordExit, pause, reset, write, other, locateField, locateTarget, move, readLocate, readMove, readByte, readCommand}
+use Rattle.mmc.specs.Command.{CommandCase, stop, play, deferredPlay, fastForward, rewind, recordStrobe, recordExit, pause, reset, write, other, locateField, locateTarget, move, readLocate, readMove, readByte, readCommand, located}
 use Rattle.mmc.specs.Field as Fld
 use Rattle.mmc.specs.Field.{FieldCase, timeCode, short, readField}
-use Rattle.mmc.specs.Length.{within}
+use Rattle.mmc.specs.Length.{within, commandLength, lengthOf}
+use Rattle.mmc.specs.Named.{nameFits}
 use Rattle.mmc.specs.Part.{isInside, partOf, part}
 use Rattle.mmc.specs.Rp013.{Item}
-use Rattle.mmc.specs.Rp013Commands.{Command, STOP, PLAY, DEFERRED-PLAY, FAST-FORWARD, REWIND, RECORD-STROBE, RECORD-EXIT, PAUSE, MMC-RESET, WRITE, LOCATE-FIELD, LOCATE-TARGET, MOVE, commandBytes, IsCommand, fieldName, Field, FULL, SHORT, fieldBytes, IsField}
+use Rattle.mmc.specs.Rp013Commands.{Command, STOP, PLAY, DEFERRED-PLAY, FAST-FORWARD, REWIND, RECORD-STROBE, RECORD-EXIT, PAUSE, MMC-RESET, WRITE, LOCATE-FIELD, LOCATE-TARGET, MOVE, commandBytes, receivedBytes, IsCommand, fieldName, Field, FULL, SHORT, fieldBytes, IsField}
 use Rattle.mmc.specs.Split.{Located}
-use Rattle.mmc.specs.Strings.{commandPair, countBytes, ruleOf, counted, itemBytes, locatedAt, Found, Given, given, pairOf, emission, back, Sound}
-use Rattle.codes.proofs.Laws.{zeroed-same}
+use Rattle.mmc.specs.Strings.{item, itemFits, commandBack, commandPair, countBytes, ruleOf, counted, itemBytes, locatedAt, Found, Given, given, pairOf, emission, back, Sound}
+use Rattle.codes.proofs.Laws.{zeroed-same, read-only, page-reads-back}
+use Rattle.codes.specs.Rp013Code as page
+use Rattle.codes.specs.declared.time_code.StandardTimeCode.{StandardTimeCode}
 use Rattle.codes.specs.TimeCode.{readFive, readTwo, readStandard, readShort}
 use Rattle.universal.specs.Emission.{Emission, sent}
 use Rattle.universal.specs.Refusals.{gives}
 use Rattle.mmc.proofs.CommandWriting.{command-written-by-page, field-written-by-page}
 use Rattle.mmc.proofs.Ranges.{in-range, above-range, within-told}
-use Rattle.mmc.proofs.StringLaws.{item-split, item-accepted, item-read, meaning-back}
+use Rattle.mmc.proofs.StringLaws.{item-split, item-accepted, item-read, meaning-back, command-back}
 
 -- ---- the page's bytes are read
 
@@ -115,28 +118,6 @@ data-inside kind body pre x post place e p =
     counted-length : (rule : Length) (d : List ℕ) → length (counted rule d) ≡ countBytes rule + length d
     counted-length (Fixed n) d = sym (zero-add (length d))
     counted-length Count d = omega arith
-
--- The page's bytes of a command are read as one that stands for it.
-pub command-read-by-page : (p : Command) (body pre post : List ℕ) (place : ℕ) → IsCommand p → body ≡ pre ++ (commandBytes p ++ post)
-    → place ≡ length pre → CommandAt body place p
-unfolding asGiven
-command-read-by-page p body pre post place h e q =
-    let g : Given Commands = asGiven p in
-    let w : emission Commands g ≡ sent (commandBytes p) = command-written-by-page p (made p .source) (made p .command) h (made p .stands) in
-    let ok : emission Commands g .stop ≡ none = ap (λ (x : Emission). x .stop) w in
-    let s : Sound Commands (pairOf Commands g) (emission Commands g .bytes) = item-accepted Commands g ok in
-    let x : Item = pairOf Commands g in
-    let b : commandBytes p ≡ itemBytes Commands x = ap (λ (y : Emission). y .bytes) (sym w) ∙ s .item-bytes in
-    let e₁ : body ≡ pre ++ (itemBytes Commands x ++ post) = e ∙ ap (λ (l : List ℕ). pre ++ (l ++ post)) b in
-    let f : Found Commands body place x = item-split Commands body pre x post place (s .fits) e₁ q in
-    record {
-      command = back Commands g (locatedAt Commands place x);
-      read =
-          item-read Commands body pre x post place (s .fits) e₁ q
-          ∙ ap₂ (λ (c : MmcCommand) (k : ℕ). record { answer = gives c; place = place + k })
-          (meaning-back Commands g ok (locatedAt Commands place x)) (ap length (sym b));
-      stands = stands-back p h body (locatedAt Commands place x) (data-inside Commands body pre x post place e₁ q) (f .data-bytes);
-    }
 
 fieldOf : Field → InfoField
 fieldOf (FULL f c) = F.TimeCode (fieldName f) c
@@ -379,3 +360,93 @@ field-read-exactly k name d = (λ t. go (readField name d) (field-view name d) (
     go : (j : FieldCase) → FieldView name d j → j ≡ k → k ≢ Fld.other → FieldReadsAs k name d
     go j (namedField r) e n = subst (λ (x : FieldCase). FieldReadsAs x name d) e r
     go j anotherField e n = absurd (n (sym e))
+
+-- ---- the page's bytes of a command are read
+
+-- An item that has a command's bytes, with data past its own or none: what it is read as stands for the command wherever it is.
+record ItemOf (p : Command) (past : List ℕ) : Type 0 where
+  x : Item
+  fits : itemFits Commands x ≡ true
+  bytes : receivedBytes p past ≡ itemBytes Commands x
+  k : CommandCase
+  reads : readCommand (x .name) (x .«data») ≡ k
+  stands : (body : List ℕ) (l : Located) → isInside body (l .«data») ≡ true → partOf body (l .«data») ≡ x .«data»
+      → StandsFor body p (located k (l .name) (l .«data»))
+
+-- A command as it is written.
+own-item : (p : Command) (past : List ℕ) → IsCommand p → receivedBytes p past ≡ commandBytes p → ItemOf p past
+unfolding asGiven
+own-item p past h e =
+    let g : Given Commands = asGiven p in
+    let w : emission Commands g ≡ sent (commandBytes p) = command-written-by-page p (made p .source) (made p .command) h (made p .stands) in
+    let ok : emission Commands g .stop ≡ none = ap (λ (y : Emission). y .stop) w in
+    let s : Sound Commands (pairOf Commands g) (emission Commands g .bytes) = item-accepted Commands g ok in
+    record {
+      x = pairOf Commands g;
+      fits = s .fits;
+      bytes = e ∙ ap (λ (y : Emission). y .bytes) (sym w) ∙ s .item-bytes;
+      k = commandBack (made p .source) (made p .command);
+      reads = command-back (made p .source) (made p .command) ok;
+      stands = λ body l i q. stands-back p h body l i q;
+    }
+
+-- A Locate or a Move, by its sub-command or names and what stands past them.
+counted-item : (name : ℕ) (p : Command) (past d : List ℕ) (k : CommandCase) → itemFits Commands (item (name ∷ []) d) ≡ true
+    → receivedBytes p past ≡ itemBytes Commands (item (name ∷ []) d) → ReadsAs k (name ∷ []) d
+    → ((body : List ℕ) (l : Located) → StandsFor body p (located k (l .name) (l .«data»))) → ItemOf p past
+counted-item name p past d k f b r s =
+    record {
+      x = item (name ∷ []) d;
+      fits = f;
+      bytes = b;
+      k = k;
+      reads = reads-known k (name ∷ []) d r .0;
+      stands = λ body l i q. s body l;
+    }
+
+-- The bytes of a code that the page has are read as it.
+code-back : (c : StandardTimeCode) → page.allowed c ≡ true → c ≡ readFive (page.written c)
+code-back c h = sym (read-only _ _ _ _ _ c (page-reads-back c h))
+
+received : (p : Command) (past : List ℕ) → IsCommand p → ItemOf p past
+unfolding itemFits itemBytes nameFits lengthOf commandLength
+received STOP past h = own-item STOP past h refl
+received PLAY past h = own-item PLAY past h refl
+received DEFERRED-PLAY past h = own-item DEFERRED-PLAY past h refl
+received FAST-FORWARD past h = own-item FAST-FORWARD past h refl
+received REWIND past h = own-item REWIND past h refl
+received RECORD-STROBE past h = own-item RECORD-STROBE past h refl
+received RECORD-EXIT past h = own-item RECORD-EXIT past h refl
+received PAUSE past h = own-item PAUSE past h refl
+received MMC-RESET past h = own-item MMC-RESET past h refl
+received (WRITE fields) past h = own-item (WRITE fields) past h refl
+received (LOCATE-FIELD register) past h =
+    let n : 2 + length past ≡ suc (suc (length past)) = omega arith in
+    counted-item 68 (LOCATE-FIELD register) past (0 ∷ register ∷ past) (locateField register) refl
+    (ap (λ (k : ℕ). 68 ∷ k ∷ 0 ∷ register ∷ past) n) (refl, past, refl, λ e. omega (arith, h .0)) (λ body l. refl)
+received (LOCATE-TARGET c) past h =
+    let n : 6 + length past ≡ suc (suc (suc (suc (suc (suc (length past)))))) = omega arith in
+    counted-item 68 (LOCATE-TARGET c) past (1 ∷ (page.written c ++ past)) (locateTarget c) refl
+    (ap (λ (k : ℕ). 68 ∷ k ∷ 1 ∷ (page.written c ++ past)) n) (refl, page.written c, past, refl, refl, code-back c (h .0)) (λ body l. refl)
+received (MOVE destination from) past h =
+    let n : 2 + length past ≡ suc (suc (length past)) = omega arith in
+    counted-item 76 (MOVE destination from) past (destination ∷ from ∷ past) (move destination from) refl
+    (ap (λ (k : ℕ). 76 ∷ k ∷ destination ∷ from ∷ past) n)
+    (refl, past, refl, λ e. omega (arith, h .0), λ e. omega (arith, h .2)) (λ body l. refl)
+
+-- The page's bytes of a command, with data past its own or none, are read as one that stands for it.
+pub command-read-by-page : (p : Command) (past body pre post : List ℕ) (place : ℕ) → IsCommand p
+    → body ≡ pre ++ (receivedBytes p past ++ post) → place ≡ length pre → CommandAt body place p past
+command-read-by-page p past body pre post place h e q =
+    let i : ItemOf p past = received p past h in
+    let e₁ : body ≡ pre ++ (itemBytes Commands (i .x) ++ post) = e ∙ ap (λ (l : List ℕ). pre ++ (l ++ post)) (i .bytes) in
+    let f : Found Commands body place (i .x) = item-split Commands body pre (i .x) post place (i .fits) e₁ q in
+    let l : Located = locatedAt Commands place (i .x) in
+    record {
+      command = located (i .k) (l .name) (l .«data»);
+      read =
+          item-read Commands body pre (i .x) post place (i .fits) e₁ q
+          ∙ ap₂ (λ (c : CommandCase) (k : ℕ). record { answer = gives (located c (l .name) (l .«data»)); place = place + k })
+          (i .reads) (ap length (sym (i .bytes)));
+      stands = i .stands body l (data-inside Commands body pre (i .x) post place e₁ q) (f .data-bytes);
+    }

@@ -17,9 +17,9 @@ use Rattle.mmc.specs.Length.{within}
 use Rattle.mmc.specs.Rp013.{subId1, lastDevice}
 use Rattle.mmc.specs.Strings.{Given, emission, emissions, counted}
 use Rattle.mmc.specs.Write as W
-use Rattle.mmc.specs.Write.{Writing, sound, openedCommands, openedFields, begun, admitted, closedMessage, ended, wholeMessage}
+use Rattle.mmc.specs.Write.{Writing, sound, openedCommands, openedFields, begun, admitted, closedMessage, closedFields, ended, wholeMessage, wholeFields}
 use Rattle.mmc.specs.Writings.{State, opened, afterItem, afterItems, openingOf, fieldsOpened}
-use Rattle.mmc.specs.WholeLists.{Entry, entry, entryEmission, afterEntry, afterEntries, entriesEmission}
+use Rattle.mmc.specs.WholeLists.{checks, checksBy, Entry, entry, entryEmission, afterEntry, afterEntries, entriesEmission}
 use Rattle.universal.specs.Refusals.{Refusal}
 use Rattle.universal.specs.Emission.{Emission, sent, stopped, check, resume, _then_, fitted, answerIn, answer}
 use Rattle.universal.specs.Message.{header}
@@ -277,3 +277,28 @@ ends-message found e most s h =
     go none true = ap (λ (k : ℕ). fitted (leb k (length found)) k) (sym (length-append (e .bytes) (247 ∷ [])))
     go none false = refl
     go (some r) b = refl
+
+-- Closed as fields it answers its own length.
+pub ends-fields : (found : List ℕ) (e : Emission) (most : ℕ) (s : State) → Holds found e most s
+    → wholeFields (s .writing) (length found) ≡ answer e (length found)
+unfolding wholeFields closedFields answer
+ends-fields found e most s h =
+    ap₂ (λ (t : Option Refusal) (k : ℕ). ended (resume [] t (sent []) .stop) k (length found))
+    (ap (λ (v : Writing). v .stop) (kept-sound (s .writing) (h .kept)) ∙ h .stop) (h .at)
+    ∙ go (e .stop)
+  where
+    go : (t : Option Refusal) → ended (resume [] t (sent []) .stop) (length (e .bytes)) (length found) ≡ answerIn t (length (e .bytes)) (length found)
+    go none = refl
+    go (some r) = refl
+
+-- ---- what each item is answered
+
+-- Each is answered by what was emitted so far.
+pub checks-by : (kind : Kind) (found : List ℕ) (gs : List (Given kind)) (e : Emission) (most : ℕ) (s : State) → Holds found e most s
+    → most + length gs ≤ 256 → checks kind s gs ≡ checksBy kind e gs
+unfolding checks checksBy W.given
+checks-by kind found [] e most s h few = refl
+checks-by kind found (g ∷ gs) e most s h few =
+    let k : Holds found (e then emission kind g) (suc most) (afterItem kind s g) =
+    holds-entry found e most s (entry kind g) h (omega arith) in
+    ap₂ {C = List (Option Refusal)} _∷_ (k .stop) (checks-by kind found gs (e then emission kind g) (suc most) (afterItem kind s g) k (omega arith))

@@ -1,7 +1,7 @@
 -- The laws of writing. The calls of a writing one by one answer and leave what mmc.rs does with the whole list in one piece; what is
 -- accepted, and what is then read back; what a failed writer does; how far any calls get. Assumes nothing.
 use Prim.Native.Nat.{ℕ, suc, _+_, _≤_, _<_, suc-le-suc}
-use mathlib.Core.Path.{_≡_, refl, sym, ap, ap₂, subst, _∙_}
+use mathlib.Core.Path.{_≡_, refl, sym, ap, subst, _∙_}
 use mathlib.Core.Bool.{Bool, true, false, cond, _&&_}
 use mathlib.Core.Logic.{_⊎_, inl, inr, _↔_}
 use mathlib.Core.List.{List, [], _∷_, _++_}
@@ -10,30 +10,30 @@ use native.Mathlib.Nat.{add-zero, zero-lt-suc}
 use native.Mathlib.Omega.{arith}
 use borrow.Author.Tests.{ne-eqb}
 use lib.Dec.{leb, lit≤}
-use lib.ListN.{length, getD, length-append}
+use lib.ListN.{length, take, getD, length-append}
 use Rattle.mmc.specs.declared.length.Kind.{Kind}
 use Rattle.mmc.specs.declared.length.Kind.the-variants.{Commands, Fields}
 use Rattle.mmc.specs.Length.{within}
 use Rattle.mmc.specs.Named.{summed, nameFits}
 use Rattle.mmc.specs.Rp013.{Item, Message, subId1, lastDevice, envelope}
-use Rattle.mmc.specs.Strings.{Given, emission, emissions, pairsOf, anyZeros, itemBytes, pairOf, Sound, readFrom, ruleOf, counted, dataFits, itemFits}
+use Rattle.mmc.specs.Strings.{Given, emission, emissions, pairsOf, anyZeros, itemBytes, pairOf, Sound, readFrom, ruleOf, counted, dataFits, itemFits, meanings}
 use Rattle.mmc.specs.Message.{messageFrom}
 use Rattle.mmc.specs.Write as W
 use Rattle.mmc.specs.Write.{Writing, sound, openedCommands, admitted, moved, closedFields, ended, wholeMessage, wholeFields}
 use Rattle.mmc.specs.Writings.{State, opened, afterItem, afterItems, openingOf, stringState, stringAnswer, stringLeft, stringOf, headerOf, upToClose, bodyOf, fieldsOpened, fieldsAnswer, fieldsLeft}
-use Rattle.mmc.specs.WholeLists.{messageEmission, fieldsEmission, Accepts, checks, AllAccepted, NoneRefused, ReadBack, Entry, entryEmission, afterEntry, afterEntries, entriesEmission, HoldsAll, Repeats, InLimits}
+use Rattle.mmc.specs.WholeLists.{messageEmission, fieldsEmission, Accepts, AcceptsFields, checks, checksBy, AllAccepted, NoneRefused, NoneRefusedFields, ReadBack, Entry, entryEmission, afterEntry, afterEntries, entriesEmission, HoldsAll, Repeats, InLimits}
 use Rattle.universal.specs.Refusals.{Refusal, refusal, gives}
-use Rattle.universal.specs.Emission.{Emission, sent, stopped, check, resume, _then_, answerIn, answer}
+use Rattle.universal.specs.Emission.{Emission, sent, stopped, check, resume, _then_, answer}
 use Rattle.universal.specs.Message.{opening}
 use Rattle.universal.specs.Overlay.{overlay}
-use Rattle.universal.proofs.Laws.{overlay-none, then-sent, then-assoc, then-accepted, answer-fits, opening-plain, all-low-byte}
-use Rattle.mmc.proofs.Holding.{none-some, entry-small, OpensWhole, opens-whole, opened-kept, fields-kept, Holds, holds-entries, holds-items, holds-opened, holds-fields, rule-of-48, ends-message}
+use Rattle.universal.proofs.Laws.{overlay-none, then-sent, then-assoc, then-accepted, answer-fits, answer-gives, opening-plain, all-low-byte}
+use Rattle.mmc.proofs.Holding.{none-some, entry-small, OpensWhole, opens-whole, opened-kept, fields-kept, Holds, holds-entries, holds-items, holds-opened, holds-fields, rule-of-48, ends-message, ends-fields, checks-by}
 use Rattle.universal.proofs.Tests.{and-parts}
 use Rattle.mmc.proofs.Puts.{name-length}
 use Rattle.mmc.proofs.Ranges.{in-range}
 use Rattle.mmc.proofs.StringLaws.{item-accepted, list-accepted, list-message, written-reads-back, string-message}
 use Rattle.mmc.proofs.Writers.{ready-failed, repeats, response-opening, close-repeats}
-use Rattle.mmc.proofs.Accepting.{Kept, kept-sound, given-kept, all-taken, WrittenWhole, written-whole}
+use Rattle.mmc.proofs.Accepting.{not-failed, Taken, taken, all-taken, ended-gives, front, WrittenWhole, written-whole, Kept, given-kept}
 
 -- ---- a whole list, in one piece
 
@@ -65,21 +65,20 @@ string-whole kind device gs out few =
 -- So do the calls of a string of fields.
 pub fields-whole : (gs : List (Given Fields)) (out : List ℕ) → length gs ≤ 256
     → (fieldsAnswer gs out ≡ answer (fieldsEmission gs) (length out)) × (fieldsLeft gs out ≡ overlay out 0 (fieldsEmission gs .bytes))
-unfolding fieldsAnswer fieldsLeft wholeFields closedFields answer
+unfolding fieldsAnswer fieldsLeft
 fields-whole gs out few =
     let h = holds-items Fields out gs (sent []) (fieldsOpened out) (holds-fields out) few in
-    let w : Writing = afterItems Fields (fieldsOpened out) gs .writing in (
-      ap₂ (λ (t : Option Refusal) (k : ℕ). ended (resume [] t (sent []) .stop) k (length out))
-          (ap (λ (v : Writing). v .stop) (kept-sound w (h .kept)) ∙ h .stop) (h .at)
-          ∙ go (emissions Fields gs .stop),
-      h .out,
-    )
-  where
-    go : (t : Option Refusal)
-        → ended (resume [] t (sent []) .stop) (length (emissions Fields gs .bytes)) (length out)
-        ≡ answerIn t (length (emissions Fields gs .bytes)) (length out)
-    go none = refl
-    go (some r) = refl
+    (ends-fields out (emissions Fields gs) (0 + length gs) (afterItems Fields (fieldsOpened out) gs) h, h .out)
+
+-- Each item is answered by what was emitted so far: nothing up to the first that is refused, and from it on that refusal.
+pub string-checks : (kind : Kind) (device : ℕ) (gs : List (Given kind)) (out : List ℕ) → length gs ≤ 256
+    → checks kind (opened (openingOf kind device) out) gs ≡ checksBy kind (openingOf kind device) gs
+string-checks kind device gs out few =
+    checks-by kind out gs (openingOf kind device) 0 (opened (openingOf kind device) out) (holds-opened kind device out) (omega arith)
+
+pub fields-checks : (gs : List (Given Fields)) (out : List ℕ) → length gs ≤ 256
+    → checks Fields (fieldsOpened out) gs ≡ checksBy Fields (sent []) gs
+fields-checks gs out few = checks-by Fields out gs (sent []) 0 (fieldsOpened out) (holds-fields out) (omega arith)
 
 -- ---- what is accepted
 
@@ -111,14 +110,14 @@ device-of kind device h = go (opens-whole kind device)
     go (inl p) = absurd (none-some (refusal (p .0)) (sym (ap (λ (e : Emission). e .stop) (p .1)) ∙ h))
     go (inr p) = p .0
 
-opening-of : (kind : Kind) (device : ℕ) → device ≤ lastDevice kind
+opening-sent : (kind : Kind) (device : ℕ) → device ≤ lastDevice kind
     → openingOf kind device ≡ sent (240 ∷ 127 ∷ device ∷ subId1 kind ∷ [])
 unfolding openedCommands
-opening-of Commands device d = opening-plain true device 6 d refl (lit≤ tt)
-opening-of Fields device d =
+opening-sent Commands device d = opening-plain true device 6 d refl (lit≤ tt)
+opening-sent Fields device d =
     response-opening device (λ e. omega arith) ∙ opening-plain true device 7 (omega arith) refl (lit≤ tt)
 
--- A writing is accepted exactly then.
+-- A writing is accepted exactly where `Accepts` holds.
 pub string-accepted : (kind : Kind) (device : ℕ) (gs : List (Given kind)) (out : List ℕ) (n : ℕ)
     → (stringAnswer kind device gs out ≡ gives n) ↔ Accepts kind device gs (length out) n
 unfolding messageEmission
@@ -137,7 +136,7 @@ string-accepted kind device gs out n = (
       let bs : List ℕ = emissions kind gs .bytes in
       let few : length gs ≤ 256 = omega (arith, few-items kind gs (a .items), a .most) in
       let e : messageEmission kind device gs ≡ sent ((240 ∷ 127 ∷ device ∷ subId1 kind ∷ []) ++ bs ++ 247 ∷ []) =
-      rw (opening-of kind device (a .device-id), in-range 1 49 (length bs) (a .least) (omega (arith, a .most)))
+      rw (opening-sent kind device (a .device-id), in-range 1 49 (length bs) (a .least) (omega (arith, a .most)))
       (ap (λ (t : Option Refusal). sent (240 ∷ 127 ∷ device ∷ subId1 kind ∷ []) then resume bs t (sent (247 ∷ []))) (a .items)) in
       let l : length ((240 ∷ 127 ∷ device ∷ subId1 kind ∷ []) ++ bs ++ 247 ∷ []) ≡ n =
       omega (arith, a .whole, length-append bs (247 ∷ [])) in
@@ -170,6 +169,67 @@ accepted-none-refused kind device gs out n = (
   λ r. r .close,
 )
 
+-- ---- strings of fields, likewise
+
+-- A list that no call refused has at most 256 items.
+few-taken : (kind : Kind) (gs : List (Given kind)) (s : State) → s .writing .items ≤ 256 → afterItems kind s gs .writing .stop ≡ none
+    → s .writing .items + length gs ≤ 256
+unfolding afterItems W.given
+few-taken kind [] s l h = omega arith
+few-taken kind (g ∷ gs) s l h =
+    let t : Taken (s .writing) (emission kind g) = taken (s .writing) (emission kind g) (all-taken kind gs (afterItem kind s g) h .going) in
+    let one : afterItem kind s g .writing .items ≡ s .writing .items + 1 =
+    ap (λ (e : Emission). W.counted (e .stop) (s .writing .items)) (t .whole) ∙ ap (λ (k : Option Refusal). W.counted k (s .writing .items)) (t .own) in
+    let rest = few-taken kind gs (afterItem kind s g) (omega (arith, t .room)) h in
+    omega (arith, one)
+
+-- The close of a string of fields that answered a length came after no refusal.
+fields-going : (w : Writing) (room n : ℕ) → wholeFields w room ≡ gives n → w .stop ≡ none
+unfolding wholeFields closedFields
+fields-going w room n h =
+    not-failed w (then-accepted (record { bytes = []; stop = sound w .stop }) (sent []) (ended-gives (closedFields w .stop) (w .at) room n h .0) .0)
+
+-- A string of fields is accepted exactly where `AcceptsFields` holds.
+pub fields-accepted : (gs : List (Given Fields)) (out : List ℕ) (n : ℕ)
+    → (fieldsAnswer gs out ≡ gives n) ↔ AcceptsFields gs (length out) n
+unfolding fieldsAnswer
+fields-accepted gs out n = (
+  λ h.
+      let g = fields-going (afterItems Fields (fieldsOpened out) gs .writing) (length out) n h in
+      let few : length gs ≤ 256 = omega (arith, few-taken Fields gs (fieldsOpened out) (lit≤ tt) g) in
+      let t = all-taken Fields gs (fieldsOpened out) g in
+      let k = answer-gives (emissions Fields gs) (length out) n (sym (fields-whole gs out few .0) ∙ h) in
+      record { items = t .own; few = few; whole = k .0; room-for = k .1 },
+  λ a.
+      fields-whole gs out (a .few) .0
+      ∙ answer-fits (emissions Fields gs) (length out) (a .items) (omega (arith, a .whole, a .room-for))
+      ∙ ap gives (sym (a .whole)),
+)
+
+-- It is so just where none of its calls is refused.
+pub fields-none-refused : (gs : List (Given Fields)) (out : List ℕ) (n : ℕ) → (fieldsAnswer gs out ≡ gives n) ↔ NoneRefusedFields gs out n
+unfolding fieldsAnswer
+fields-none-refused gs out n = (
+  λ h.
+      record {
+        items =
+            each-accepted Fields gs (fieldsOpened out)
+            (fields-going (afterItems Fields (fieldsOpened out) gs .writing) (length out) n h);
+        close = h;
+      },
+  λ r. r .close,
+)
+
+-- What it then left is the list's own bytes, which read back as each item's name and data are read, to the end.
+pub fields-read-back : (gs : List (Given Fields)) (out : List ℕ) (n : ℕ) → fieldsAnswer gs out ≡ gives n
+    → (take n (fieldsLeft gs out) ≡ emissions Fields gs .bytes)
+    × (readFrom Fields (take n (fieldsLeft gs out)) 0 ≡ record { items = meanings Fields 0 (pairsOf Fields gs); stop = refusal 9 })
+fields-read-back gs out n h =
+    let a = fields-accepted gs out n .0 h in
+    let b : take n (fieldsLeft gs out) ≡ emissions Fields gs .bytes =
+    ap (take n) (fields-whole gs out (a .few) .1) ∙ front out (emissions Fields gs .bytes) n (a .whole) (a .room-for) in
+    (b, ap (λ (s : List ℕ). readFrom Fields s 0) b ∙ written-reads-back Fields gs (a .items))
+
 -- ---- what an accepted writing is
 
 -- It is the list's bytes in the envelope of its kind, as many as were answered.
@@ -194,7 +254,7 @@ up-to-close (b ∷ bs) h =
     let l : b ≤ 127 = h 0 (zero-lt-suc (length bs)) in
     rw (ne-eqb b 247 (λ e. omega arith)) (ap (λ (t : List ℕ). b ∷ t) (up-to-close bs (λ i k. h (suc i) (suc-le-suc k))))
 
--- An accepted writing reads back so, commands and responses alike.
+-- An accepted writing reads back as `ReadBack` says, commands and responses alike.
 pub accepted-reads-back : (kind : Kind) (device : ℕ) (gs : List (Given kind)) (out : List ℕ) (n : ℕ)
     → stringAnswer kind device gs out ≡ gives n → ReadBack kind device gs (stringOf kind device gs out n)
 accepted-reads-back kind device gs out n h =
@@ -283,14 +343,28 @@ fields-in-limits out xs = in-limits (afterEntries (fieldsOpened out) xs .writing
 
 -- ---- commands and fields in one writing
 
-holds-all : {found : List ℕ} {e : Emission} {most : ℕ} {s : State} → Holds found e most s → HoldsAll found e s
-holds-all h = record { position = h .at; refused-by = h .stop; left = h .out }
+holds-all : (found : List ℕ) (e : Emission) (most : ℕ) (s : State) → Holds found e most s → HoldsAll found e s
+holds-all found e most s h =
+    let k = ends-message found e most s h in
+    record {
+      position = h .at;
+      refused-by = h .stop;
+      left = h .out;
+      as-message = k .answers;
+      message-left = k .leaves;
+      as-fields = ends-fields found e most s h;
+    }
 
+-- After an opening of commands or of responses.
 pub message-entries : (kind : Kind) (device : ℕ) (out : List ℕ) (xs : List Entry) → length xs ≤ 256
     → HoldsAll out (openingOf kind device then entriesEmission xs) (afterEntries (opened (openingOf kind device) out) xs)
 message-entries kind device out xs few =
-    holds-all (holds-entries out xs (openingOf kind device) 0 (opened (openingOf kind device) out) (holds-opened kind device out) (omega arith))
+    holds-all out (openingOf kind device then entriesEmission xs) (0 + length xs) (afterEntries (opened (openingOf kind device) out) xs)
+    (holds-entries out xs (openingOf kind device) 0 (opened (openingOf kind device) out) (holds-opened kind device out) (omega arith))
 
+-- In a string of fields.
 pub fields-entries : (out : List ℕ) (xs : List Entry) → length xs ≤ 256
     → HoldsAll out (entriesEmission xs) (afterEntries (fieldsOpened out) xs)
-fields-entries out xs few = holds-all (holds-entries out xs (sent []) 0 (fieldsOpened out) (holds-fields out) (omega arith))
+fields-entries out xs few =
+    holds-all out (entriesEmission xs) (0 + length xs) (afterEntries (fieldsOpened out) xs)
+    (holds-entries out xs (sent []) 0 (fieldsOpened out) (holds-fields out) (omega arith))

@@ -17,7 +17,7 @@ use Rattle.mmc.specs.Command.{CommandCase, nextCommand, stop, play, defe
 use Rattle.mmc.specs.Field as Fld
 use Rattle.mmc.specs.Field.{FieldCase, timeCode, short, nextField}
 use Rattle.mmc.specs.Part.{isInside, partOf}
-use Rattle.mmc.specs.Rp013Commands.{Command, STOP, PLAY, DEFERRED-PLAY, FAST-FORWARD, REWIND, RECORD-STROBE, RECORD-EXIT, PAUSE, MMC-RESET, WRITE, LOCATE-FIELD, LOCATE-TARGET, MOVE, commandBytes, IsFf, IsCommand, SELECTED-TIME-CODE, GP0, fieldName, HasForm, Field, FULL, SHORT, fieldBytes}
+use Rattle.mmc.specs.Rp013Commands.{Command, STOP, PLAY, DEFERRED-PLAY, FAST-FORWARD, REWIND, RECORD-STROBE, RECORD-EXIT, PAUSE, MMC-RESET, WRITE, LOCATE-FIELD, LOCATE-TARGET, MOVE, receivedBytes, IsFf, IsCommand, SELECTED-TIME-CODE, GP0, fieldName, HasForm, Field, FULL, SHORT, fieldBytes}
 use Rattle.mmc.specs.Strings.{item, itemBytes, itemFits}
 use Rattle.codes.specs.Rp013Code.{allowed, shortAllowed}
 use Rattle.codes.specs.TimeCode.{readFive, readTwo, zeroed}
@@ -40,7 +40,7 @@ StandsFor source RECORD-EXIT c = c ≡ C.RecordExit
 StandsFor source PAUSE c = c ≡ C.Pause
 StandsFor source MMC-RESET c = c ≡ C.Reset
 StandsFor source (WRITE fields) c = (d : Part) × (c ≡ C.Write d) × (isInside source d ≡ true) × (partOf source d ≡ fields)
-StandsFor source (LOCATE-FIELD field) c = c ≡ C.LocateField field
+StandsFor source (LOCATE-FIELD register) c = c ≡ C.LocateField register
 StandsFor source (LOCATE-TARGET t) c = c ≡ C.LocateTarget t
 StandsFor source (MOVE destination from) c = c ≡ C.Move destination from
 
@@ -49,10 +49,11 @@ abbrev pub FieldStandsFor : Field → InfoField → Type 0
 FieldStandsFor (FULL f c) x = x ≡ F.TimeCode (fieldName f) c
 FieldStandsFor (SHORT f rate c) x = x ≡ F.Short (fieldName f) c
 
--- Where the page's bytes of a command stand in a string, one is read that stands for it, and reading goes on after them.
-pub record CommandAt (body : List ℕ) (place : ℕ) (p : Command) : Type 0 where
+-- Where the page's bytes of a command stand in a string, with data past its own or none, one is read that stands for it, and reading
+-- goes on after them.
+pub record CommandAt (body : List ℕ) (place : ℕ) (p : Command) (past : List ℕ) : Type 0 where
   pub command : MmcCommand
-  pub read : nextCommand body place ≡ record { answer = gives command; place = place + length (commandBytes p) }
+  pub read : nextCommand body place ≡ record { answer = gives command; place = place + length (receivedBytes p past) }
   pub stands : StandsFor body p command
 
 -- Where those of a field stand, likewise.
@@ -63,8 +64,8 @@ pub record FieldAt (body : List ℕ) (place : ℕ) (p : Field) : Type 0 where
 
 -- ---- what is read, exactly
 
--- The names and data that are read as each case. Beyond the page: data past what a Locate or a Move defines, any register but 00H,
--- any five bytes as a target, any two names but 00H, and a Write's data whatever they are.
+-- The names and data that are read as each case. Beyond the page: any register but 00H, any five bytes as a target, any two names
+-- but 00H, and a Write's data whatever they are.
 abbrev pub ReadsAs : CommandCase → List ℕ → List ℕ → Type 0
 ReadsAs stop name d = name ≡ 0x01 ∷ []
 ReadsAs play name d = name ≡ 0x02 ∷ []
@@ -100,8 +101,8 @@ pub record Writable (kind : Kind) (name d : List ℕ) : Type 0 where
   pub fits : itemFits kind (item name d) ≡ true
   pub low : allLow (itemBytes kind (item name d)) ≡ true
 
--- The commands that may be written. Beyond the page: a Write's data whatever they are, a blank target with counts, and any other
--- name and data.
+-- The commands that may be written. Beyond the page: a Write's data of up to 127 bytes to 7FH, whole fields or not, and a blank target
+-- with counts. Beyond the transport tier: any other name and data by the length rule, the name 00 00 00 too.
 abbrev pub Writes : List ℕ → MmcCommand → Type 0
 Writes source C.Stop = Unit
 Writes source C.Play = Unit
@@ -119,7 +120,7 @@ Writes source (C.Move d s) = IsCommand (MOVE d s)
 Writes source (C.Other n d) =
     (isInside source n ≡ true) × (isInside source d ≡ true) × Writable Commands (partOf source n) (partOf source d)
 
--- A field's name, and the form of the page where it is one of the page's two. Beyond the page: any other name 01H to 1FH, in either
+-- A field's name, and the form of the page where it is one of the tier's two. Beyond the tier: any other name 01H to 1FH, in either
 -- form and with either sign.
 pub record InForm (f : ℕ) (negative : Bool) (last : FinalByte) : Type 0 where
   pub name : IsFieldName f

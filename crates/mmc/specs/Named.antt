@@ -1,6 +1,6 @@
 -- A name and its data written by the length rule, as 001 does it: the bytes emitted before the refusing check. Assumes nothing.
 use Prim.Native.Nat.{ℕ, _-_}
-use mathlib.Core.Bool.{Bool, true, false, not, _&&_}
+use mathlib.Core.Bool.{Bool, false, not, _&&_}
 use mathlib.Core.List.{List, [], _∷_}
 use mathlib.Core.Option.{Option, none, some}
 use lib.Dec.{leb, eqb}

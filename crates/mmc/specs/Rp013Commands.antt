@@ -4,7 +4,7 @@
 use Prim.Native.Nat.{ℕ, _+_, _≤_, _<_}
 use mathlib.Core.Path.{_≡_}
 use mathlib.Core.Bool.{Bool, true, false}
-use mathlib.Core.List.{List, [], _∷_}
+use mathlib.Core.List.{List, [], _∷_, _++_}
 use lib.ListN.{length, getD}
 use Rattle.mmc.specs.declared.length.Kind.the-variants.{Fields}
 use Rattle.mmc.specs.Rp013.{WellFormed}
@@ -17,7 +17,8 @@ use Rattle.labels.specs.declared.time.TimeCodeType.{TimeCodeType}
 
 -- ---- commands
 
--- WRITE has the names and data of fields, LOCATE [I/F] a field's name, LOCATE [TARGET] a time code, MOVE a destination and a source.
+-- WRITE has the names and data of fields, LOCATE [I/F] a register's name, LOCATE [TARGET] a time code, MOVE a destination and a
+-- source.
 pub data Command : Type 0 where
   STOP PLAY DEFERRED-PLAY FAST-FORWARD REWIND RECORD-STROBE RECORD-EXIT PAUSE MMC-RESET : Command
   WRITE : List ℕ → Command
@@ -25,7 +26,7 @@ pub data Command : Type 0 where
   LOCATE-TARGET : StandardTimeCode → Command
   MOVE : ℕ → ℕ → Command
 
--- The bytes of a command: its name, and from 40H on a count byte and so many data.
+-- The bytes of a command: its name, and from 40H to 77H a count byte and so many data.
 abbrev pub commandBytes : Command → List ℕ
 commandBytes STOP = 0x01 ∷ []
 commandBytes PLAY = 0x02 ∷ []
@@ -37,9 +38,26 @@ commandBytes RECORD-EXIT = 0x07 ∷ []
 commandBytes PAUSE = 0x09 ∷ []
 commandBytes MMC-RESET = 0x0D ∷ []
 commandBytes (WRITE fields) = 0x40 ∷ length fields ∷ fields
-commandBytes (LOCATE-FIELD field) = 0x44 ∷ 0x02 ∷ 0x00 ∷ field ∷ []
+commandBytes (LOCATE-FIELD register) = 0x44 ∷ 0x02 ∷ 0x00 ∷ register ∷ []
 commandBytes (LOCATE-TARGET c) = 0x44 ∷ 0x06 ∷ 0x01 ∷ written c
 commandBytes (MOVE destination source) = 0x4C ∷ 0x02 ∷ destination ∷ source ∷ []
+
+-- Received, a count above the defined length has the defined bytes first, and the rest is skipped (p. 5): a LOCATE or a MOVE with
+-- data past its own. The others have no defined length to pass.
+abbrev pub receivedBytes : Command → List ℕ → List ℕ
+receivedBytes (LOCATE-FIELD register) past = 0x44 ∷ (0x02 + length past) ∷ 0x00 ∷ register ∷ past
+receivedBytes (LOCATE-TARGET c) past = 0x44 ∷ (0x06 + length past) ∷ 0x01 ∷ (written c ++ past)
+receivedBytes (MOVE destination source) past = 0x4C ∷ (0x02 + length past) ∷ destination ∷ source ∷ past
+receivedBytes STOP past = commandBytes STOP
+receivedBytes PLAY past = commandBytes PLAY
+receivedBytes DEFERRED-PLAY past = commandBytes DEFERRED-PLAY
+receivedBytes FAST-FORWARD past = commandBytes FAST-FORWARD
+receivedBytes REWIND past = commandBytes REWIND
+receivedBytes RECORD-STROBE past = commandBytes RECORD-STROBE
+receivedBytes RECORD-EXIT past = commandBytes RECORD-EXIT
+receivedBytes PAUSE past = commandBytes PAUSE
+receivedBytes MMC-RESET past = commandBytes MMC-RESET
+receivedBytes (WRITE fields) past = commandBytes (WRITE fields)
 
 -- The form {ff}: fractional frames.
 abbrev pub IsFf : FinalByte → Type 0
@@ -53,7 +71,7 @@ pub record WrittenFields (fields : List ℕ) : Type 0 where
   pub well-formed : WellFormed Fields fields
 
 -- Which commands there are: LOCATE [I/F] to 08H (GP0) to 0FH (GP7), LOCATE [TARGET] with a time code in the form {ff}, MOVE between
--- fields 01H to 1FH.
+-- fields 01H to 1FH. The source cites no rule on the sign or the blank flag of a target, so both are let through.
 abbrev pub IsCommand : Command → Type 0
 IsCommand STOP = Unit
 IsCommand PLAY = Unit
@@ -65,7 +83,7 @@ IsCommand RECORD-EXIT = Unit
 IsCommand PAUSE = Unit
 IsCommand MMC-RESET = Unit
 IsCommand (WRITE fields) = WrittenFields fields
-IsCommand (LOCATE-FIELD field) = (0x08 ≤ field) × (field ≤ 0x0F)
+IsCommand (LOCATE-FIELD register) = (0x08 ≤ register) × (register ≤ 0x0F)
 IsCommand (LOCATE-TARGET c) = (allowed c ≡ true) × IsFf (c .«final_byte»)
 IsCommand (MOVE destination source) = (0x01 ≤ destination) × (destination ≤ 0x1F) × (0x01 ≤ source) × (source ≤ 0x1F)
 

@@ -13,8 +13,8 @@ use Rattle.mmc.specs.Message.{messageFrom}
 use Rattle.mmc.specs.Rp013.{lastDevice}
 use Rattle.mmc.specs.Strings.{Given, emission, emissions, pairsOf, meanings, readFrom}
 use Rattle.mmc.specs.Write.{Writing, sound, admitted, closedMessage, wholeMessage, wholeFields}
-use Rattle.mmc.specs.Writings.{State, opened, afterItem, openingOf, stringAnswer, headerOf, bodyOf, messageOf}
-use Rattle.universal.specs.Emission.{Emission, sent, check, _then_}
+use Rattle.mmc.specs.Writings.{State, opened, afterItem, openingOf, stringAnswer, headerOf, bodyOf, messageOf, fieldsOpened, fieldsAnswer}
+use Rattle.universal.specs.Emission.{Emission, sent, check, _then_, answer}
 use Rattle.universal.specs.Overlay.{overlay}
 use Rattle.universal.specs.Refusals.{Refusal, refusal, gives, refused}
 
@@ -44,10 +44,24 @@ pub record Accepts (kind : Kind) (device : ℕ) (gs : List (Given kind)) (room n
   pub whole : n ≡ length (emissions kind gs .bytes) + 5
   pub room-for : n ≤ room
 
--- What each item of a list is answered: nothing, or its refusal.
+-- The same for a string of fields, which has no device, no envelope and no rule of 48: its items are accepted, at most 256, and the
+-- buffer has room for their bytes.
+pub record AcceptsFields (gs : List (Given Fields)) (room n : ℕ) : Type 0 where
+  pub items : emissions Fields gs .stop ≡ none
+  pub few : length gs ≤ 256
+  pub whole : n ≡ length (emissions Fields gs .bytes)
+  pub room-for : n ≤ room
+
+-- What each item of a list is answered, call by call: nothing, or its refusal.
 unfoldable pub checks : (kind : Kind) → State → List (Given kind) → List (Option Refusal)
 checks kind s [] = []
 checks kind s (g ∷ gs) = admitted (s .writing) (emission kind g) .stop ∷ checks kind (afterItem kind s g) gs
+
+-- What each is answered by what was emitted so far: the refusal that ended it, if any did. So it is nothing up to the first item that
+-- is refused, and from it on that item's refusal.
+unfoldable pub checksBy : (kind : Kind) → Emission → List (Given kind) → List (Option Refusal)
+checksBy kind e [] = []
+checksBy kind e (g ∷ gs) = (e then emission kind g) .stop ∷ checksBy kind (e then emission kind g) gs
 
 -- Each of them is nothing.
 abbrev pub AllAccepted : List (Option Refusal) → Type 0
@@ -59,6 +73,11 @@ pub record NoneRefused (kind : Kind) (device : ℕ) (gs : List (Given kind)) (ou
   pub opening : openingOf kind device .stop ≡ none
   pub items : AllAccepted (checks kind (opened (openingOf kind device) out) gs)
   pub close : stringAnswer kind device gs out ≡ gives n
+
+-- Likewise of a string of fields.
+pub record NoneRefusedFields (gs : List (Given Fields)) (out : List ℕ) (n : ℕ) : Type 0 where
+  pub items : AllAccepted (checks Fields (fieldsOpened out) gs)
+  pub close : fieldsAnswer gs out ≡ gives n
 
 -- ---- what an accepted writing is
 
@@ -99,11 +118,19 @@ unfoldable pub entriesEmission : List Entry → Emission
 entriesEmission [] = sent []
 entriesEmission (e ∷ es) = entryEmission e then entriesEmission es
 
--- What any list of up to 256 commands and fields leaves, in whichever string: their own emissions after the opening.
+-- What emitted bytes are, closed as a message: F7H after 5 to 52 of them, the opening's four among them; else 2.
+abbrev pub asMessage : Emission → Emission
+asMessage e = e then check (within 5 53 (length (e .bytes))) 2 then sent (0xF7 ∷ [])
+
+-- What any list of up to 256 commands and fields leaves, in whichever string: their own emissions after the opening; and what each
+-- close then answers and leaves.
 pub record HoldsAll (found : List ℕ) (e : Emission) (s : State) : Type 0 where
   pub position : s .writing .at ≡ length (e .bytes)
   pub refused-by : s .writing .stop ≡ e .stop
   pub left : s .out ≡ overlay found 0 (e .bytes)
+  pub as-message : wholeMessage (s .writing) (length found) ≡ answer (asMessage e) (length found)
+  pub message-left : overlay (s .out) (s .writing .at) (closedMessage (s .writing) .bytes) ≡ overlay found 0 (asMessage e .bytes)
+  pub as-fields : wholeFields (s .writing) (length found) ≡ answer e (length found)
 
 -- What a writer with a refusal does: it repeats it to every further call, and writes nothing more.
 pub record Repeats (r : Refusal) (s t : State) : Type 0 where

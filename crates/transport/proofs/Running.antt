@@ -1,7 +1,7 @@
 -- A string's commands, read and applied one by one: a turn, by what is read, and the loop over all of them. Assumes nothing.
-use Prim.Native.Nat.{ℕ, zero, suc, _+_, _-_, _≤_, _<_}
+use Prim.Native.Nat.{ℕ, suc, _+_, _-_, _≤_, _<_}
 use mathlib.Core.Path.{_≡_, refl, sym, ap, ap₂, subst, _∙_}
-use mathlib.Core.List.{List, [], _∷_}
+use mathlib.Core.List.{List, _∷_}
 use native.Mathlib.Omega.{arith}
 use lib.ListN.{length}
 use Rattle.mmc.proofs.StringLaws.{read-goes-on}
@@ -12,14 +12,13 @@ use Rattle.mmc.specs.declared.length.Kind.the-variants.{Commands}
 use Rattle.mmc.specs.Command.{nextCommand, nextCommandOf, commandAnswerOf}
 use Rattle.mmc.specs.Split.{Next}
 use Rattle.mtc.specs.declared.generator.MtcGenerator.{MtcGenerator}
-use Rattle.transport.specs.declared.run.Obeyed.{Obeyed}
 use Rattle.transport.specs.declared.run.Turn.{Turn}
 use Rattle.transport.specs.declared.run.TurnAnswer.the-variants as A
 use Rattle.transport.specs.declared.transport.Applied.{Applied}
 use Rattle.transport.specs.declared.transport.TransportAnswer.{TransportAnswer}
 use Rattle.transport.specs.Demand3.{Run, over, answered, onRead, obeyFrom, obey}
-use Rattle.transport.specs.Obey.{Told, Taking, takenBy, obeyNext, toldOf, turnOf, oneRefused, refusedIn, Summary, summedUp, summaryAfter, obeyedOf}
-use Rattle.transport.specs.Transport.{Reply, Outcome, applied, appliedOf, answerOf}
+use Rattle.transport.specs.Obey.{Told, Taking, takenBy, obeyNext, toldOf, turnOf, oneRefused, refusedIn, Summary, summedUp, summaryAfter}
+use Rattle.transport.specs.Transport.{Outcome, applied, appliedOf, answerOf}
 use Rattle.transport.proofs.Obeying.{obey-more}
 use Rattle.universal.specs.Refusals.{Refusal, Answer, gives, refused, refusalOf}
 use Rattle.universal.specs.declared.error.SysexError.{SysexError}

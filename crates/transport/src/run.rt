@@ -29,13 +29,7 @@ pub struct Turn {
 }
 
 // Reads the command at a place and applies it.
-pub fn obey_next(
-    generator: MtcGenerator,
-    device_id: u8,
-    own: u8,
-    body: &[u8],
-    place: usize,
-) -> Turn
+pub fn obey_next(generator: MtcGenerator, device_id: u8, own: u8, body: &[u8], place: usize) -> Turn
     ensures { λ r. ⌜ turnOf r ≡ obeyNext (now (body .entry)) «device_id» own place generator ⌝ }
 {
     let next = next_command(body, place);

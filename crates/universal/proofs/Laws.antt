@@ -14,7 +14,7 @@ use lib.ListN.{length, take, drop, getD, set, length-set, length-append, List·g
 use lib.Seq.{length-sets, sets-eq, set-out, getD-set-same, getD-set-other}
 use Rattle.universal.specs.Refusals.{Refusal, refusal, tooSmall, gives, refused}
 use Rattle.universal.specs.Overlay.{overlay}
-use Rattle.universal.specs.Emission.{Emission, sent, stopped, check, resume, _then_, answer, reached, reachedIn, fitted}
+use Rattle.universal.specs.Emission.{Emission, sent, stopped, check, resume, _then_, answerIn, answer, reached, reachedIn, fitted}
 use Rattle.universal.specs.Midi1.{hasSubId2, subId2Given, subId2Bytes, classId, inside, universalBytes, InLayout, Allowed}
 use Rattle.universal.specs.Message.{subId2Value, allLow, dataBytes, header, opening, message, lengthAt, closing}
 use Rattle.universal.specs.declared.message.Universal.{Universal}
@@ -143,6 +143,19 @@ answer-short e room h short = rw (h, lt-leb (length (e .bytes)) room short)
 pub answer-refused : (e : Emission) (room : ℕ) (r : Refusal) → e .stop ≡ some r → answer e room ≡ refused r
 unfolding answer
 answer-refused e room r h = rw h
+
+-- Where the answer is a length, it is the message's own, and the buffer has room for it.
+pub answer-gives : (e : Emission) (room n : ℕ) → answer e room ≡ gives n → (n ≡ length (e .bytes)) × (n ≤ room)
+unfolding answer
+answer-gives e room n h = go (e .stop) h
+  where
+    fits : (b : Bool) → leb (length (e .bytes)) room ≡ b → fitted b (length (e .bytes)) ≡ gives n → (n ≡ length (e .bytes)) × (n ≤ room)
+    fits true q p = let same : n ≡ length (e .bytes) = cc in (same, omega (arith, leb-true (length (e .bytes)) room q))
+    fits false q p = absurd (gives-refused n _ (sym p))
+
+    go : (s : Option Refusal) → answerIn s (length (e .bytes)) room ≡ gives n → (n ≡ length (e .bytes)) × (n ≤ room)
+    go none p = fits (leb (length (e .bytes)) room) refl p
+    go (some r) p = absurd (gives-refused n r (sym p))
 
 -- A part that is not refused has come to its length.
 pub reached-sent : (e : Emission) → e .stop ≡ none → reached e ≡ gives (length (e .bytes))
