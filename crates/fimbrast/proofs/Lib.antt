@@ -1,3 +1,2 @@
 mod Feeding
 pub mod Laws
-mod Obeying

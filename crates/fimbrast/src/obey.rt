@@ -2,15 +2,13 @@
 use flat_mtc::generator::FlatGenerator;
 use flat_mtc::generator::flat_generator;
 use flat_mtc::generator::generator_of;
-use mmc::CommandAnswer;
-use mtc::MtcGenerator;
-use transport::TransportAnswer;
+use transport::Obeyed;
+use transport::obey;
 ghost use mathlib.Core.Path.{_≡_};
-ghost use Prim.Native.Nat.{_≤_};
 ghost use Rattle.transport.specs.Demand3.{obey};
-ghost use Rattle.transport.specs.Transport.{answerOf};
+ghost use Rattle.transport.specs.Obey.{obeyedOf};
 ghost use Rattle.flat_mtc.specs.Generator.{generatorOf};
-ghost use Rattle.fimbrast.specs.Obey.{oneRefused, ended, flatRun};
+ghost use Rattle.fimbrast.specs.Obey.{flatSummary, flatRun};
 
 // The answers to a string's commands: how many, how many of them refusals, and the refusal that ended the reading.
 #[repr(C)]
@@ -21,49 +19,17 @@ pub struct FlatRun {
     pub stop: u8,
 }
 
-// 1 for a refusal.
-fn one_refused(answer: TransportAnswer) -> usize
-    ensures { λ r. ⌜ (r ≡ oneRefused (answerOf answer)) × (r ≤ 1) ⌝ }
+// What became of a message's data, in numbers.
+fn flat_run(run: Obeyed) -> FlatRun
+    ensures { λ r. ⌜ r ≡ flatSummary (obeyedOf run) ⌝ }
 {
-    match answer {
-        TransportAnswer::Done => 0,
-        TransportAnswer::NotMine => 0,
-        TransportAnswer::Refused(_) => 1,
-    }
-}
-
-fn ended(generator: MtcGenerator, commands: usize, refused: usize, stop: u8) -> FlatRun
-    ensures { λ r. ⌜ r ≡ ended generator commands refused stop ⌝ }
-{
+    let generator = run.generator;
+    let stop = run.stop;
     FlatRun {
         generator: flat_generator(generator),
-        commands,
-        refused,
-        stop,
-    }
-}
-
-// The commands of a message's data, read from the front to its end, each applied as it is read.
-fn obey_all(start: MtcGenerator, device_id: u8, own: u8, body: &[u8]) -> FlatRun
-    ensures { λ r. ⌜ r ≡ flatRun (obey (now (body .entry)) «device_id» own start) ⌝ }
-{
-    let mut generator = start;
-    let mut place = 0;
-    let mut commands = 0;
-    let mut refused = 0;
-    loop {
-        let next = mmc::next_command(body, place);
-        let answer = next.answer;
-        let command = match answer {
-            CommandAnswer::Command(c) => c,
-            CommandAnswer::Refused(e) => return ended(generator, commands, refused, e.number()),
-        };
-        let applied = transport::apply(generator, device_id, own, command);
-        let reply = applied.answer;
-        generator = applied.generator;
-        place = next.place;
-        commands += 1;
-        refused += one_refused(reply);
+        commands: run.commands,
+        refused: run.refused,
+        stop: stop.number(),
     }
 }
 
@@ -77,5 +43,5 @@ pub extern "C" fn fimbrast_obey(
 ) -> FlatRun
     ensures { λ r. ⌜ r ≡ flatRun (obey (now (body .entry)) «device_id» own (generatorOf generator)) ⌝ }
 {
-    obey_all(generator_of(generator), device_id, own, body)
+    flat_run(obey(generator_of(generator), device_id, own, body))
 }

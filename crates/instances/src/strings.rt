@@ -1,5 +1,4 @@
 // Strings that end in Locate to T and Play: written, read back and applied.
-use mmc::CommandAnswer;
 use mmc::FinalByte;
 use mmc::MmcCommand;
 use mmc::MmcMessage;
@@ -7,11 +6,10 @@ use mmc::Part;
 use mmc::ReadMmcMessage;
 use mmc::StandardTimeCode;
 use mmc::Writer;
-use mmc::next_command;
 use mmc::open_commands;
 use mtc::MtcGenerator;
 use mtc::MtcTime;
-use transport::apply;
+use transport::obey;
 use universal::MaybeSubId2;
 use universal::Universal;
 use universal::Written;
@@ -78,29 +76,6 @@ pub(crate) fn write(out: &mut [u8; 64], device_id: u8, number: u64, time: MtcTim
     }
 }
 
-// Applies the commands of a message's data one by one as they are read.
-fn obey(body: &[u8], device_id: u8, own: u8, from: MtcGenerator) -> MtcGenerator {
-    let mut generator = from;
-    let mut place = 0;
-    let mut turns: u8 = 0;
-    while turns < 60 {
-        turns = turns + 1;
-        let next = next_command(body, place);
-        place = next.place;
-        let answer = next.answer;
-        match answer {
-            CommandAnswer::Command(command) => {
-                let applied = apply(generator, device_id, own, command);
-                generator = applied.generator;
-            }
-            CommandAnswer::Refused(_) => {
-                return generator;
-            }
-        }
-    }
-    generator
-}
-
 // The generator after a string of this length was read back from the bytes in a buffer.
 fn read_back(out: &[u8], length: usize, own: u8, generator: MtcGenerator) -> MtcGenerator {
     if length < 5 {
@@ -119,7 +94,10 @@ fn read_back(out: &[u8], length: usize, own: u8, generator: MtcGenerator) -> Mtc
     };
     match MmcMessage::from_universal(parts, body) {
         ReadMmcMessage::Message(message) => match message {
-            MmcMessage::Commands { device_id } => obey(body, device_id, own, generator),
+            MmcMessage::Commands { device_id } => {
+                let run = obey(generator, device_id, own, body);
+                run.generator
+            }
             MmcMessage::Responses { device_id: _ } => generator,
         },
         ReadMmcMessage::NotThis => generator,

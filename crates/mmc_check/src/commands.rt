@@ -19,17 +19,16 @@ use crate::writing::FIRST;
 use crate::writing::Writing;
 use crate::writing::begin_commands;
 use crate::writing::end_message;
-use mmc::CommandAnswer;
 use mmc::MmcCommand;
 use mmc::Part;
 use mmc::StandardTimeCode;
-use mmc::next_command;
 use mtc::Direction;
 use mtc::MtcGenerator;
 use mtc::MtcTime;
 use mtc::TimeCodeType;
 use transport::TransportAnswer;
-use transport::apply;
+use transport::TurnAnswer;
+use transport::obey_next;
 use universal::SysexError;
 
 // What a command that is done does to the generator.
@@ -242,12 +241,14 @@ struct Obeyed {
     good: bool,
 }
 
-// One command, which the transport gets.
-fn obey(before: MtcGenerator, command: MmcCommand, device_id: u8, own: u8, body: &[u8]) -> Obeyed {
+// One command, what the transport answered to it, and the generator that it left.
+fn say_obeyed(
+    command: MmcCommand,
+    answer: TransportAnswer,
+    generator: MtcGenerator,
+    body: &[u8],
+) -> Obeyed {
     say_command(body, command);
-    let applied = apply(before, device_id, own, command);
-    let generator = applied.generator;
-    let answer = applied.answer;
     let done = say_answer(answer, command, generator);
     let fields = fields_are_good(body, command);
     Obeyed {
@@ -274,29 +275,27 @@ fn after(run: Run, o: Obeyed, effect: u8, writing: Writing, next: usize) -> Run 
     }
 }
 
-fn with_command(
-    run: Run,
-    command: MmcCommand,
-    next: usize,
-    device_id: u8,
-    own: u8,
-    body: &[u8],
-) -> Run {
+fn with_command(run: Run, command: MmcCommand, obeyed: Obeyed, next: usize, body: &[u8]) -> Run {
     let place = run.place;
-    let before = run.generator;
     let writing = run.writing;
-    say_place(b"  ", FIRST, place);
-    let obeyed = obey(before, command, device_id, own, body);
     let written = writing::with_command(writing, body, command, place);
     after(run, obeyed, effect_of(command), written, next)
 }
 
 fn one(run: Run, device_id: u8, own: u8, body: &[u8]) -> Run {
-    let next = next_command(body, run.place);
-    let answer = next.answer;
+    let place = run.place;
+    let before = run.generator;
+    let turn = obey_next(before, device_id, own, body, place);
+    let left = turn.generator;
+    let next = turn.place;
+    let answer = turn.answer;
     match answer {
-        CommandAnswer::Refused(e) => ended(run, e),
-        CommandAnswer::Command(c) => with_command(run, c, next.place, device_id, own, body),
+        TurnAnswer::Ended(e) => ended(run, e),
+        TurnAnswer::Command { command, reply } => {
+            say_place(b"  ", FIRST, place);
+            let obeyed = say_obeyed(command, reply, left, body);
+            with_command(run, command, obeyed, next, body)
+        }
     }
 }
 

@@ -1,15 +1,16 @@
 -- What a target resolves to and what a command does, by cases, for the calls' proofs. Assumes nothing.
 use Prim.Native.Nat.{ℕ, _≤_, _<_}
 use mathlib.Core.Path.{_≡_, refl, sym, ap, _∙_}
-use mathlib.Core.Bool.{Bool, true, false}
+use mathlib.Core.Bool.{Bool, true, false, cond, _&&_}
 use mathlib.Core.Option.{Option, none, some}
-use lib.Dec.{T}
+use lib.Dec.{T, leb}
 use borrow.Author.Tests.{le-leb, lt-leb}
 use Rattle.mmc.specs.declared.command.MmcCommand.{MmcCommand}
-use Rattle.mmc.specs.declared.command.MmcCommand.the-variants.{LocateTarget}
+use Rattle.mmc.specs.declared.command.MmcCommand.the-variants.{Stop, Play, DeferredPlay, FastForward, Rewind, RecordStrobe, RecordExit, Pause, Reset, Write, LocateField, LocateTarget, Move, Other}
 use Rattle.codes.specs.declared.time_code.StandardTimeCode.{StandardTimeCode}
 use Rattle.labels.specs.St12.{isSkipped, isValid, LeastAbove}
 use Rattle.labels.specs.Time.{nextValid}
+use Rattle.mtc.specs.Reader.{pieceFits}
 use Rattle.mtc.specs.declared.generator.MtcGenerator.{MtcGenerator}
 use Rattle.labels.specs.declared.time.MtcTime.{MtcTime}
 use Rattle.labels.proofs.Laws.{next-valid-valid, next-valid-least}
@@ -85,3 +86,38 @@ pub mine : (g : MtcGenerator) (device own : ℕ) (c : MmcCommand) → device ≤
     → applied g device own c ≡ acted g c
 unfolding applied
 mine g device own c h k a = rw (le-leb device 127 h, le-leb own 127 k, a)
+
+-- ---- a generator's last piece
+
+located-fits : (g : MtcGenerator) (t : Option MtcTime) → T (pieceFits (g .last)) → T (pieceFits (locatedAt g t .generator .last))
+located-fits g none h = h
+located-fits g (some t) h = tt
+
+acted-fits : (g : MtcGenerator) (c : MmcCommand) → T (pieceFits (g .last)) → T (pieceFits (acted g c .generator .last))
+unfolding acted
+acted-fits g Stop h = h
+acted-fits g Play h = h
+acted-fits g DeferredPlay h = h
+acted-fits g FastForward h = h
+acted-fits g Rewind h = h
+acted-fits g RecordStrobe h = h
+acted-fits g RecordExit h = h
+acted-fits g Pause h = h
+acted-fits g Reset h = h
+acted-fits g (Write d) h = h
+acted-fits g (LocateField r) h = h
+acted-fits g (LocateTarget c) h = located-fits g (resolved c) h
+acted-fits g (Move d s) h = h
+acted-fits g (Other n d) h = h
+
+-- A command leaves no last piece above 7 where there was none.
+pub applied-fits : (g : MtcGenerator) (device own : ℕ) (c : MmcCommand) → T (pieceFits (g .last))
+    → T (pieceFits (applied g device own c .generator .last))
+unfolding applied
+applied-fits g device own c h = go (leb device 127 && leb own 127) (isAddressed device own)
+  where
+    go : (b a : Bool)
+        → T (pieceFits (cond b (cond a (acted g c) (record { generator = g; answer = gives notMine })) (unchanged g 5) .generator .last))
+    go true true = acted-fits g c h
+    go true false = h
+    go false a = h
