@@ -68,11 +68,10 @@ pub fields-whole : (gs : List (Given Fields)) (out : List ℕ) → length gs ≤
 unfolding fieldsAnswer fieldsLeft wholeFields closedFields answer
 fields-whole gs out few =
     let h = holds-items Fields out gs (sent []) (fieldsOpened out) (holds-fields out) few in
-    let w : Writing = afterItems Fields (fieldsOpened out) gs .writing in
-    (
+    let w : Writing = afterItems Fields (fieldsOpened out) gs .writing in (
       ap₂ (λ (t : Option Refusal) (k : ℕ). ended (resume [] t (sent []) .stop) k (length out))
           (ap (λ (v : Writing). v .stop) (kept-sound w (h .kept)) ∙ h .stop) (h .at)
-      ∙ go (emissions Fields gs .stop),
+          ∙ go (emissions Fields gs .stop),
       h .out,
     )
   where
@@ -238,8 +237,8 @@ still-failed w e r f =
     let a : admitted w e ≡ record { bytes = []; stop = some r } = repeats w e r (sym (ready-failed w r f)) in
     let near : W.given w e .at ≡ w .at = ap (λ (x : Emission). w .at + length (x .bytes)) a ∙ add-zero (w .at) in (
       ap (λ (x : Emission). sound (moved w (summed x)) .stop) a
-      ∙ ap (λ (k : ℕ). cond {A = Writing} (leb (w .items) 256 && leb k 40000) (by k (some r)) (by k (some (refusal 10))) .stop) (add-zero (w .at))
-      ∙ go (leb (w .items) 256 && leb (w .at) 40000) f,
+          ∙ ap (λ (k : ℕ). cond {A = Writing} (leb (w .items) 256 && leb k 40000) (by k (some r)) (by k (some (refusal 10))) .stop) (add-zero (w .at))
+          ∙ go (leb (w .items) 256 && leb (w .at) 40000) f,
       near,
       ap (λ (x : Emission). x .bytes) a,
     )
