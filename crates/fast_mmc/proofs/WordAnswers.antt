@@ -11,8 +11,7 @@ use Rattle.fast_mmc.specs.declared.numbers.WrittenNumbers.{WrittenNumber
 use Rattle.mmc.specs.declared.command.MmcCommand.the-variants.{LocateTarget}
 use Rattle.mmc.specs.Item.{commandItem, isSubframes}
 use Rattle.mmc.specs.Length.{within}
-use Rattle.fast_mmc.specs.Numbers.{neededOf, firstOf, numbersIn, writtenNumbers}
-use Rattle.fast_mmc.specs.Word.{plainName}
+use Rattle.fast_mmc.specs.Numbers.{neededOf, firstOf, writtenNumbers}
 use Rattle.fast_mmc.specs.Words.{wordCode, wordCommand}
 use Rattle.mmc.specs.Write.{Writing, sound, ready, admitted, given, closedMessage, ended, wholeMessage}
 use Rattle.codes.specs.declared.time_code.StandardTimeCode.{StandardTimeCode}
@@ -21,6 +20,7 @@ use Rattle.universal.specs.Emission.{Emission, sent, check, resume, _then_, fit
 use Rattle.universal.specs.Refusals.{Refusal, refusal}
 use Rattle.mmc.proofs.WritingSteps.{sound-stop, ready-stop, admitted-after, given-moves, locate-sent, closed-after, whole-ended}
 use Rattle.fast_mmc.proofs.WordPuts.{word-plain, word-locate}
+use Rattle.fast_mmc.specs.Contracts.{numbersIn, plainName}
 
 -- The values that are given with a refusal.
 abbrev valuesIn : Option Refusal → List ℕ

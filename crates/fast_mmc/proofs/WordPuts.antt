@@ -20,8 +20,9 @@ use Rattle.mmc.specs.Item.{commandItem, isSubframes}
 use Rattle.fast_mmc.specs.Numbers.{neededOf, writtenNumbers}
 use Rattle.codes.specs.TimeCode.{bit, standardFits, standardList}
 use Rattle.codes.proofs.Laws.{fits-parts, list-parts}
-use Rattle.fast_mmc.specs.Word.{plainCommand, plainName}
-use Rattle.fast_mmc.specs.Words.{markedCode, byteAt, wordCode, wordCommand, wordItems, afterWords, closedOut, going, PutWhole, nothing, whole, Usual}
+use Rattle.fast_mmc.specs.Word.{plainCommand}
+use Rattle.fast_mmc.specs.Contracts.{plainName, afterWords, closedOut, going, PutWhole, nothing, whole}
+use Rattle.fast_mmc.specs.Words.{markedCode, byteAt, wordCode, wordCommand, wordItems}
 use Rattle.mmc.specs.Length.{within}
 use Rattle.mmc.specs.Named.{summed}
 use Rattle.mmc.specs.Strings as G
@@ -89,6 +90,13 @@ fast-valid h m s f b hh hm hs hl hb hf k =
   where
     fps : (b : ℕ) → b ≤ 3 → 2 ≤ b → framesPerSecond (typeOf b) ≡ 30
     fps = four (λ b. 2 ≤ b → framesPerSecond (typeOf b) ≡ 30) (λ k. absurd (omega arith)) (λ k. absurd (omega arith)) (λ k. refl) (λ k. refl)
+
+-- A time code that is written as its counts are: a valid label with subframes, and no mark but the rate.
+pub record Usual (h m s f last marks : ℕ) : Type 0 where
+  pub rate : marks ≤ 3
+  pub hours : h ≤ 23
+  pub subframes : last ≤ 99
+  pub valid : isValid (label (typeOf marks) h m s f) ≡ true
 
 module _ (h m s f last b : ℕ) (u : Usual h m s f last b) where
   no-marks : (weight : ℕ) → (b / weight % 2 ≡ 1 → ⊥) → bit weight b ≡ false

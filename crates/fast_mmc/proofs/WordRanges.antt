@@ -6,7 +6,9 @@ use mathlib.Core.Logic.{_⊎_}
 use native.Mathlib.Omega.{arith}
 use borrow.Author.Tests.{leb-true, leb-false, eqb-false, not-true}
 use lib.Dec.{leb, eqb}
-use Rattle.fast_mmc.specs.Words.{byteAt, Usual, LowBytes, InRange, Kept}
+use Rattle.fast_mmc.specs.Contracts.{LowBytes, InRange, Kept}
+use Rattle.fast_mmc.specs.Words.{byteAt}
+use Rattle.fast_mmc.proofs.WordPuts.{Usual}
 use Rattle.labels.specs.St12.{label, isValid}
 use Rattle.labels.specs.Time.{typeOf}
 use Rattle.fast_mmc.proofs.WordPuts.{slow-valid, fast-valid}

@@ -22,7 +22,7 @@ use Rattle.mmc.specs.Length.{commandLength, within}
 use Rattle.mmc.specs.Part.{part, partOf}
 use Rattle.mmc.specs.Split.{Next, next, nextPartsOf}
 use Rattle.codes.specs.TimeCode.{readFinal, finalValue, readStandard}
-use Rattle.fast_mmc.specs.Word.{fiveBytes, codeWord, commandWord, answerWord, nextWord, shortWord, plainCommand, plainName}
+use Rattle.fast_mmc.specs.Word.{fiveBytes, codeWord, commandWord, answerWord, nextWord, plainCommand}
 use Rattle.mmc.specs.Item.{commandItem}
 use Rattle.universal.specs.Emission.{sent}
 use Rattle.universal.specs.Refusals.{gives, refused, refusalOf}
@@ -30,6 +30,7 @@ use Rattle.universal.specs.declared.error.SysexError.{SysexError}
 use Rattle.codes.proofs.Laws.{hours-again, six-again, frames-again, standard-parts}
 use Rattle.mmc.proofs.ReadingLaws.{command-length, names-read, unknown-byte, by-byte, command-refused, command-prefixed, command-end, command-alone, command-no-count, command-few-data, command-counted}
 use Rattle.mmc.proofs.WritingSteps.{names-sent}
+use Rattle.fast_mmc.specs.Contracts.{shortWord, plainName}
 
 five-same : {a b c d e v w x y z : ℕ} → a ≡ v → b ≡ w → c ≡ x → d ≡ y → e ≡ z → fiveBytes a b c d e ≡ fiveBytes v w x y z
 five-same p q r s t = rw (p, q, r, s, t)

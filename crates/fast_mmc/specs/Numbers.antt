@@ -1,5 +1,5 @@
 -- The answer of a writing in numbers. Assumes nothing.
-use Prim.Native.Nat.{ℕ, _/_, _%_}
+use Prim.Native.Nat.{ℕ}
 use mathlib.Core.List.{List, [], _∷_}
 use Rattle.fast_mmc.specs.declared.numbers.WrittenNumbers.{WrittenNumbers}
 use Rattle.universal.specs.Refusals.{Refusal, Answer, gives, refused}
@@ -17,7 +17,3 @@ neededOf r = firstOf (r .values)
 unfoldable pub writtenNumbers : Answer ℕ → WrittenNumbers
 writtenNumbers (gives n) = record { refusal = 0; length = n }
 writtenNumbers (refused r) = record { refusal = r .number; length = neededOf r }
-
--- Both in one number: the refusal in the lowest byte, the length above it.
-abbrev pub numbersIn : ℕ → WrittenNumbers
-numbersIn n = record { refusal = n % 256; length = n / 256 }

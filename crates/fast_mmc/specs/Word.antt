@@ -6,7 +6,6 @@ use Rattle.mmc.specs.declared.command.MmcCommand.{MmcCommand}
 use Rattle.mmc.specs.declared.command.MmcCommand.the-variants.{Stop, Play, DeferredPlay, FastForward, Rewind, RecordStrobe, RecordExit, Pause, Reset, Write, LocateField, LocateTarget, Move, Other}
 use Rattle.codes.specs.declared.time_code.StandardTimeCode.{StandardTimeCode}
 use Rattle.fast_mmc.specs.declared.word.NextWord.{NextWord}
-use Rattle.mmc.specs.Length.{within}
 use Rattle.mmc.specs.Split.{Next}
 use Rattle.codes.specs.TimeCode.{flag, framesByte, finalValue}
 use Rattle.labels.specs.Time.{hoursByte}
@@ -26,7 +25,7 @@ codeWord c =
 abbrev pub withBytes : ℕ → ℕ → ℕ → ℕ
 withBytes kind first second = kind + first * 256 + second * 65536
 
--- A part is told by its length, which is below 256 in every command that is read.
+-- The number of a command. A part is told by its length, which is below 256 in every command that is read.
 unfoldable pub commandWord : MmcCommand → ℕ
 commandWord Stop = 0
 commandWord Play = 1
@@ -48,23 +47,11 @@ unfoldable pub answerWord : Answer MmcCommand → ℕ
 answerWord (gives c) = commandWord c
 answerWord (refused r) = 128 + r .number
 
+-- What a read answers, as a number and the place to read on from.
 unfoldable pub nextWord : Next MmcCommand → NextWord
 nextWord n = record { word = answerWord (n .answer); place = n .place }
 
--- The command of a name without prefixes and data, or 270 where it has either.
-unfoldable pub shortWord : ℕ → ℕ
-shortWord n =
-    cond (eqb n 0) 270
-    (cond (eqb n 1) 0
-    (cond (eqb n 2) 1
-    (cond (eqb n 3) 2
-    (cond (eqb n 4) 3
-    (cond (eqb n 5) 4
-    (cond (eqb n 6) 5
-    (cond (eqb n 7) 6 (cond (eqb n 9) 7 (cond (eqb n 13) 8 (cond (within 64 120 n) 270 269))))))))))
-
--- ---- commands that are a name alone, by their case; a number above 8 is taken as 8
-
+-- A command that is a name alone, by its case; a number above 8 is taken as 8.
 unfoldable pub plainCommand : ℕ → MmcCommand
 plainCommand n =
     cond (eqb n 0) Stop
@@ -72,9 +59,3 @@ plainCommand n =
     (cond (eqb n 2) DeferredPlay
     (cond (eqb n 3) FastForward
     (cond (eqb n 4) Rewind (cond (eqb n 5) RecordStrobe (cond (eqb n 6) RecordExit (cond (eqb n 7) Pause Reset)))))))
-
-unfoldable pub plainName : ℕ → ℕ
-plainName n =
-    cond (eqb n 0) 1
-    (cond (eqb n 1) 2
-    (cond (eqb n 2) 3 (cond (eqb n 3) 4 (cond (eqb n 4) 5 (cond (eqb n 5) 6 (cond (eqb n 6) 7 (cond (eqb n 7) 9 13)))))))

@@ -28,11 +28,17 @@ fn put_five(out: &mut [u8], at: usize, bytes: [u8; 5])
     put(out, at + 4, bytes[4]);
 }
 
-// A whole Locate to a time. Where the caller knows that it fits, no byte is checked for room.
+// A whole Locate to a time. Both ways are the same: where all of it fits, the compiler checks no byte for room and puts the last four
+// in one store.
 pub(crate) fn put_locate_bytes(out: &mut [u8], at: usize, bytes: [u8; 5])
     requires { ⌜ at ≤ 40000 ⌝ }
     ensures { λ _. ⌜ now (out .exit) ≡ overlay (now (out .entry)) at (68 ∷ 6 ∷ 1 ∷ getD bytes 0 0 ∷ getD bytes 1 0 ∷ getD bytes 2 0 ∷ getD bytes 3 0 ∷ getD bytes 4 0 ∷ []) ⌝ }
 {
+    if at + 8 <= out.len() {
+        put_locate_start(out, at);
+        put_five(out, at + 3, bytes);
+        return;
+    }
     put_locate_start(out, at);
     put_five(out, at + 3, bytes);
 }

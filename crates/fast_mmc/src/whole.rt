@@ -23,11 +23,12 @@ ghost use Rattle.mmc.specs.declared.length.Kind.the-variants.{Commands};
 ghost use Rattle.codes.specs.declared.time_code.FinalByte.the-variants.{Subframes, Status};
 ghost use Rattle.codes.specs.TimeCode.{readStatus};
 ghost use Rattle.mmc.specs.Item.{commandItem};
-ghost use Rattle.fast_mmc.specs.Numbers.{numbersIn, writtenNumbers};
+ghost use Rattle.fast_mmc.specs.Numbers.{writtenNumbers};
 ghost use Rattle.mmc.specs.Write.{writingOf, given, admitted, closedMessage, wholeMessage};
 ghost use Rattle.mmc.specs.Writings.{stringAnswer, stringLeft};
 ghost use Rattle.fast_mmc.specs.Word.{plainCommand};
-ghost use Rattle.fast_mmc.specs.Words.{markedCode, byteAt, wordCode, wordCommand, wordItems, afterWords, closedOut, going, PutWhole, LowBytes, InRange, Kept};
+ghost use Rattle.fast_mmc.specs.Contracts.{numbersIn, afterWords, closedOut, going, PutWhole, LowBytes, InRange, Kept};
+ghost use Rattle.fast_mmc.specs.Words.{markedCode, byteAt, wordCode, wordCommand, wordItems};
 
 // The case of a Locate to a time.
 const LOCATE_TARGET: u64 = 11;

@@ -15,7 +15,8 @@ ghost use Rattle.mmc.specs.Command.{readCommand, readLocate, readMove, located,
 ghost use Rattle.mmc.specs.declared.length.Length.the-variants.{Count};
 ghost use Rattle.mmc.specs.Length.{commandLength};
 ghost use Rattle.codes.specs.TimeCode.{readFinal, finalValue, readStandard};
-ghost use Rattle.fast_mmc.specs.Word.{codeWord, withBytes, commandWord, nextWord, plainName, shortWord};
+ghost use Rattle.fast_mmc.specs.Word.{codeWord, withBytes, commandWord, nextWord};
+ghost use Rattle.fast_mmc.specs.Contracts.{plainName, shortWord};
 
 // A command or a refusal, and the place to read on from. The lowest byte is the case of `MmcCommand`, 0 to 13 in its order, or
 // a refusal's number and 128. Above it stand a Locate's register or the five bytes of its time code, a Move's two names, or

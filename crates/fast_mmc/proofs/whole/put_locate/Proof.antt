@@ -1,6 +1,6 @@
 use native.Mathlib.Omega.{arith}
 use borrow.Author.Tests.{not-false}
-use Rattle.fast_mmc.specs.Words.{nothing}
+use Rattle.fast_mmc.specs.Contracts.{nothing}
 use Rattle.fast_mmc.proofs.WordPuts.{put-usual}
 use Rattle.fast_mmc.proofs.WordRanges.{usual-of}
 use borrow.Author.Needs.{needs}

@@ -3,7 +3,7 @@ use mathlib.Core.Path.{_∙_, ap, refl}
 use borrow.Author.Needs.{needs}
 use lib.ListN.{length}
 use Rattle.fast_mmc.specs.Numbers.{writtenNumbers}
-use Rattle.fast_mmc.specs.Words.{going}
+use Rattle.fast_mmc.specs.Contracts.{going}
 use Rattle.mmc.specs.Write.{writingOf}
 use Rattle.fast_mmc.proofs.WordAnswers.{Bare, bare-next, whole-small}
 use Rattle.fast_mmc.proofs.WordPuts.{Gone, gone-none, gone-word, gone-all}

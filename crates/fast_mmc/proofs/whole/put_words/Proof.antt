@@ -3,7 +3,7 @@ use mathlib.Core.Path.{_∙_}
 use native.Mathlib.Omega.{arith}
 use borrow.Author.Needs.{needs}
 use lib.ListN.{length}
-use Rattle.fast_mmc.specs.Words.{going}
+use Rattle.fast_mmc.specs.Contracts.{going}
 use Rattle.fast_mmc.proofs.WordPuts.{Gone, gone-none, gone-whole, gone-still, gone-rest, gone-all, ends-any}
 use Rattle.fast_mmc.proofs.whole.put_words.Statement.{statement}
 use Rattle.fast_mmc.proofs.whole.put_words.Tie as tie

@@ -1,8 +1,8 @@
 use Rattle.fast_mmc.proofs.Words.{low-name, high-name}
 use borrow.Author.Needs.{needs}
-use Rattle.fast_mmc.specs.Word.{plainName}
 use Rattle.fast_mmc.proofs.word.plain_name.Statement.{statement}
 use Rattle.fast_mmc.proofs.word.plain_name.Tie as tie
+use Rattle.fast_mmc.specs.Contracts.{plainName}
 
 add-result : tie.Need-add-result
 add-result c = search needs

@@ -1,8 +1,8 @@
 use Rattle.fast_mmc.proofs.word.short_word.Statement.{statement}
 use Rattle.fast_mmc.proofs.word.short_word.Tie as tie
-use Rattle.fast_mmc.specs.Word.{shortWord}
 use borrow.Author.Tests.{ne-eqb}
 use Rattle.mmc.proofs.ReadingLaws.{in-range, below-range, above-range}
+use Rattle.fast_mmc.specs.Contracts.{shortWord}
 
 returns : tie.Need-returns
 unfolding shortWord
