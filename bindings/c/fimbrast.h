@@ -373,10 +373,6 @@ fimbrast_writer fimbrast_open_fields(void);
 /* The name and data of an item are parts of the source. */
 fimbrast_writer fimbrast_put_command(fimbrast_writer writer, uint8_t *out, size_t out_length, const uint8_t *source,
                                      size_t source_length, fimbrast_command command);
-/* A command that is a name alone, FIMBRAST_STOP to FIMBRAST_RESET; a kind above is taken as FIMBRAST_RESET. */
-fimbrast_writer fimbrast_put_plain(fimbrast_writer writer, uint8_t *out, size_t out_length, uint8_t kind);
-/* FIMBRAST_LOCATE_TARGET. */
-fimbrast_writer fimbrast_put_locate(fimbrast_writer writer, uint8_t *out, size_t out_length, fimbrast_code code);
 fimbrast_writer fimbrast_put_field(fimbrast_writer writer, uint8_t *out, size_t out_length, const uint8_t *source,
                                    size_t source_length, fimbrast_field field);
 fimbrast_written fimbrast_close_message(fimbrast_writer writer, uint8_t *out, size_t out_length);

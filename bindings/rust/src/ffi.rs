@@ -262,8 +262,6 @@ unsafe extern "C" {
         source_length: usize,
         command: Command,
     ) -> Writer;
-    fn fimbrast_put_plain(writer: Writer, out: *mut u8, out_length: usize, kind: u8) -> Writer;
-    fn fimbrast_put_locate(writer: Writer, out: *mut u8, out_length: usize, code: Code) -> Writer;
     fn fimbrast_put_field(
         writer: Writer,
         out: *mut u8,
@@ -392,18 +390,6 @@ pub(crate) fn put_command(
             command,
         )
     }
-}
-
-/// A command that is a name alone.
-pub(crate) fn put_plain(writer: Writer, out: &mut [u8], kind: u8) -> Writer {
-    // SAFETY: `out` is a live slice, borrowed alone.
-    unsafe { fimbrast_put_plain(writer, out.as_mut_ptr(), out.len(), kind) }
-}
-
-/// A Locate to a time.
-pub(crate) fn put_locate(writer: Writer, out: &mut [u8], code: Code) -> Writer {
-    // SAFETY: `out` is a live slice, borrowed alone.
-    unsafe { fimbrast_put_locate(writer, out.as_mut_ptr(), out.len(), code) }
 }
 
 pub(crate) fn put_field(writer: Writer, out: &mut [u8], source: &[u8], field: Field) -> Writer {

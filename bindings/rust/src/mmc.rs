@@ -464,16 +464,6 @@ impl<'a> MmcCommand<'a> {
     }
 
     fn put(&self, writer: ffi::Writer, out: &mut [u8]) -> ffi::Writer {
-        match (self.kind(), self) {
-            (kind @ ffi::STOP..=ffi::RESET, _) => ffi::put_plain(writer, out, kind),
-            (_, Self::LocateTarget(target)) => ffi::put_locate(writer, out, target.flat()),
-            _ => self.put_other(writer, out),
-        }
-    }
-
-    /// A command of another case.
-    #[inline(never)]
-    fn put_other(&self, writer: ffi::Writer, out: &mut [u8]) -> ffi::Writer {
         let flat = self.flat();
         match self {
             Self::Write(fields) => ffi::put_command(writer, out, fields.bytes, flat),

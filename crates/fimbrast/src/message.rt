@@ -1,4 +1,6 @@
 // Universal messages, full messages, user bits, and machine control messages, by their split parts.
+use fast_mmc::WrittenNumbers;
+use fast_mmc::written_numbers;
 use flat_mmc::message::FlatFullMessage;
 use flat_mmc::message::FlatMmcMessage;
 use flat_mmc::message::FlatReadUserBits;
@@ -14,8 +16,6 @@ use flat_mmc::message::universal_of;
 use flat_mtc::time::FlatTime;
 use flat_mtc::time::time_of;
 use mmc::MmcMessage;
-use mmc::WrittenNumbers;
-use mmc::written_numbers;
 use mtc::FullMessage;
 use mtc::UserBits;
 use universal::MaybeSubId2;
@@ -28,7 +28,7 @@ ghost use Rattle.universal.specs.declared.message.MaybeSubId2.the-variants.{NoS
 ghost use Rattle.universal.specs.Overlay.{overlay};
 ghost use Rattle.mtc.specs.FullMessage.{fullMessage, fullMessageFrom, fullMessageWritten};
 ghost use Rattle.mtc.specs.UserBits.{userBitsFrom, userBitsWritten, groupBytes};
-ghost use Rattle.mmc.specs.Numbers.{writtenNumbers};
+ghost use Rattle.fast_mmc.specs.Numbers.{writtenNumbers};
 ghost use Rattle.mmc.specs.Message.{messageFrom};
 ghost use Rattle.flat_mtc.specs.Time.{timeOf};
 ghost use Rattle.flat_mmc.specs.Message.{universalOf, bitsOf, flatFullMessage, flatUserBits, flatMmcMessage, mmcKind};

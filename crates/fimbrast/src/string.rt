@@ -1,13 +1,13 @@
 // Command and field strings: one item after another.
+use fast_mmc::NextWord;
 use flat_mmc::string::FlatNextCommand;
 use flat_mmc::string::FlatNextField;
 use flat_mmc::string::flat_next_command;
 use flat_mmc::string::flat_next_field;
-use mmc::NextWord;
 ghost use mathlib.Core.Path.{_≡_};
 ghost use Rattle.mmc.specs.Command.{nextCommand};
 ghost use Rattle.mmc.specs.Field.{nextField};
-ghost use Rattle.mmc.specs.Word.{nextWord};
+ghost use Rattle.fast_mmc.specs.Word.{nextWord};
 ghost use Rattle.flat_mmc.specs.String.{flatNextCommand, flatNextField};
 
 // The next of `Commands`: the command at a place of the string.
@@ -23,7 +23,7 @@ pub extern "C" fn fimbrast_next_command(body: &[u8], place: usize) -> FlatNextCo
 pub extern "C" fn fimbrast_next_word(body: &[u8], place: usize) -> NextWord
     ensures { λ r. ⌜ r ≡ nextWord (nextCommand (now (body .entry)) place) ⌝ }
 {
-    mmc::next_word(body, place)
+    fast_mmc::next_word(body, place)
 }
 
 // The next of `InfoFields`: the field at a place of the string.

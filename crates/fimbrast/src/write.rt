@@ -1,6 +1,6 @@
 // Writing a string: opened, given its items one at a time, and closed.
-use flat_mmc::code::FlatCode;
-use flat_mmc::code::code_of;
+use fast_mmc::WrittenNumbers;
+use fast_mmc::written_numbers;
 use flat_mmc::string::FlatCommand;
 use flat_mmc::string::FlatField;
 use flat_mmc::string::command_of;
@@ -8,21 +8,15 @@ use flat_mmc::string::field_of;
 use flat_mmc::write::FlatWriter;
 use flat_mmc::write::flat_writer;
 use flat_mmc::write::writer_of;
-use mmc::WrittenNumbers;
-use mmc::written_numbers;
 ghost use mathlib.Core.Path.{_≡_};
-ghost use mathlib.Core.List.{[]};
 ghost use lib.ListN.{length};
 ghost use Rattle.universal.specs.Overlay.{overlay};
-ghost use Rattle.mmc.specs.Numbers.{writtenNumbers};
-ghost use Rattle.mmc.specs.declared.command.MmcCommand.the-variants.{LocateTarget};
-ghost use Rattle.mmc.specs.Word.{plainCommand};
+ghost use Rattle.fast_mmc.specs.Numbers.{writtenNumbers};
 ghost use Rattle.mmc.specs.Item.{commandItem, fieldItem};
-ghost use Rattle.mmc.specs.Words.{wordItems};
+ghost use Rattle.fast_mmc.specs.Words.{wordItems};
 ghost use Rattle.mmc.specs.Write.{openedCommands, openedResponses, openedFields, begun, admitted, given, closedMessage, wholeMessage, wholeFields};
 ghost use Rattle.mmc.specs.Writings.{stringAnswer, stringLeft};
 ghost use Rattle.mmc.specs.declared.length.Kind.the-variants.{Commands};
-ghost use Rattle.flat_mmc.specs.Code.{codeOf};
 ghost use Rattle.flat_mmc.specs.String.{commandOf, fieldOf};
 ghost use Rattle.flat_mmc.specs.Write.{writingAt, flatWriter};
 
@@ -64,32 +58,6 @@ pub extern "C" fn fimbrast_put_command(
     ensures { λ _. ⌜ now (out .exit) ≡ overlay (now (out .entry)) (writingAt writer .at) (admitted (writingAt writer) (commandItem (now (source .entry)) (commandOf command)) .bytes) ⌝ }
 {
     let wrote = writer_of(writer).put_command(out, source, command_of(command));
-    let back = wrote.writer;
-    flat_writer(back)
-}
-
-// A command that is a name alone, by its kind, 0 to 8; a kind above 8 is taken as 8.
-#[no_mangle]
-pub extern "C" fn fimbrast_put_plain(writer: FlatWriter, out: &mut [u8], kind: u8) -> FlatWriter
-    ensures { λ r. ⌜ r ≡ flatWriter (given (writingAt writer) (commandItem [] (plainCommand kind))) ⌝ }
-    ensures { λ _. ⌜ now (out .exit) ≡ overlay (now (out .entry)) (writingAt writer .at) (admitted (writingAt writer) (commandItem [] (plainCommand kind)) .bytes) ⌝ }
-{
-    let wrote = writer_of(writer).put_plain(out, kind);
-    let back = wrote.writer;
-    flat_writer(back)
-}
-
-// A Locate to a time.
-#[no_mangle]
-pub extern "C" fn fimbrast_put_locate(
-    writer: FlatWriter,
-    out: &mut [u8],
-    code: FlatCode,
-) -> FlatWriter
-    ensures { λ r. ⌜ r ≡ flatWriter (given (writingAt writer) (commandItem [] (LocateTarget (codeOf code)))) ⌝ }
-    ensures { λ _. ⌜ now (out .exit) ≡ overlay (now (out .entry)) (writingAt writer .at) (admitted (writingAt writer) (commandItem [] (LocateTarget (codeOf code))) .bytes) ⌝ }
-{
-    let wrote = writer_of(writer).put_locate(out, code_of(code));
     let back = wrote.writer;
     flat_writer(back)
 }
@@ -138,5 +106,5 @@ pub extern "C" fn fimbrast_write_words(
     ensures { λ r. ⌜ r ≡ writtenNumbers (stringAnswer Commands «device_id» (wordItems (now (words .entry))) (now (out .entry))) ⌝ }
     ensures { λ _. ⌜ now (out .exit) ≡ stringLeft Commands «device_id» (wordItems (now (words .entry))) (now (out .entry)) ⌝ }
 {
-    mmc::write_words(out, device_id, words)
+    fast_mmc::write_words(out, device_id, words)
 }

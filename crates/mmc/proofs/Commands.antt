@@ -70,13 +70,13 @@ module _ (d : List ℕ) (n a : Part) where
   unfolding readCommand
   by-byte name k l e = rw (l, e)
 
-  -- none of the known names
-  abbrev Unknown : ℕ → Type 0
+  -- None of the known names.
+  abbrev pub Unknown : ℕ → Type 0
   Unknown x =
       (((((((((((Unit {0} × (x ≡ 1 → ⊥)) × (x ≡ 2 → ⊥)) × (x ≡ 3 → ⊥)) × (x ≡ 4 → ⊥)) × (x ≡ 5 → ⊥)) × (x ≡ 6 → ⊥)) × (x ≡ 7 → ⊥))
       × (x ≡ 9 → ⊥)) × (x ≡ 13 → ⊥)) × (x ≡ 64 → ⊥)) × (x ≡ 68 → ⊥)) × (x ≡ 76 → ⊥)
 
-  unknown-byte : (x : ℕ) → Unknown x → readByte x d ≡ other
+  pub unknown-byte : (x : ℕ) → Unknown x → readByte x d ≡ other
   unfolding readByte
   unknown-byte x u =
       rw (

@@ -7,7 +7,7 @@ use mathlib.Core.Option.{some}
 use native.Mathlib.Omega.{arith}
 use borrow.Author.Tests.{lt-leb, le-leb, lt-ltb, le-ltb}
 use lib.Dec.{leb, ltb}
-use lib.ListN.{length, getD, length-append}
+use lib.ListN.{length, length-append}
 use Rattle.mmc.specs.declared.command.MmcCommand.{MmcCommand}
 use Rattle.mmc.specs.declared.command.MmcCommand.the-variants as C
 use Rattle.mmc.specs.declared.field.InfoField.{InfoField}
@@ -24,12 +24,11 @@ use Rattle.mmc.specs.Item.{checkedItem, standardItem, shortItem, otherIt
 use Rattle.mmc.specs.Length.{within}
 use Rattle.mmc.specs.Named.{Outcome, summed, namedItem}
 use Rattle.mmc.specs.Part.{isInside, partOf}
-use Rattle.codes.specs.TimeCode.{checkedOf, standardFits, standardList, standardBytes, standardLeft, shortFits, shortList, shortBytes}
+use Rattle.codes.specs.TimeCode.{checkedOf, standardFits, standardList, standardBytes, shortFits, shortList, shortBytes}
 use Rattle.universal.specs.Refusals.{Refusal, Answer, gives, refused, refusal, refusalOf}
-use Rattle.universal.specs.declared.error.SysexError.{SysexError}
 use Rattle.universal.specs.Emission.{Emission, sent, stopped, check, _then_}
 use Rattle.universal.specs.Overlay.{overlay}
-use Rattle.codes.proofs.Laws.{five-bytes, two-bytes, five-listed}
+use Rattle.codes.proofs.Laws.{five-bytes, two-bytes}
 use Rattle.mmc.proofs.Puts.{Puts, puts, puts-none, named-small}
 use Rattle.mmc.proofs.Ranges.{in-range, below-range, above-range, within-told}
 
@@ -139,33 +138,6 @@ pub target-sent : (c : StandardTimeCode) (f : FinalByte) → c .«final_byte» �
     → locateTargetItem c ≡ sent (68 ∷ 6 ∷ 1 ∷ []) then standardItem c
 unfolding locateTargetItem
 target-sent c f e h = rw (e, h)
-
--- The bytes before the time code, and its refusal.
-pub target-refused : (c : StandardTimeCode) (f : FinalByte) (k : Checked) (b : List ℕ) (e : SysexError) → c .«final_byte» ≡ f
-    → isSubframes f ≡ true → checkedOf k b ≡ standardBytes c → k ≡ Refused e
-    → locateTargetItem c ≡ record { bytes = 68 ∷ 6 ∷ 1 ∷ []; stop = some (refusalOf e) }
-target-refused c f k b e p h q r =
-    target-sent c f p h
-    ∙ ap (λ (x : Emission). sent (68 ∷ 6 ∷ 1 ∷ []) then x) (standard-checked c k b q ∙ ap (λ (x : Checked). checkedItem x b) r)
-
--- These and its five bytes.
-pub target-written : (c : StandardTimeCode) (f : FinalByte) (k : Checked) (b : List ℕ) → c .«final_byte» ≡ f → isSubframes f ≡ true
-    → checkedOf k b ≡ standardBytes c → k ≡ Accepted → locateTargetItem c ≡ sent (68 ∷ 6 ∷ 1 ∷ b)
-target-written c f k b p h q r =
-    target-sent c f p h
-    ∙ ap (λ (x : Emission). sent (68 ∷ 6 ∷ 1 ∷ []) then x) (standard-checked c k b q ∙ ap (λ (x : Checked). checkedItem x b) r)
-
--- The bytes that come back are five.
-pub five-told : (c : StandardTimeCode) (b : List ℕ) → b ≡ standardLeft c
-    → (getD b 0 0 ∷ getD b 1 0 ∷ getD b 2 0 ∷ getD b 3 0 ∷ getD b 4 0 ∷ []) ≡ b
-five-told c b e = rw e (go (standardFits c))
-  where
-    five : List ℕ → List ℕ
-    five l = getD l 0 0 ∷ getD l 1 0 ∷ getD l 2 0 ∷ getD l 3 0 ∷ getD l 4 0 ∷ []
-
-    go : (x : Bool) → five (cond x (standardList c) (0 ∷ 0 ∷ 0 ∷ 0 ∷ 0 ∷ [])) ≡ cond x (standardList c) (0 ∷ 0 ∷ 0 ∷ 0 ∷ 0 ∷ [])
-    go true = sym (five-listed c)
-    go false = refl
 
 module _ (d s : ℕ) where
   pub move-destination : within 1 32 d ≡ false → moveItem d s ≡ stopped 3

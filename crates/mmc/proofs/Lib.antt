@@ -12,14 +12,13 @@ mod Inside
 mod ItemPuts
 mod Moves
 mod Pages
+mod Prefixes
 mod Puts
 mod Ranges
+pub mod ReadingLaws
 mod Splits
 pub mod StringLaws
 mod Walks
-mod WordAnswers
-mod WordPuts
-mod WordRanges
-mod Words
 mod Writers
 pub mod WritingLaws
+pub mod WritingSteps

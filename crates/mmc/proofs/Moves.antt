@@ -66,7 +66,7 @@ next-end body place l true (Item n d e) f h = f n d e refl
 next-end body place l true Cut f h = absurd (let z : _≡_ {A = ℕ} 0 1 = cc in omega arith)
 next-end body place l false s f h = absurd (let z : _≡_ {A = ℕ} 0 1 = cc in omega arith)
 
-moves : (kind : Kind) (body : List ℕ) (place : ℕ) (l : Located) → next kind body place .answer ≡ gives l
+pub moves : (kind : Kind) (body : List ℕ) (place : ℕ) (l : Located) → next kind body place .answer ≡ gives l
     → (place < next kind body place .place) × (next kind body place .place ≤ length body)
 unfolding next
 moves kind body place l h =

@@ -261,7 +261,7 @@ taken kind (suc most) (b ∷ s) h = go (front kind (b ∷ s) (omega arith)) (λ 
         more kind (b ∷ s) x post f e (rest post (omega (arith, item-longer kind x f)))
 
 -- The walk over them, wherever they stand.
-walk-taken : {A : Type 0} (f : Located → A) (kind : Kind) (body pre s : List ℕ) (t : Taken kind s) → body ≡ pre ++ s
+pub walk-taken : {A : Type 0} (f : Located → A) (kind : Kind) (body pre s : List ℕ) (t : Taken kind s) → body ≡ pre ++ s
     → (most : ℕ) → length s < most
     → walkFrom (reads f kind body) most (length pre)
     ≡ record { items = map f (places kind (length pre) (t .items)); stop = refusal (t .stop) }

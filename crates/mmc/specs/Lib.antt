@@ -5,14 +5,11 @@ pub mod Item
 pub mod Length
 pub mod Message
 pub mod Named
-pub mod Numbers
 pub mod Part
 pub mod Rp013
 pub mod Rp013Commands
 pub mod Split
 pub mod Strings
 pub mod WholeLists
-pub mod Word
-pub mod Words
 pub mod Write
 pub mod Writings

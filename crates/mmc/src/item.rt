@@ -14,8 +14,6 @@ use universal::SysexError;
 use universal::put;
 use universal::put_part;
 ghost use mathlib.Core.Path.{_≡_};
-ghost use mathlib.Core.List.{_∷_, []};
-ghost use lib.ListN.{getD};
 ghost use Prim.Native.Nat.{_≤_};
 ghost use Rattle.universal.specs.Overlay.{overlay};
 ghost use Rattle.mmc.specs.Length.{within};
@@ -124,44 +122,8 @@ fn put_locate_field(out: &mut [u8], at: usize, register: u8) -> Put
     }
 }
 
-// The bytes before a Locate's time code.
-fn put_locate_start(out: &mut [u8], at: usize)
-    requires { ⌜ at ≤ 40000 ⌝ }
-    ensures { λ _. ⌜ now (out .exit) ≡ overlay (now (out .entry)) at (68 ∷ 6 ∷ 1 ∷ []) ⌝ }
-{
-    put(out, at, 0x44);
-    put(out, at + 1, 6);
-    put(out, at + 2, 1);
-}
-
-// The bytes of a time code.
-fn put_five(out: &mut [u8], at: usize, bytes: [u8; 5])
-    requires { ⌜ at ≤ 40003 ⌝ }
-    ensures { λ _. ⌜ now (out .exit) ≡ overlay (now (out .entry)) at (getD bytes 0 0 ∷ getD bytes 1 0 ∷ getD bytes 2 0 ∷ getD bytes 3 0 ∷ getD bytes 4 0 ∷ []) ⌝ }
-{
-    put(out, at, bytes[0]);
-    put(out, at + 1, bytes[1]);
-    put(out, at + 2, bytes[2]);
-    put(out, at + 3, bytes[3]);
-    put(out, at + 4, bytes[4]);
-}
-
-// A whole Locate to a time. Where all of it fits, no byte is checked for room again.
-pub(crate) fn put_locate_bytes(out: &mut [u8], at: usize, bytes: [u8; 5])
-    requires { ⌜ at ≤ 40000 ⌝ }
-    ensures { λ _. ⌜ now (out .exit) ≡ overlay (now (out .entry)) at (68 ∷ 6 ∷ 1 ∷ getD bytes 0 0 ∷ getD bytes 1 0 ∷ getD bytes 2 0 ∷ getD bytes 3 0 ∷ getD bytes 4 0 ∷ []) ⌝ }
-{
-    if at + 8 <= out.len() {
-        put_locate_start(out, at);
-        put_five(out, at + 3, bytes);
-        return;
-    }
-    put_locate_start(out, at);
-    put_five(out, at + 3, bytes);
-}
-
 // Locate to a time, in the form with subframes.
-pub(crate) fn put_locate_target(out: &mut [u8], at: usize, target: StandardTimeCode) -> Put
+fn put_locate_target(out: &mut [u8], at: usize, target: StandardTimeCode) -> Put
     requires { ⌜ at ≤ 40000 ⌝ }
     ensures { λ r. ⌜ putOf r ≡ summed (locateTargetItem target) ⌝ }
     ensures { λ _. ⌜ now (out .exit) ≡ overlay (now (out .entry)) at (locateTargetItem target .bytes) ⌝ }
@@ -173,20 +135,13 @@ pub(crate) fn put_locate_target(out: &mut [u8], at: usize, target: StandardTimeC
             checked: Checked::Refused(SysexError::OutOfRange),
         };
     }
-    let written = target.to_bytes();
-    let checked = written.checked;
-    let bytes = written.bytes;
-    if let Checked::Refused(e) = checked {
-        put_locate_start(out, at);
-        return Put {
-            len: 3,
-            checked: Checked::Refused(e),
-        };
-    }
-    put_locate_bytes(out, at, bytes);
+    let start = [0x44u8, 6, 1];
+    put_part(out, at, &start);
+    let rest = put_standard(out, at + 3, target);
+    let checked = rest.checked;
     Put {
-        len: 8,
-        checked: Checked::Accepted,
+        len: 3 + rest.len,
+        checked,
     }
 }
 

@@ -89,7 +89,7 @@ pub struct NextParts {
 }
 
 // The item at a place and the place after it; 2 and the end where the string is cut short; 9 at or past it.
-pub(crate) fn next_parts(body: &[u8], place: usize, kind: Kind) -> NextParts
+pub fn next_parts(body: &[u8], place: usize, kind: Kind) -> NextParts
     ensures { λ r. ⌜ nextPartsOf r ≡ next kind (now (body .entry)) place ⌝ }
 {
     if place >= body.len() {

@@ -4,10 +4,7 @@ use crate::command::MmcCommand;
 use crate::field::InfoField;
 use crate::item;
 use crate::named::Put;
-use crate::named::put_byte;
-use crate::word::plain_name;
 use codes::Checked;
-use codes::StandardTimeCode;
 use universal::MaybeSubId2;
 use universal::Opened;
 use universal::SysexError;
@@ -15,7 +12,6 @@ use universal::Universal;
 use universal::Written;
 use universal::close;
 ghost use mathlib.Core.Path.{_≡_};
-ghost use mathlib.Core.List.{[]};
 ghost use mathlib.Core.Option.{some};
 ghost use Prim.Native.Nat.{_<_, _≤_};
 ghost use lib.ListN.{length};
@@ -24,8 +20,6 @@ ghost use Rattle.universal.specs.Message.{openedOf, writtenOf};
 ghost use Rattle.universal.specs.Overlay.{overlay};
 ghost use Rattle.mmc.specs.Item.{commandItem, fieldItem};
 ghost use Rattle.mmc.specs.Named.{stopOf, putOf};
-ghost use Rattle.mmc.specs.declared.command.MmcCommand.the-variants.{LocateTarget};
-ghost use Rattle.mmc.specs.Word.{plainCommand};
 ghost use Rattle.mmc.specs.Write.{writingOf, opensAt, moved, sound, ready, openedCommands, openedResponses, openedFields, begun, admitted, given, closedMessage, closedFields, wholeMessage, wholeFields};
 
 // Sub-ID 1 of a command message.
@@ -132,11 +126,6 @@ impl Writer {
     fn ready(self) -> Checked
         ensures { λ r. ⌜ stopOf r ≡ ready (writingOf self) ⌝ }
     {
-        if self.items < MOST_ITEMS {
-            if self.at <= MOST_POSITION {
-                return self.checked;
-            }
-        }
         let checked = self.sound();
         if let Checked::Refused(e) = checked {
             return Checked::Refused(e);
@@ -200,34 +189,6 @@ impl Writer {
         }
         let at = self.at;
         let put = item::put_command(out, at, source, command);
-        self.after(put)
-    }
-
-    // Writes a command that is a name alone, by its case: 0 to 8, as `plainCommand` says.
-    pub fn put_plain(self, out: &mut [u8], kind: u8) -> Wrote
-        ensures { λ r. ⌜ (writingOf (r .writer) ≡ given (writingOf self) (commandItem [] (plainCommand kind))) × (stopOf (r .checked) ≡ admitted (writingOf self) (commandItem [] (plainCommand kind)) .stop) ⌝ }
-        ensures { λ _. ⌜ now (out .exit) ≡ overlay (now (out .entry)) (self .at) (admitted (writingOf self) (commandItem [] (plainCommand kind)) .bytes) ⌝ }
-    {
-        let ready = self.ready();
-        if let Checked::Refused(e) = ready {
-            return self.failed(e);
-        }
-        let at = self.at;
-        let put = put_byte(out, at, plain_name(kind));
-        self.after(put)
-    }
-
-    // Writes a Locate to a time.
-    pub fn put_locate(self, out: &mut [u8], target: StandardTimeCode) -> Wrote
-        ensures { λ r. ⌜ (writingOf (r .writer) ≡ given (writingOf self) (commandItem [] (LocateTarget target))) × (stopOf (r .checked) ≡ admitted (writingOf self) (commandItem [] (LocateTarget target)) .stop) ⌝ }
-        ensures { λ _. ⌜ now (out .exit) ≡ overlay (now (out .entry)) (self .at) (admitted (writingOf self) (commandItem [] (LocateTarget target)) .bytes) ⌝ }
-    {
-        let ready = self.ready();
-        if let Checked::Refused(e) = ready {
-            return self.failed(e);
-        }
-        let at = self.at;
-        let put = item::put_locate_target(out, at, target);
         self.after(put)
     }
 

@@ -11,6 +11,7 @@ use crate::messages::bits_at;
 use crate::messages::header_at;
 use crate::strings::command_at;
 use crate::strings::field_at;
+use fast_mmc::WrittenNumbers;
 use fimbrast::message::fimbrast_full_message_write;
 use fimbrast::message::fimbrast_universal_write;
 use fimbrast::message::fimbrast_user_bits_write;
@@ -22,7 +23,6 @@ use fimbrast::write::fimbrast_open_responses;
 use fimbrast::write::fimbrast_put_command;
 use fimbrast::write::fimbrast_put_field;
 use flat_mmc::write::FlatWriter;
-use mmc::WrittenNumbers;
 ghost use Prim.Native.Nat.{_<_};
 
 // An answer that no call gives.

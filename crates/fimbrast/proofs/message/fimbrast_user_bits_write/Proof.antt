@@ -1,6 +1,6 @@
 -- `fimbrast::message::fimbrast_user_bits_write` meets its contract. Assumes nothing.
 use mathlib.Core.Path.{ap, _∙_}
-use Rattle.mmc.specs.Numbers.{writtenNumbers}
+use Rattle.fast_mmc.specs.Numbers.{writtenNumbers}
 use borrow.Author.Needs.{needs}
 use Rattle.fimbrast.proofs.message.fimbrast_user_bits_write.Statement.{statement}
 use Rattle.fimbrast.proofs.message.fimbrast_user_bits_write.Tie as tie

@@ -1,6 +1,6 @@
 -- `fimbrast::write::fimbrast_close_fields` meets its contract. Assumes nothing.
 use mathlib.Core.Path.{ap, _∙_}
-use Rattle.mmc.specs.Numbers.{writtenNumbers}
+use Rattle.fast_mmc.specs.Numbers.{writtenNumbers}
 use borrow.Author.Needs.{needs}
 use Rattle.fimbrast.proofs.write.fimbrast_close_fields.Statement.{statement}
 use Rattle.fimbrast.proofs.write.fimbrast_close_fields.Tie as tie

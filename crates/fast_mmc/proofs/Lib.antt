@@ -1,0 +1,4 @@
+mod WordAnswers
+mod WordPuts
+mod WordRanges
+mod Words

@@ -1,0 +1,70 @@
+use borrow.Author.Needs.{needs}
+use Rattle.fast_mmc.proofs.word.code_word.Statement.{statement}
+use Rattle.fast_mmc.proofs.word.code_word.Tie as tie
+use Rattle.fast_mmc.proofs.Words.{code-five}
+use native.Mathlib.Omega.{arith}
+
+wide-requires : tie.Need-wide-requires
+wide-requires c κs = search needs
+
+wide-requires-2 : tie.Need-wide-requires-2
+wide-requires-2 c κs = search needs
+
+mul-result : tie.Need-mul-result
+mul-result c = search needs
+
+add-result : tie.Need-add-result
+add-result c = search needs
+
+wide-requires-3 : tie.Need-wide-requires-3
+wide-requires-3 c κs = search needs
+
+mul-result-2 : tie.Need-mul-result-2
+mul-result-2 c = search needs
+
+add-result-2 : tie.Need-add-result-2
+add-result-2 c = search needs
+
+wide-requires-4 : tie.Need-wide-requires-4
+wide-requires-4 c κs = search needs
+
+mul-result-3 : tie.Need-mul-result-3
+mul-result-3 c = search needs
+
+add-result-3 : tie.Need-add-result-3
+add-result-3 c = search needs
+
+last-byte-requires : tie.Need-last-byte-requires
+last-byte-requires c κs = search needs
+
+wide-requires-5 : tie.Need-wide-requires-5
+wide-requires-5 c κs = search needs
+
+mul-result-4 : tie.Need-mul-result-4
+mul-result-4 c = search needs
+
+add-result-4 : tie.Need-add-result-4
+add-result-4 c = search needs
+
+returns : tie.Need-returns
+returns c = (rw (c .before .before .before .before .before .wide .ensures, c .before .before .before .before .wide2 .ensures, c .before .before .before .wide3 .ensures, c .before .before .wide4 .ensures, c .wide5 .ensures, c .before .last-byte .ensures) (code-five _ _ _ _ _), omega arith)
+
+pub code-word-spec : {M : Type 1} → statement M
+code-word-spec =
+    tie.close
+    (tie.spec
+    wide-requires
+    wide-requires-2
+    mul-result
+    add-result
+    wide-requires-3
+    mul-result-2
+    add-result-2
+    wide-requires-4
+    mul-result-3
+    add-result-3
+    last-byte-requires
+    wide-requires-5
+    mul-result-4
+    add-result-4
+    returns)

@@ -1,0 +1,4 @@
+pub mod Contracts
+pub mod Numbers
+pub mod Word
+pub mod Words

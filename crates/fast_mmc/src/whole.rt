@@ -1,0 +1,348 @@
+// A whole command message from words, in one call: names alone, and Locates to a time. A usual word goes out with only the
+// position kept; from an unusual one on the writer does it.
+use crate::locate::put_locate_bytes;
+use crate::numbers::WrittenNumbers;
+use crate::numbers::written_numbers;
+use crate::word::plain_name;
+use codes::Checked;
+use codes::FinalByte;
+use codes::StandardTimeCode;
+use codes::TimeCodeStatus;
+use labels::MtcTime;
+use labels::TimeCodeType;
+use mmc::MmcCommand;
+use mmc::Writer;
+use universal::put;
+ghost use mathlib.Core.Path.{_≡_};
+ghost use mathlib.Core.Bool.{true, cond};
+ghost use mathlib.Core.List.{_∷_, []};
+ghost use Prim.Native.Nat.{_+_, _%_, _≤_};
+ghost use lib.ListN.{length, drop};
+ghost use Rattle.universal.specs.Overlay.{overlay};
+ghost use Rattle.mmc.specs.declared.length.Kind.the-variants.{Commands};
+ghost use Rattle.codes.specs.declared.time_code.FinalByte.the-variants.{Subframes, Status};
+ghost use Rattle.codes.specs.TimeCode.{readStatus};
+ghost use Rattle.mmc.specs.Item.{commandItem};
+ghost use Rattle.fast_mmc.specs.Numbers.{writtenNumbers};
+ghost use Rattle.mmc.specs.Write.{writingOf, given, admitted, closedMessage, wholeMessage};
+ghost use Rattle.mmc.specs.Writings.{stringAnswer, stringLeft};
+ghost use Rattle.fast_mmc.specs.Word.{plainCommand};
+ghost use Rattle.fast_mmc.specs.Contracts.{numbersIn, afterWords, closedOut, going, PutWhole, LowBytes, InRange, Kept};
+ghost use Rattle.fast_mmc.specs.Words.{markedCode, byteAt, wordCode, wordCommand, wordItems};
+
+// The case of a Locate to a time.
+const LOCATE_TARGET: u64 = 11;
+// 104, 68, 68, 98 and 28 in their bytes: above 23 hours, 59 minutes, 59 seconds, 29 frames and 99 subframes they make 128 or more.
+const ABOVE_RANGE: u64 = 0x1C62_4444_6800;
+// The most commands of a message, each a byte or more.
+const MOST_COMMANDS: usize = 48;
+
+// The last byte of a time code, a status or subframes.
+fn last_of(status: bool, last: u8) -> FinalByte
+    ensures { λ r. ⌜ r ≡ cond status (Status (readStatus last)) (Subframes last) ⌝ }
+{
+    if status {
+        return FinalByte::Status(TimeCodeStatus::from_byte(last));
+    }
+    FinalByte::Subframes(last)
+}
+
+// A time code by its counts, its last byte and its marks.
+fn marked_code(
+    hours: u8,
+    minutes: u8,
+    seconds: u8,
+    frames: u8,
+    last: u8,
+    marks: u8,
+) -> StandardTimeCode
+    ensures { λ r. ⌜ r ≡ markedCode hours minutes seconds frames last marks ⌝ }
+{
+    let rate = TimeCodeType::from_bits(marks);
+    StandardTimeCode {
+        time: MtcTime {
+            hours,
+            minutes,
+            seconds,
+            frames,
+            rate,
+        },
+        color_frame: marks / 4 % 2 == 1,
+        blank: marks / 8 % 2 == 1,
+        negative: marks / 16 % 2 == 1,
+        final_byte: last_of(marks / 32 % 2 == 1, last),
+    }
+}
+
+// The time code of a word.
+fn word_code(word: u64) -> StandardTimeCode
+    ensures { λ r. ⌜ r ≡ wordCode word ⌝ }
+{
+    marked_code(
+        (word / 0x100 % 256) as u8,
+        (word / 0x1_0000 % 256) as u8,
+        (word / 0x100_0000 % 256) as u8,
+        (word / 0x1_0000_0000 % 256) as u8,
+        (word / 0x100_0000_0000 % 256) as u8,
+        (word / 0x1_0000_0000_0000 % 256) as u8,
+    )
+}
+
+// A command that is a name alone, by its case; a number above 8 is taken as 8.
+fn plain_command(kind: u8) -> MmcCommand
+    ensures { λ r. ⌜ r ≡ plainCommand kind ⌝ }
+{
+    match kind {
+        0 => MmcCommand::Stop,
+        1 => MmcCommand::Play,
+        2 => MmcCommand::DeferredPlay,
+        3 => MmcCommand::FastForward,
+        4 => MmcCommand::Rewind,
+        5 => MmcCommand::RecordStrobe,
+        6 => MmcCommand::RecordExit,
+        7 => MmcCommand::Pause,
+        _ => MmcCommand::Reset,
+    }
+}
+
+// The command of a word.
+fn word_command(word: u64) -> MmcCommand
+    ensures { λ r. ⌜ r ≡ wordCommand word ⌝ }
+{
+    let case = word % 256;
+    if case == LOCATE_TARGET {
+        return MmcCommand::LocateTarget(word_code(word));
+    }
+    plain_command(case as u8)
+}
+
+// A word's command, by the writer.
+fn put_word(out: &mut [u8], writer: Writer, word: u64) -> Writer
+    ensures { λ r. ⌜ writingOf r ≡ given (writingOf writer) (commandItem [] (wordCommand word)) ⌝ }
+    ensures { λ _. ⌜ now (out .exit) ≡ overlay (now (out .entry)) (writer .at) (admitted (writingOf writer) (commandItem [] (wordCommand word)) .bytes) ⌝ }
+{
+    let wrote = writer.put_command(out, &[], word_command(word));
+    wrote.writer
+}
+
+// A small answer in one number, which comes back in a register.
+fn one_number(numbers: WrittenNumbers) -> usize
+    requires { ⌜ numbers .length ≤ 53 ⌝ }
+    ensures { λ r. ⌜ numbersIn r ≡ numbers ⌝ }
+{
+    numbers.refusal as usize + numbers.length * 256
+}
+
+// The words from one on, by the writer, from a position on, and the close.
+fn put_rest(out: &mut [u8], words: &[u64], at: usize, from: usize) -> usize
+    ensures { λ r. ⌜ numbersIn r ≡ writtenNumbers (wholeMessage (afterWords (going at from) (now (out .entry)) (drop from (now (words .entry))) .writing) (length (now (out .entry)))) ⌝ }
+    ensures { λ _. ⌜ now (out .exit) ≡ closedOut (afterWords (going at from) (now (out .entry)) (drop from (now (words .entry)))) ⌝ }
+{
+    let mut w = Writer {
+        at,
+        items: from,
+        checked: Checked::Accepted,
+    };
+    let mut i = from;
+    while i < words.len() {
+        w = put_word(out, w, words[i]);
+        i += 1;
+    }
+    one_number(written_numbers(w.close_message(out)))
+}
+
+// The refusal and the length of such a number.
+fn numbers_of(number: usize) -> WrittenNumbers
+    ensures { λ r. ⌜ r ≡ numbersIn number ⌝ }
+{
+    WrittenNumbers {
+        refusal: (number % 256) as u8,
+        length: number / 256,
+    }
+}
+
+// True only for a minute that skips no number.
+fn is_tenth(minutes: u8) -> bool
+    ensures { λ r. ⌜ (r ≡ true → minutes % 10 ≡ 0) ⌝ }
+{
+    minutes % 10 == 0
+}
+
+// True only where each of the five bytes above the lowest is below 128, and what is above them below 4.
+fn is_low(number: u64) -> bool
+    ensures { λ r. ⌜ (r ≡ true → LowBytes number) ⌝ }
+{
+    if number / 0x4_0000_0000_0000 != 0 {
+        return false;
+    }
+    if number / 0x8000 % 2 != 0 {
+        return false;
+    }
+    if number / 0x80_0000 % 2 != 0 {
+        return false;
+    }
+    if number / 0x8000_0000 % 2 != 0 {
+        return false;
+    }
+    if number / 0x80_0000_0000 % 2 != 0 {
+        return false;
+    }
+    number / 0x8000_0000_0000 % 2 == 0
+}
+
+// True only where counts, subframes and rate are in range: the highest bits of the word and of one sum say it of all at once.
+fn is_in_range(word: u64) -> bool
+    ensures { λ r. ⌜ (r ≡ true → InRange word) ⌝ }
+{
+    if !is_low(word) {
+        return false;
+    }
+    is_low(word + ABOVE_RANGE)
+}
+
+// True only for a label in range that its rate has. What is rarely asked comes first: the compiler asks it last.
+fn is_kept(word: u64) -> bool
+    ensures { λ r. ⌜ (r ≡ true → Kept (byteAt 65536 word) (byteAt 16777216 word) (byteAt 4294967296 word) (byteAt 281474976710656 word)) ⌝ }
+{
+    let marks = (word / 0x1_0000_0000_0000 % 256) as u8;
+    if marks < 2 {
+        let frames = (word / 0x1_0000_0000 % 256) as u8;
+        return frames < 24 + marks;
+    }
+    if is_tenth((word / 0x1_0000 % 256) as u8) {
+        return true;
+    }
+    if marks == 3 {
+        return true;
+    }
+    // The seconds, and the frames above them.
+    let in_minute = word / 0x100_0000 % 0x1_0000;
+    if in_minute / 512 != 0 {
+        return true;
+    }
+    in_minute % 256 != 0
+}
+
+// A Locate to a usual time that fits, and the position after it; any other is left, and the position stays.
+fn put_locate(out: &mut [u8], at: usize, word: u64) -> usize
+    requires { ⌜ (at ≤ 40000) × (word % 256 ≡ 11) ⌝ }
+    ensures { λ r. ⌜ r ≤ at + 8 ⌝ }
+    ensures { λ r. ⌜ PutWhole word at (now (out .entry)) r (now (out .exit)) ⌝ }
+{
+    let next = at + 8;
+    if out.len() < next {
+        return at;
+    }
+    if !is_in_range(word) {
+        return at;
+    }
+    if !is_kept(word) {
+        return at;
+    }
+    let hours = (word / 0x100 % 256) as u8;
+    let minutes = (word / 0x1_0000 % 256) as u8;
+    let seconds = (word / 0x100_0000 % 256) as u8;
+    let frames = (word / 0x1_0000_0000 % 256) as u8;
+    let last = (word / 0x100_0000_0000 % 256) as u8;
+    let marks = (word / 0x1_0000_0000_0000 % 256) as u8;
+    let bytes = [hours + marks * 32, minutes, seconds, frames, last];
+    put_locate_bytes(out, at, bytes);
+    next
+}
+
+// A usual word, and the position after it; any other is left, and the position stays.
+fn put_whole(out: &mut [u8], at: usize, word: u64) -> usize
+    requires { ⌜ at ≤ 40000 ⌝ }
+    ensures { λ r. ⌜ r ≤ at + 8 ⌝ }
+    ensures { λ r. ⌜ PutWhole word at (now (out .entry)) r (now (out .exit)) ⌝ }
+{
+    let case = word % 256;
+    // Stop to Record Exit, whose names are one more.
+    if case < 7 {
+        put(out, at, case as u8 + 1);
+        return at + 1;
+    }
+    if case == LOCATE_TARGET {
+        return put_locate(out, at, word);
+    }
+    put(out, at, plain_name(case as u8));
+    at + 1
+}
+
+// The words of a message that was opened, and the close.
+fn put_words(out: &mut [u8], words: &[u64]) -> WrittenNumbers
+    requires { ⌜ length (now words) ≤ 48 ⌝ }
+    ensures { λ r. ⌜ r ≡ writtenNumbers (wholeMessage (afterWords (going 4 0) (now (out .entry)) (now (words .entry)) .writing) (length (now (out .entry)))) ⌝ }
+    ensures { λ _. ⌜ now (out .exit) ≡ closedOut (afterWords (going 4 0) (now (out .entry)) (now (words .entry))) ⌝ }
+{
+    let mut at = 4;
+    let mut i = 0;
+    while i < words.len() {
+        let next = put_whole(out, at, words[i]);
+        if next == at {
+            return numbers_of(put_rest(out, words, at, i));
+        }
+        at = next;
+        i += 1;
+    }
+    close_at(out, at)
+}
+
+// The close at a position: 2 for a body outside 1 to 48 bytes, else F7H, and 4 where it does not fit.
+fn close_at(out: &mut [u8], at: usize) -> WrittenNumbers
+    requires { ⌜ at ≤ 40000 ⌝ }
+    ensures { λ r. ⌜ r ≡ writtenNumbers (wholeMessage (going at 0) (length (now (out .entry)))) ⌝ }
+    ensures { λ _. ⌜ now (out .exit) ≡ overlay (now (out .entry)) at (closedMessage (going at 0) .bytes) ⌝ }
+{
+    if at < 5 {
+        return WrittenNumbers {
+            refusal: 2,
+            length: 0,
+        };
+    }
+    if at > 52 {
+        return WrittenNumbers {
+            refusal: 2,
+            length: 0,
+        };
+    }
+    put(out, at, 0xF7);
+    let length = at + 1;
+    if at < out.len() {
+        return WrittenNumbers { refusal: 0, length };
+    }
+    WrittenNumbers { refusal: 4, length }
+}
+
+// F0H, 7FH, the device, 06H.
+fn put_start(out: &mut [u8], device_id: u8)
+    ensures { λ _. ⌜ now (out .exit) ≡ overlay (now (out .entry)) 0 (240 ∷ 127 ∷ «device_id» ∷ 6 ∷ []) ⌝ }
+{
+    put(out, 0, 0xF0);
+    put(out, 1, 0x7F);
+    put(out, 2, device_id);
+    put(out, 3, 0x06);
+}
+
+// Writes a whole command message: opened, given the commands of the words, and closed.
+pub fn write_words(out: &mut [u8], device_id: u8, words: &[u64]) -> WrittenNumbers
+    ensures { λ r. ⌜ r ≡ writtenNumbers (stringAnswer Commands «device_id» (wordItems (now (words .entry))) (now (out .entry))) ⌝ }
+    ensures { λ _. ⌜ now (out .exit) ≡ stringLeft Commands «device_id» (wordItems (now (words .entry))) (now (out .entry)) ⌝ }
+{
+    if device_id > 0x7F {
+        return WrittenNumbers {
+            refusal: 5,
+            length: 0,
+        };
+    }
+    // Where the four bytes fit, none is checked for room.
+    if out.len() < 4 {
+        put_start(out, device_id);
+        return numbers_of(put_rest(out, words, 4, 0));
+    }
+    put_start(out, device_id);
+    if words.len() > MOST_COMMANDS {
+        return numbers_of(put_rest(out, words, 4, 0));
+    }
+    put_words(out, words)
+}
