@@ -26,7 +26,7 @@ use Rattle.mtc.specs.declared.reader.MaybeSequence.the-variants.{Sequenc
 use Rattle.mtc.specs.declared.reader.MaybeTime.{MaybeTime}
 use Rattle.mtc.specs.declared.reader.MaybeTime.the-variants.{Time}
 use Rattle.mtc.specs.declared.reader.MtcReader.{MtcReader}
-use Rattle.mtc.proofs.Nibbles.{numbered, values, split, split-pieces, type-of-bits, raw-values}
+use Rattle.mtc.proofs.Nibbles.{bits-code, numbered, values, split, split-pieces, type-of-bits, raw-values}
 use Rattle.labels.proofs.Laws.{moved-valid, moved-by-sum, moved-by-one, moved-back-one}
 use Rattle.mtc.proofs.Widths.{valid-widths}
 use Rattle.mtc.proofs.Rounds.{run, leave, left, round, round-left}
@@ -62,12 +62,6 @@ high-bit-ignored b =
 
 -- ---- the pieces of a label
 
-same-code : (r : TimeCodeType) → bitsOf r ≡ typeCode r
-same-code Fps24 = refl
-same-code Fps25 = refl
-same-code Fps30Drop = refl
-same-code Fps30 = refl
-
 high-hours : (k h : ℕ) → h < 32 → 0x70 + k * 2 + h / 16 % 2 ≡ 7 * 16 + (k * 32 + h) / 16
 high-hours k h l =
     let e : (k * 32 + h) / 16 ≡ k * 2 + h / 16 = omega arith in
@@ -78,7 +72,7 @@ high-hours k h l =
 pub pieces-practice : (t : MtcTime) → InWidths t → pieces t ≡ dataBytes t
 unfolding pieces dataBytes
 pieces-practice t w =
-    let c : bitsOf (t .rate) ≡ typeCode (t .rate) = same-code (t .rate) in
+    let c : bitsOf (t .rate) ≡ typeCode (t .rate) = bits-code (t .rate) in
     let e0 : t .frames % 16 ≡ 0 * 16 + t .frames % 16 = omega arith in
     let e1 : 0x10 + t .frames / 16 % 2 ≡ 1 * 16 + t .frames / 16 = omega (arith, w .frames) in
     let e3 : 0x30 + t .seconds / 16 % 4 ≡ 3 * 16 + t .seconds / 16 = omega (arith, w .seconds) in
