@@ -13,7 +13,7 @@ use Rattle.mtc.specs.declared.generator.MtcGenerator.{MtcGenerator}
 use Rattle.mtc.specs.declared.reader.MaybeTime.{MaybeTime}
 use Rattle.mtc.specs.declared.reader.MtcReader.{MtcReader}
 use Rattle.mtc.specs.Generator.{final, move, started, GeneratorCall, afterGeneratorCalls}
-use Rattle.mtc.specs.QuarterFrame.{pieceOf, quarterFrame, fromByte, toByte, pieces}
+use Rattle.mtc.specs.QuarterFrame.{pieceOf, quarterFrame, fromByte, toByte, masked, pieces}
 use Rattle.mtc.specs.Reader.{fresh, pieceFits, isSound, rawOf, reported, afterByte, eventOf, afterFullMessage}
 use Rattle.mtc.specs.Ready.{Ready, NotAgainst, eightPieces, labelIn, Reads}
 use Rattle.mtc.specs.Rp004.{dataByte, InWidths, dataBytes, sequence, nextLabel, sequencesFrom, isBoundary, currentTime}
@@ -54,6 +54,10 @@ high-bit-ignored = QuarterFrames.high-bit-ignored
 -- A label's data bytes are RP-004/008's, where its numbers fit their widths.
 pub pieces-practice : (t : MtcTime) → InWidths t → pieces t ≡ dataBytes t
 pieces-practice = QuarterFrames.pieces-practice
+
+-- More is sent than the page has: a label outside them goes out as the one with each count masked to its width.
+pub pieces-masked : (t : MtcTime) → pieces t ≡ dataBytes (masked t)
+pieces-masked = QuarterFrames.pieces-masked
 
 -- The generator's and the reader's move of two frames is RP-004/008's.
 pub moves-practice : (t : MtcTime) (d : Direction) → T (isValid t) → addFrames t (move d) ≡ nextLabel d t

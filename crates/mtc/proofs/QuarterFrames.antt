@@ -11,7 +11,7 @@ use lib.Dec.{T, eqb, eqb→eq}
 use lib.IntN.{pos, negsuc}
 use lib.ListN.{length, getD}
 use Rattle.mtc.specs.Generator.{first, final, move, sentAt}
-use Rattle.mtc.specs.QuarterFrame.{pieceOf, valueOf, quarterFrame, fromByte, toByte, pieces}
+use Rattle.mtc.specs.QuarterFrame.{pieceOf, valueOf, quarterFrame, fromByte, toByte, pieces, masked}
 use Rattle.mtc.specs.Reader.{fresh, Sound, taken, control, rawOf, sameTime, reported, afterByte, eventOf, afterFullMessage}
 use Rattle.mtc.specs.Ready.{Starts, Ready, NotAgainst, eightPieces, labelIn, afterBytes, Reads}
 use Rattle.mtc.specs.Rp004.{dataByte, typeCode, InWidths, dataBytes, sequence, nextLabel, sequencesFrom, isBoundary, currentTime}
@@ -92,6 +92,30 @@ pieces-practice t w =
     ∷ e6 i
     ∷ e7 i
     ∷ []
+
+-- The high bits that go out are kept by the mask: bit 4 of five, bits 4 and 5 of six.
+high-of-five : (n : ℕ) → n / 16 % 2 ≡ n % 32 / 16 % 2
+high-of-five n = let e : n % 32 / 16 ≡ n / 16 % 2 = omega arith in rw e (omega arith)
+
+high-of-six : (n : ℕ) → n / 16 % 4 ≡ n % 64 / 16 % 4
+high-of-six n = let e : n % 64 / 16 ≡ n / 16 % 4 = omega arith in rw e (omega arith)
+
+-- So they are of every label, with its counts masked to their widths.
+pub pieces-masked : (t : MtcTime) → pieces t ≡ dataBytes (masked t)
+unfolding pieces
+pieces-masked t =
+    let e0 : t .frames % 16 ≡ t .frames % 32 % 16 = omega arith in
+    let e1 : 0x10 + t .frames / 16 % 2 ≡ 0x10 + t .frames % 32 / 16 % 2 = rw (high-of-five (t .frames)) in
+    let e2 : 0x20 + t .seconds % 16 ≡ 0x20 + t .seconds % 64 % 16 = omega arith in
+    let e3 : 0x30 + t .seconds / 16 % 4 ≡ 0x30 + t .seconds % 64 / 16 % 4 = rw (high-of-six (t .seconds)) in
+    let e4 : 0x40 + t .minutes % 16 ≡ 0x40 + t .minutes % 64 % 16 = omega arith in
+    let e5 : 0x50 + t .minutes / 16 % 4 ≡ 0x50 + t .minutes % 64 / 16 % 4 = rw (high-of-six (t .minutes)) in
+    let e6 : 0x60 + t .hours % 16 ≡ 0x60 + t .hours % 32 % 16 = omega arith in
+    let e7 = ap (λ (n : ℕ). 0x70 + bitsOf (t .rate) * 2 + n) (high-of-five (t .hours)) in
+    let same : pieces t ≡ pieces (masked t) = λ i. e0 i ∷ e1 i ∷ e2 i ∷ e3 i ∷ e4 i ∷ e5 i ∷ e6 i ∷ e7 i ∷ [] in
+    same
+    ∙ pieces-practice (masked t)
+    (record { frames = omega arith; seconds = omega arith; minutes = omega arith; hours = omega arith })
 
 in-practice : (t : MtcTime) (d : Direction) → InWidths t → inOrder d (pieces t) ≡ sequence d t
 in-practice t Forward w = pieces-practice t w
