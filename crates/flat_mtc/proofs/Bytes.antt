@@ -14,7 +14,6 @@ use Rattle.mtc.specs.declared.generator.Direction.{Direction}
 use Rattle.mtc.specs.declared.generator.MaybePiece.{MaybePiece}
 use Rattle.mtc.specs.declared.generator.MaybePiece.the-variants.{NoPiece, Piece}
 use Rattle.mtc.specs.declared.generator.MtcGenerator.{MtcGenerator}
-use Rattle.mtc.specs.declared.generator.NextByte.the-variants.{Byte}
 use Rattle.labels.specs.declared.time.MtcTime.{MtcTime}
 use Rattle.flat_mtc.specs.Generator.{directionAt, pieceAt, generatorIn, movedTo, sentBy, flatByte}
 use Rattle.flat_mtc.specs.Time.{timeOf, timeAt, flatTime}
@@ -62,8 +61,7 @@ module _ (g : MtcGenerator) (f : FlatByte) (q : MtcGenerator) (r : g .running �
       → (f ≡ flatByte (gives (getD (pieces t) p 0))) × (q ≡ sentAt t (g .direction) p)
       → (f ≡ flatByte (nextByte g)) × (q ≡ afterNextByte g)
   answers m t p k et ep h =
-      let s = sends g (record { generator = sentAt t (g .direction) p; byte = Byte (getD (pieces t) p 0) }) r k et ep (refl, refl) in
-      (h .0 ∙ ap flatByte (s .0), h .1 ∙ s .1)
+      let s = sends g r k et ep in (h .0 ∙ ap flatByte (s .0), h .1 ∙ s .1)
 
   by-sent : (t : MtcTime) (p : ℕ) → sentBy (movedTo g t) p ≡ sentAt t (g .direction) p
   by-sent t p = rw r

@@ -17,7 +17,7 @@ use Rattle.labels.specs.Time.{dayOf, formula, frameCount, labelAt, addFr
 use Rattle.labels.proofs.After.{first, step-frame, step-second, step-minute, first-mod, first-zero, one-on, last-count, label-zero, after-carry, moved-by-one}
 use Rattle.labels.proofs.Counts.{count-is-formula}
 use Rattle.labels.proofs.Moving.{label-mod, moved-valid, moved-by-sum, moved-by-none}
-use Rattle.labels.proofs.Order.{Skipped, skipped-facts}
+use Rattle.labels.proofs.Skipped.{Skipped, skipped-facts}
 use Rattle.labels.proofs.Validity.{Kept, skipped-kept, kept-skipped, InRange, valid-facts, facts-valid}
 
 -- ---- the last frame of a second

@@ -1,6 +1,6 @@
 -- The laws of labels that readers and upper crates cite: counts, labels and moves on every input, and what they mean by SMPTE
 -- ST 12-1. Assumes nothing.
-use Prim.Native.Nat.{ℕ, _+_, _*_, _/_, _%_, _≤_, _<_}
+use Prim.Native.Nat.{ℕ, _+_, _-_, _*_, _/_, _%_, _≤_, _<_}
 use mathlib.Core.Path.{_≡_, refl}
 use mathlib.Core.Bool.{true, false}
 use mathlib.Core.Logic.{_⊎_}
@@ -10,7 +10,7 @@ use Rattle.labels.specs.declared.time.MtcTime.{MtcTime}
 use Rattle.labels.specs.declared.time.TimeCodeType.{TimeCodeType}
 use Rattle.labels.specs.declared.time.TimeCodeType.the-variants.{Fps30Drop}
 use Rattle.labels.specs.St12.{label, framesPerSecond, isDropFrame, isSkipped, isValid, LeastAbove, countBefore, labelsOfDay, labelAfter, labelBefore}
-use Rattle.labels.specs.Time.{bitsOf, dayOf, formula, frameCount, labelAt, addFrames, nextValid, labelNumber}
+use Rattle.labels.specs.Time.{bitsOf, dayOf, frameCount, labelAt, addFrames, nextValid, labelNumber}
 use Rattle.labels.proofs.After
 use Rattle.labels.proofs.Before
 use Rattle.labels.proofs.Counts
@@ -20,6 +20,7 @@ use Rattle.labels.proofs.Order
 -- A rate has at most 30 frames.
 pub use Rattle.labels.proofs.Rates.{fps-small}
 use Rattle.labels.proofs.Short
+use Rattle.labels.proofs.Skipped
 use Rattle.labels.proofs.Validity
 -- A valid label's numbers are in their ranges, and fit the widths in which they are sent.
 pub use Rattle.labels.proofs.Validity.{InRange, valid-facts, Widths, valid-widths}
@@ -38,13 +39,17 @@ label-of-count = Counts.label-of-count
 pub label-valid : (n : ℕ) (r : TimeCodeType) → T (isValid (labelAt n r))
 label-valid = Counts.label-valid
 
--- Any label counts by the formula, reduced by the day.
-pub count-by-formula : (t : MtcTime)
-    → frameCount t ≡ formula (t .rate) (t .hours * 60 + t .minutes) (t .seconds) (t .frames) % dayOf (t .rate)
-unfolding frameCount
-count-by-formula t = refl
+-- A skipped label counts as a label of the minute before, two frames earlier: h:m:00;0f as h:(m-1):59;(28+f), also beyond 23:59.
+pub skipped-two-earlier : (t : MtcTime) → T (isSkipped t)
+    → frameCount t ≡ frameCount (label (t .rate) (t .hours) (t .minutes - 1) 59 (28 + t .frames))
+skipped-two-earlier = Skipped.skipped-two-earlier
 
--- The skipped label 00:01:00;00 counts 1,798, and so does 00:00:59;28.
+-- That label is valid, where hours and minutes are in range.
+pub two-earlier-valid : (t : MtcTime) → T (isSkipped t) → t .hours ≤ 23 → t .minutes ≤ 59
+    → T (isValid (label (t .rate) (t .hours) (t .minutes - 1) 59 (28 + t .frames)))
+two-earlier-valid = Skipped.two-earlier-valid
+
+-- So the skipped label 00:01:00;00 counts 1,798, and so does 00:00:59;28.
 pub skipped-counts : (frameCount (label Fps30Drop 0 1 0 0) ≡ 1798) × (frameCount (label Fps30Drop 0 0 59 28) ≡ 1798)
 unfolding frameCount
 skipped-counts = (refl, refl)

@@ -8,5 +8,6 @@ mod Moving
 mod Order
 mod Rates
 mod Short
+mod Skipped
 mod Sums
 mod Validity

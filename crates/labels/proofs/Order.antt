@@ -1,17 +1,18 @@
 -- The order of labels, and that `next_valid` of a skipped label is the least valid label above it. Assumes nothing.
-use Prim.Native.Nat.{ℕ, _+_, _*_, _%_, _≤_, _<_}
-use mathlib.Core.Path.{_≡_, refl, sym, ap, subst, _∙_}
-use mathlib.Core.Bool.{Bool, true, false, not, cond, _&&_, _||_}
+use Prim.Native.Nat.{ℕ, _≤_, _<_}
+use mathlib.Core.Path.{_≡_, refl, sym, subst, _∙_}
+use mathlib.Core.Bool.{Bool, true, false, cond, _&&_, _||_}
 use mathlib.Core.Logic.{_⊎_, inl, inr}
 use native.Mathlib.Omega.{arith}
-use borrow.Author.Tests.{ltb-true, ltb-false, eqb-true, eqb-false, eq-eqb, ne-eqb, lt-ltb, le-ltb}
+use borrow.Author.Tests.{ltb-true, eqb-true, eq-eqb, lt-ltb, le-ltb}
 use lib.Dec.{T, ltb, eqb, lit<, ltb→lt, not-T}
 use Rattle.labels.specs.declared.time.MtcTime.{MtcTime}
 use Rattle.labels.specs.declared.time.TimeCodeType.{TimeCodeType}
-use Rattle.labels.specs.declared.time.TimeCodeType.the-variants.{Fps24, Fps25, Fps30Drop, Fps30}
-use Rattle.labels.specs.St12.{label, isDropFrame, isSkipped, isValid, lower, isEarlier, LeastAbove, pastSkipped}
+use Rattle.labels.specs.declared.time.TimeCodeType.the-variants.{Fps30Drop}
+use Rattle.labels.specs.St12.{label, isSkipped, isValid, lower, isEarlier, LeastAbove}
 use Rattle.labels.specs.Time.{nextValid}
-use Rattle.labels.proofs.Validity.{Kept, skipped-kept, kept-skipped, InRange, valid-facts, facts-valid}
+use Rattle.labels.proofs.Skipped.{Skipped, skipped-facts}
+use Rattle.labels.proofs.Validity.{Kept, skipped-kept, kept-skipped, valid-facts, facts-valid}
 
 -- ---- the order, number by number
 
@@ -37,36 +38,6 @@ lower-same : (a : ℕ) (p : Bool) → T p → T (lower a a p)
 lower-same a p h = rw (le-ltb a a (omega arith), eq-eqb a a refl) h
 
 -- ---- a skipped label
-
-pub record Skipped (t : MtcTime) : Type 0 where
-  pub drop : t .rate ≡ Fps30Drop
-  pub start : t .seconds ≡ 0
-  pub low : t .frames < 2
-  pub minute : t .minutes % 10 ≡ 0 → ⊥
-
-drop-rate : (r : TimeCodeType) → isDropFrame r ≡ true → r ≡ Fps30Drop
-drop-rate Fps24 e = absurd (subst T (sym e) tt)
-drop-rate Fps25 e = absurd (subst T (sym e) tt)
-drop-rate Fps30Drop e = refl
-drop-rate Fps30 e = absurd (subst T (sym e) tt)
-
-pub skipped-facts : (t : MtcTime) → T (isSkipped t) → Skipped t
-unfolding isSkipped
-skipped-facts t = go (isDropFrame (t .rate)) (eqb (t .seconds) 0) (ltb (t .frames) 2) (eqb (t .minutes % 10) 0) refl refl refl refl
-  where
-    go : (a b c d : Bool) → isDropFrame (t .rate) ≡ a → eqb (t .seconds) 0 ≡ b → ltb (t .frames) 2 ≡ c → eqb (t .minutes % 10) 0 ≡ d
-        → T (a && (b && (c && not d))) → Skipped t
-    go true true true false ea eb ec ed h =
-        record {
-          drop = drop-rate (t .rate) ea;
-          start = eqb-true _ _ eb;
-          low = ltb-true _ _ ec;
-          minute = eqb-false _ _ ed;
-        }
-    go true true true true ea eb ec ed h = absurd h
-    go true true false d ea eb ec ed h = absurd h
-    go true false c d ea eb ec ed h = absurd h
-    go false b c d ea eb ec ed h = absurd h
 
 -- The label that a skipped one moves to.
 abbrev second : MtcTime → MtcTime

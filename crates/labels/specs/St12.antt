@@ -1,6 +1,7 @@
 -- SMPTE ST 12-1, time addresses: which labels there are at each rate, which of them drop-frame skips, their order, how many
 -- stand before a label, how many a day has, and the labels after and before a label. The rates are named as MIDI Time Code has
--- them: 24, 25, 30 drop-frame and 30 frames. Left out: binary groups, colour frames, and rates above 30. Assumes nothing.
+-- them: 24, 25, 30 drop-frame and 30 frames. One rule is RP-013's, `LeastAbove`. Left out: binary groups, colour frames, and rates
+-- above 30. Assumes nothing.
 use Prim.Native.Nat.{ℕ, zero, suc, _+_, _-_, _%_}
 use mathlib.Core.Path.{_≡_}
 use mathlib.Core.Bool.{Bool, true, false, not, cond, _&&_, _||_}
@@ -54,7 +55,8 @@ isEarlier t u =
     lower (t .hours) (u .hours)
     (lower (t .minutes) (u .minutes) (lower (t .seconds) (u .seconds) (ltb (t .frames) (u .frames))))
 
--- The second is the least valid label above the first, at the same rate.
+-- The second is the least valid label above the first, at the same rate. The source has this rule from RP-013's Drop Frame Notes,
+-- not from ST 12-1: "The next higher valid time for a skipped drop-frame number" (mtc.rs, `next_valid`).
 pub record LeastAbove (t u : MtcTime) : Type 0 where
   pub rate : u .rate ≡ t .rate
   pub valid : T (isValid u)

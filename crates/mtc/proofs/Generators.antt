@@ -32,17 +32,19 @@ known-none e = rw e
 
 -- ---- the next byte
 
--- What one call answers and leaves.
-abbrev pub Next : MtcGenerator → Sent → Type 0
-Next g s = (nextByteOf (s .byte) ≡ nextByte g) × (s .generator ≡ afterNextByte g)
-
 -- A running generator sends the piece after its last one.
-pub sends : (g : MtcGenerator) (s : Sent) {m : MaybePiece} {t : MtcTime} {p : ℕ}
+pub sends : (g : MtcGenerator) {m : MaybePiece} {t : MtcTime} {p : ℕ}
+    → g .running ≡ true → known (g .last) ≡ m → t ≡ timeNext (g .direction) m (g .time) → p ≡ pieceNext (g .direction) m
+    → (gives (getD (pieces t) p 0) ≡ nextByte g) × (sentAt t (g .direction) p ≡ afterNextByte g)
+unfolding nextByte afterNextByte
+sends g r k et ep = (rw (r, k, et, ep), rw (r, k, et, ep))
+
+-- So it is with an answer that sends that piece.
+pub answers : (g : MtcGenerator) (s : Sent) {m : MaybePiece} {t : MtcTime} {p : ℕ}
     → g .running ≡ true → known (g .last) ≡ m → t ≡ timeNext (g .direction) m (g .time) → p ≡ pieceNext (g .direction) m
     → (nextByteOf (s .byte) ≡ gives (getD (pieces t) p 0)) × (s .generator ≡ sentAt t (g .direction) p)
-    → Next g s
-unfolding nextByte afterNextByte
-sends g s r k et ep q = (q .0 ∙ rw (r, k, et, ep), q .1 ∙ rw (r, k, et, ep))
+    → (nextByteOf (s .byte) ≡ nextByte g) × (s .generator ≡ afterNextByte g)
+answers g s r k et ep q = let e = sends g r k et ep in (q .0 ∙ e .0, q .1 ∙ e .1)
 
 -- A stopped one refuses and stays as it is.
 pub stops : (g : MtcGenerator) → g .running ≡ false → (refused (refusal 8) ≡ nextByte g) × (g ≡ afterNextByte g)

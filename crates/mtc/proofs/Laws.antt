@@ -1,8 +1,8 @@
 -- The laws that readers and upper crates cite: quarter frames, the full message and user bits, and what they mean by RP-004/008;
 -- the stream law. Assumes nothing.
-use Prim.Native.Nat.{ℕ, _+_, _*_, _<_}
+use Prim.Native.Nat.{ℕ, _+_, _*_, _%_, _<_}
 use mathlib.Core.Path.{_≡_, refl}
-use mathlib.Core.List.{List, [], _∷_}
+use mathlib.Core.List.{List, [], _∷_, map}
 use lib.Dec.{T}
 use Rattle.labels.specs.St12.{isValid, labelBefore}
 use Rattle.labels.specs.Time.{addFrames}
@@ -12,11 +12,11 @@ use Rattle.mtc.specs.declared.generator.Direction.the-variants.{Forward,
 use Rattle.mtc.specs.declared.generator.MtcGenerator.{MtcGenerator}
 use Rattle.mtc.specs.declared.reader.MaybeTime.{MaybeTime}
 use Rattle.mtc.specs.declared.reader.MtcReader.{MtcReader}
-use Rattle.mtc.specs.Generator.{move, started, GeneratorCall, afterGeneratorCalls}
-use Rattle.mtc.specs.QuarterFrame.{quarterFrame, fromByte, toByte, pieces}
-use Rattle.mtc.specs.Reader.{fresh, pieceFits, isSound, reported, afterByte, eventOf, afterFullMessage}
-use Rattle.mtc.specs.Ready.{NotAgainst, Ready, Reads}
-use Rattle.mtc.specs.Rp004.{dataByte, InWidths, dataBytes, nextLabel, sequencesFrom, isBoundary, currentTime}
+use Rattle.mtc.specs.Generator.{final, move, started, GeneratorCall, afterGeneratorCalls}
+use Rattle.mtc.specs.QuarterFrame.{pieceOf, quarterFrame, fromByte, toByte, masked, pieces}
+use Rattle.mtc.specs.Reader.{fresh, pieceFits, isSound, rawOf, reported, afterByte, eventOf, afterFullMessage}
+use Rattle.mtc.specs.Ready.{Ready, NotAgainst, eightPieces, labelIn, Reads}
+use Rattle.mtc.specs.Rp004.{dataByte, InWidths, dataBytes, sequence, nextLabel, sequencesFrom, isBoundary, currentTime}
 use Rattle.mtc.specs.Stream.{Call, afterCall, afterCalls, events, sent, runFrom, StreamLaw, SentLaw}
 use Rattle.mtc.proofs.Generators
 -- A generator's next byte, running and stopped.
@@ -55,6 +55,10 @@ high-bit-ignored = QuarterFrames.high-bit-ignored
 pub pieces-practice : (t : MtcTime) → InWidths t → pieces t ≡ dataBytes t
 pieces-practice = QuarterFrames.pieces-practice
 
+-- More is sent than the page has: a label outside them goes out as the one with each count masked to its width.
+pub pieces-masked : (t : MtcTime) → pieces t ≡ dataBytes (masked t)
+pieces-masked = QuarterFrames.pieces-masked
+
 -- The generator's and the reader's move of two frames is RP-004/008's.
 pub moves-practice : (t : MtcTime) (d : Direction) → T (isValid t) → addFrames t (move d) ≡ nextLabel d t
 moves-practice = QuarterFrames.moves-practice
@@ -82,8 +86,19 @@ pub current-reverse : (t : MtcTime) (p : MaybeTime) → T (isValid t) → report
 current-reverse = QuarterFrames.current-reverse
 
 -- A reader that is ready for a sequence reads it, of every label whose numbers fit their widths, and is ready for the next one.
-pub sequence-read : (r : MtcReader) (d : Direction) (t : MtcTime) → Ready d r → InWidths t → Reads d t r
+pub sequence-read : (r : MtcReader) (d : Direction) (t : MtcTime) → Ready d r → InWidths t → Reads d (sequence d t) t r
 sequence-read = QuarterFrames.sequence-read
+
+-- More is taken than the page has: it reads eight pieces in the direction's order, whatever their nibbles are, as the label that
+-- these make.
+pub any-nibbles-read : (r : MtcReader) (d : Direction) (bs : List ℕ) → Ready d r → map pieceOf bs ≡ eightPieces d
+    → Reads d bs (labelIn d bs) r
+any-nibbles-read = QuarterFrames.any-nibbles-read
+
+-- In that label the reserved bits of pieces 1, 3, 5 and 7 do not count: 1FH for piece 1 is taken as 11H.
+pub reserved-ignored : (a b c d e f g h : ℕ)
+    → rawOf (a ∷ b ∷ c ∷ d ∷ e ∷ f ∷ g ∷ h ∷ []) ≡ rawOf (a ∷ b % 2 ∷ c ∷ d % 4 ∷ e ∷ f % 4 ∷ g ∷ h % 8 ∷ [])
+reserved-ignored = QuarterFrames.reserved-ignored
 
 -- A fresh reader is ready for either direction.
 pub fresh-ready : (d : Direction) → Ready d fresh
@@ -92,6 +107,11 @@ fresh-ready = QuarterFrames.fresh-ready
 -- So is a reader that just got a full message, unless it was going the other way.
 pub full-ready : (r : MtcReader) (d : Direction) (t : MtcTime) → Sound r → NotAgainst d (r .direction) → Ready d (afterFullMessage r t)
 full-ready = QuarterFrames.full-ready
+
+-- So is one that just got the direction's last piece, whatever calls came before it since it was fresh. It is ready for forward
+-- after 76H alone, and right after piece 7 in reverse.
+pub last-piece-ready : (cs : List Call) (b : ℕ) (d : Direction) → pieceOf b ≡ final d → Ready d (afterByte (afterCalls fresh cs) b)
+last-piece-ready = QuarterFrames.last-piece-ready
 
 -- ---- streams
 

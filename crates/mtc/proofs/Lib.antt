@@ -11,6 +11,7 @@ mod Rounds
 mod Sending
 mod Shapes
 mod Sound
+mod Starting
 mod Streams
 mod Widths
 mod Writing

@@ -15,9 +15,9 @@ use Rattle.universal.specs.Message.{allLow, message}
 use Rattle.universal.specs.Refusals.{tooSmall, gives, refused}
 use Rattle.universal.proofs.Laws.{answer-fits, answer-short, all-low-cons, all-low-none, opening-with-sub-id2, message-whole}
 use Rattle.labels.specs.St12.{isValid}
-use Rattle.labels.specs.Time.{bitsOf, typeOf, rawTime, hoursByte}
-use Rattle.mtc.specs.Rp004.{InWidths}
-use Rattle.mtc.specs.Rp004Messages.{Groups, yy, hr, fullMessageBytes, userBitsBytes, fourBytes}
+use Rattle.labels.specs.Time.{typeOf, rawTime, hoursByte}
+use Rattle.mtc.specs.Rp004.{typeCode, InWidths, hoursCount}
+use Rattle.mtc.specs.Rp004Messages.{Groups, fullMessageBytes, userBitsBytes, fourBytes}
 use Rattle.mtc.specs.Kind.{timeCode, isTimeCode, partsOf, dataOf, ReadsOnly}
 use Rattle.mtc.specs.FullMessage.{fullMessage, receivedFull, fullMessageFrom, fullData, fullMessageWritten}
 use Rattle.mtc.specs.UserBits.{userBits, receivedBits, userBitsFrom, allNibbles, userBitsWritten, groupBytes, groupsOf}
@@ -27,6 +27,7 @@ use Rattle.labels.specs.declared.time.TimeCodeType.{TimeCodeType}
 use Rattle.labels.specs.declared.time.TimeCodeType.the-variants.{Fps24, Fps25, Fps30Drop, Fps30}
 use Rattle.mtc.specs.declared.user_bits.UserBits.{UserBits}
 use Rattle.mtc.proofs.Groups.{eight, nibble-below, data-low}
+use Rattle.mtc.proofs.Nibbles.{bits-code}
 use Rattle.mtc.proofs.Reading.{reads-only}
 use Rattle.mtc.proofs.Widths.{valid-widths}
 use Rattle.mtc.proofs.Writing.{device-stopped, value-stopped, checks-passed}
@@ -47,27 +48,21 @@ time-code-bytes device subId2 bs low low₂ l =
 
 -- ---- the full message
 
-type-bits : (r : TimeCodeType) → bitsOf r ≡ yy r
-type-bits Fps24 = refl
-type-bits Fps25 = refl
-type-bits Fps30Drop = refl
-type-bits Fps30 = refl
-
-type-small : (r : TimeCodeType) → yy r ≤ 3
+type-small : (r : TimeCodeType) → typeCode r ≤ 3
 type-small Fps24 = lit≤ tt
 type-small Fps25 = lit≤ tt
 type-small Fps30Drop = lit≤ tt
 type-small Fps30 = lit≤ tt
 
-type-back : (r : TimeCodeType) → typeOf (yy r) ≡ r
+type-back : (r : TimeCodeType) → typeOf (typeCode r) ≡ r
 type-back Fps24 = refl
 type-back Fps25 = refl
 type-back Fps30Drop = refl
 type-back Fps30 = refl
 
 module _ (t : MtcTime) (w : InWidths t) where
-  hours-with-type : hoursByte t ≡ hr t
-  hours-with-type = rw (type-bits (t .rate), mod-eq-of-lt (w .hours))
+  hours-with-type : hoursByte t ≡ hoursCount t
+  hours-with-type = rw (bits-code (t .rate), mod-eq-of-lt (w .hours))
 
   full-data-low : allLow (fullData t) ≡ true
   full-data-low =
@@ -77,10 +72,10 @@ module _ (t : MtcTime) (w : InWidths t) where
       (all-low-cons (t .frames) _ (omega (arith, w .frames)) all-low-none)))
 
   -- The four bytes of a label, read again.
-  raw-back : rawTime (hr t) (t .minutes) (t .seconds) (t .frames) ≡ t
+  raw-back : rawTime (hoursCount t) (t .minutes) (t .seconds) (t .frames) ≡ t
   raw-back =
-      let type : hr t / 32 ≡ yy (t .rate) = omega (arith, w .hours) in
-      let hours : hr t % 32 ≡ t .hours = omega (arith, w .hours) in
+      let type : hoursCount t / 32 ≡ typeCode (t .rate) = omega (arith, w .hours) in
+      let hours : hoursCount t % 32 ≡ t .hours = omega (arith, w .hours) in
       rw (type, type-back (t .rate), hours, mod-eq-of-lt (w .minutes), mod-eq-of-lt (w .seconds), mod-eq-of-lt (w .frames))
 
 -- RP-004/008's full message of any device and any label in its widths, valid or not, is read as these.

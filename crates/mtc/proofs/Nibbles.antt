@@ -15,7 +15,7 @@ use Rattle.labels.specs.declared.time.TimeCodeType.{TimeCodeType}
 use Rattle.labels.specs.declared.time.TimeCodeType.the-variants.{Fps24, Fps25, Fps30Drop, Fps30}
 use Rattle.mtc.specs.declared.generator.Direction.{Direction}
 use Rattle.mtc.specs.declared.generator.Direction.the-variants.{Forward, Reverse}
-use Rattle.mtc.specs.Rp004.{InWidths}
+use Rattle.mtc.specs.Rp004.{typeCode, InWidths}
 
 -- A rate has two bits.
 pub bits-small : (r : TimeCodeType) → bitsOf r ≤ 3
@@ -23,6 +23,13 @@ bits-small Fps24 = lit≤ tt
 bits-small Fps25 = lit≤ tt
 bits-small Fps30Drop = lit≤ tt
 bits-small Fps30 = lit≤ tt
+
+-- They are RP-004/008's time code type.
+pub bits-code : (r : TimeCodeType) → bitsOf r ≡ typeCode r
+bits-code Fps24 = refl
+bits-code Fps25 = refl
+bits-code Fps30Drop = refl
+bits-code Fps30 = refl
 
 -- ---- a data byte's piece and value
 

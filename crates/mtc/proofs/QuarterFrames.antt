@@ -1,5 +1,6 @@
 -- Laws of quarter frames: data bytes, the pieces of a label, the sequences that a generator sends and those that a reader reads
--- are RP-004/008's. What is said of a label holds where its counts fit their widths, so of every valid one. Assumes nothing.
+-- are RP-004/008's, where the label's counts fit their widths, so of every valid one; what is sent and read beyond that; and which
+-- readers are ready. Assumes nothing.
 use Prim.Native.Nat.{ℕ, zero, suc, _+_, _*_, _/_, _%_, _<_}
 use mathlib.Core.Bool.{Bool, true, false, _&&_}
 use mathlib.Core.List.{List, [], _∷_, _++_, map, reverse, append-nil}
@@ -8,31 +9,32 @@ use mathlib.Core.Path.{_≡_, refl, sym, _∙_, ap, ap₂, subst}
 use native.Mathlib.Omega.{arith}
 use lib.Dec.{T, eqb, eqb→eq}
 use lib.IntN.{pos, negsuc}
-use Rattle.mtc.specs.Generator.{final, move, sentAt}
-use Rattle.mtc.specs.QuarterFrame.{quarterFrame, fromByte, toByte, pieces}
-use Rattle.mtc.specs.Reader.{fresh, Sound, sameTime, reported, eventOf, afterFullMessage}
-use Rattle.mtc.specs.Ready.{NotAgainst, Starts, anew, next, Ready, afterBytes, Reads}
+use lib.ListN.{length, getD}
+use Rattle.mtc.specs.Generator.{first, final, move, sentAt}
+use Rattle.mtc.specs.QuarterFrame.{pieceOf, valueOf, quarterFrame, fromByte, toByte, pieces, masked}
+use Rattle.mtc.specs.Reader.{fresh, Sound, taken, control, rawOf, sameTime, reported, afterByte, eventOf, afterFullMessage}
+use Rattle.mtc.specs.Ready.{Starts, Ready, NotAgainst, eightPieces, labelIn, afterBytes, Reads}
 use Rattle.mtc.specs.Rp004.{dataByte, typeCode, InWidths, dataBytes, sequence, nextLabel, sequencesFrom, isBoundary, currentTime}
-use Rattle.labels.specs.St12.{isValid, labelAfter, labelBefore}
-use Rattle.mtc.specs.Stream.{runFrom, sent, events, silent, inOrder}
-use Rattle.labels.specs.Time.{addFrames, bitsOf, typeOf}
+use Rattle.labels.specs.St12.{label, isValid, labelAfter, labelBefore}
+use Rattle.mtc.specs.Stream.{Call, byte, runFrom, sent, afterCalls, events, newest, silent, inOrder}
+use Rattle.labels.specs.Time.{addFrames, bitsOf, rateAt, typeOf}
 use Rattle.labels.specs.declared.time.MtcTime.{MtcTime}
-use Rattle.labels.specs.declared.time.TimeCodeType.{TimeCodeType}
-use Rattle.labels.specs.declared.time.TimeCodeType.the-variants.{Fps24, Fps25, Fps30Drop, Fps30}
 use Rattle.mtc.specs.declared.generator.Direction.{Direction}
 use Rattle.mtc.specs.declared.generator.Direction.the-variants.{Forward, Reverse}
 use Rattle.mtc.specs.declared.generator.MtcGenerator.{MtcGenerator}
+use Rattle.mtc.specs.declared.generator.MaybePiece.the-variants.{Piece}
+use Rattle.mtc.specs.declared.reader.MaybeDirection.the-variants.{NoDirection, Going}
 use Rattle.mtc.specs.declared.reader.MaybeSequence.the-variants.{Sequence}
 use Rattle.mtc.specs.declared.reader.MaybeTime.{MaybeTime}
-use Rattle.mtc.specs.declared.reader.MaybeTime.the-variants.{Time}
 use Rattle.mtc.specs.declared.reader.MtcReader.{MtcReader}
-use Rattle.mtc.proofs.Nibbles.{numbered, values, split, split-pieces, type-of-bits, raw-values}
+use Rattle.mtc.proofs.Nibbles.{bits-code, nibble, Values, numbered, assembled, values, split, split-pieces, type-of-bits, raw-values}
 use Rattle.labels.proofs.Laws.{moved-valid, moved-by-sum, moved-by-one, moved-back-one}
 use Rattle.mtc.proofs.Widths.{valid-widths}
-use Rattle.mtc.proofs.Rounds.{run, leave, left, round, round-left}
+use Rattle.mtc.proofs.Rounds.{run, leave, Eight, eight, eight-of, left, round, round-left}
 use Rattle.mtc.proofs.Sending.{later, sends-first, sends-next}
-use Rattle.mtc.proofs.Sound.{as-is, full-sound}
-use Rattle.mtc.proofs.Streams.{reports, reports-run, bytes-sound, bytes-leave, fresh-sound}
+use Rattle.mtc.proofs.Sound.{as-is, last-is, full-sound}
+use Rattle.mtc.proofs.Starting.{starts-anew, starts-next, starts-after-last}
+use Rattle.mtc.proofs.Streams.{fresh-sound, fresh-past, past, reports, reports-run, bytes-sound, bytes-leave}
 
 -- ---- a data byte
 
@@ -62,12 +64,6 @@ high-bit-ignored b =
 
 -- ---- the pieces of a label
 
-same-code : (r : TimeCodeType) → bitsOf r ≡ typeCode r
-same-code Fps24 = refl
-same-code Fps25 = refl
-same-code Fps30Drop = refl
-same-code Fps30 = refl
-
 high-hours : (k h : ℕ) → h < 32 → 0x70 + k * 2 + h / 16 % 2 ≡ 7 * 16 + (k * 32 + h) / 16
 high-hours k h l =
     let e : (k * 32 + h) / 16 ≡ k * 2 + h / 16 = omega arith in
@@ -78,7 +74,7 @@ high-hours k h l =
 pub pieces-practice : (t : MtcTime) → InWidths t → pieces t ≡ dataBytes t
 unfolding pieces dataBytes
 pieces-practice t w =
-    let c : bitsOf (t .rate) ≡ typeCode (t .rate) = same-code (t .rate) in
+    let c : bitsOf (t .rate) ≡ typeCode (t .rate) = bits-code (t .rate) in
     let e0 : t .frames % 16 ≡ 0 * 16 + t .frames % 16 = omega arith in
     let e1 : 0x10 + t .frames / 16 % 2 ≡ 1 * 16 + t .frames / 16 = omega (arith, w .frames) in
     let e3 : 0x30 + t .seconds / 16 % 4 ≡ 3 * 16 + t .seconds / 16 = omega (arith, w .seconds) in
@@ -96,6 +92,30 @@ pieces-practice t w =
     ∷ e6 i
     ∷ e7 i
     ∷ []
+
+-- The high bits that go out are kept by the mask: bit 4 of five, bits 4 and 5 of six.
+high-of-five : (n : ℕ) → n / 16 % 2 ≡ n % 32 / 16 % 2
+high-of-five n = let e : n % 32 / 16 ≡ n / 16 % 2 = omega arith in rw e (omega arith)
+
+high-of-six : (n : ℕ) → n / 16 % 4 ≡ n % 64 / 16 % 4
+high-of-six n = let e : n % 64 / 16 ≡ n / 16 % 4 = omega arith in rw e (omega arith)
+
+-- So they are of every label, with its counts masked to their widths.
+pub pieces-masked : (t : MtcTime) → pieces t ≡ dataBytes (masked t)
+unfolding pieces
+pieces-masked t =
+    let e0 : t .frames % 16 ≡ t .frames % 32 % 16 = omega arith in
+    let e1 : 0x10 + t .frames / 16 % 2 ≡ 0x10 + t .frames % 32 / 16 % 2 = rw (high-of-five (t .frames)) in
+    let e2 : 0x20 + t .seconds % 16 ≡ 0x20 + t .seconds % 64 % 16 = omega arith in
+    let e3 : 0x30 + t .seconds / 16 % 4 ≡ 0x30 + t .seconds % 64 / 16 % 4 = rw (high-of-six (t .seconds)) in
+    let e4 : 0x40 + t .minutes % 16 ≡ 0x40 + t .minutes % 64 % 16 = omega arith in
+    let e5 : 0x50 + t .minutes / 16 % 4 ≡ 0x50 + t .minutes % 64 / 16 % 4 = rw (high-of-six (t .minutes)) in
+    let e6 : 0x60 + t .hours % 16 ≡ 0x60 + t .hours % 32 % 16 = omega arith in
+    let e7 = ap (λ (n : ℕ). 0x70 + bitsOf (t .rate) * 2 + n) (high-of-five (t .hours)) in
+    let same : pieces t ≡ pieces (masked t) = λ i. e0 i ∷ e1 i ∷ e2 i ∷ e3 i ∷ e4 i ∷ e5 i ∷ e6 i ∷ e7 i ∷ [] in
+    same
+    ∙ pieces-practice (masked t)
+    (record { frames = omega arith; seconds = omega arith; minutes = omega arith; hours = omega arith })
 
 in-practice : (t : MtcTime) (d : Direction) → InWidths t → inOrder d (pieces t) ≡ sequence d t
 in-practice t Forward w = pieces-practice t w
@@ -155,48 +175,152 @@ event-piece r n d h k = omega arith
 pub event-boundary : (r : MtcReader) (b : ℕ) → eventOf r b .boundary ≡ isBoundary (eventOf r b .piece)
 event-boundary r b = refl
 
--- ---- a whole sequence, read
+-- ---- eight bytes, read
 
-split-sequence : (t : MtcTime) (d : Direction) → InWidths t → map split (sequence d t) ≡ numbered d (values t)
-split-sequence t d w = ap (map split) (sym (in-practice t d w)) ∙ split-pieces t d
-
-module _ (r : MtcReader) (d : Direction) (t : MtcTime) (h : Ready d r) (w : InWidths t) where
-  reports-are : reports (events r (sequence d t)) ≡ silent 7 ++ (Sequence (reported t d (r .previous)) ∷ [])
+-- Bytes of eight pieces in a direction's order are read as the label of their values.
+module _ (r : MtcReader) (d : Direction) (bs : List ℕ) (v : Values) (h : Ready d r) (e : map split bs ≡ numbered d v) where
+  reports-are : reports (events r bs) ≡ silent 7 ++ (Sequence (reported (assembled v) d (r .previous)) ∷ [])
   unfolding run
   reports-are =
-      reports-run (sequence d t) r (h .sound)
-      ∙ ap (run r) (split-sequence t d w ∙ sym (append-nil (numbered d (values t))))
-      ∙ round (values t) r d (h .sound .eight) (h .starts) []
-      ∙ ap (λ (u : MtcTime). silent 7 ++ (Sequence (reported u d (r .previous)) ∷ [])) (raw-values t w)
+      reports-run bs r (h .sound)
+      ∙ ap (run r) (e ∙ sym (append-nil (numbered d v)))
+      ∙ round v r d (h .sound .eight) (h .starts) []
 
-  leaves : afterBytes r (sequence d t) ≡ left (values t) d
-  leaves =
-      bytes-leave (sequence d t) r (h .sound) ∙ ap (leave r) (split-sequence t d w) ∙ round-left (values t) r d (h .sound .eight) (h .starts)
+  leaves : afterBytes r bs ≡ left v d
+  leaves = bytes-leave bs r (h .sound) ∙ ap (leave r) e ∙ round-left v r d (h .sound .eight) (h .starts)
 
-  -- A reader that is ready for a sequence reads it.
-  pub sequence-read : Reads d t r
-  sequence-read =
+  values-read : Reads d bs (assembled v) r
+  values-read =
       record {
         reports = reports-are;
         ready =
             record {
-              sound = bytes-sound (sequence d t) r (h .sound);
-              starts = subst (Starts d) (sym leaves) (next refl refl);
+              sound = bytes-sound bs r (h .sound);
+              starts = subst (λ (x : MtcReader). Starts d (control x)) (sym leaves) (starts-next d (first d) (Going d));
             };
-        previous = ap (λ (x : MtcReader). x .previous) leaves ∙ ap Time (raw-values t w);
+        previous = ap (λ (x : MtcReader). x .previous) leaves;
       }
+
+-- A reader that is ready for a sequence reads it.
+pub sequence-read : (r : MtcReader) (d : Direction) (t : MtcTime) → Ready d r → InWidths t → Reads d (sequence d t) t r
+sequence-read r d t h w =
+    let e : map split (sequence d t) ≡ numbered d (values t) = ap (map split) (sym (in-practice t d w)) ∙ split-pieces t d in
+    subst (λ (u : MtcTime). Reads d (sequence d t) u r) (raw-values t w) (values-read r d (sequence d t) (values t) h e)
+
+length-map : {A B : Type 0} (f : A → B) (l : List A) → length (map f l) ≡ length l
+length-map f [] = refl
+length-map f (x ∷ l) = ap suc (length-map f l)
+
+-- Eight bytes by their values, where their pieces are in a direction's order.
+module _ (a b c d e f g h : ℕ) where
+  abbrev eightBytes : List ℕ
+  eightBytes = a ∷ b ∷ c ∷ d ∷ e ∷ f ∷ g ∷ h ∷ []
+
+  -- The values of eight bytes, by piece.
+  abbrev valuesIn : Direction → Values
+  valuesIn Forward =
+      record {
+        v0 = valueOf a;
+        v1 = valueOf b;
+        v2 = valueOf c;
+        v3 = valueOf d;
+        v4 = valueOf e;
+        v5 = valueOf f;
+        v6 = valueOf g;
+        v7 = valueOf h;
+      }
+  valuesIn Reverse =
+      record {
+        v0 = valueOf h;
+        v1 = valueOf g;
+        v2 = valueOf f;
+        v3 = valueOf e;
+        v4 = valueOf d;
+        v5 = valueOf c;
+        v6 = valueOf b;
+        v7 = valueOf a;
+      }
+
+  split-eight : (w : Direction) → map pieceOf eightBytes ≡ eightPieces w → map split eightBytes ≡ numbered w (valuesIn w)
+  split-eight w k = go w (at 0) (at 1) (at 2) (at 3) (at 4) (at 5) (at 6) (at 7)
+    where
+      at : (i : ℕ) → getD (map pieceOf eightBytes) i 0 ≡ getD (eightPieces w) i 0
+      at i = ap (λ (l : List ℕ). getD l i 0) k
+
+      go : (w : Direction) → pieceOf a ≡ getD (eightPieces w) 0 0 → pieceOf b ≡ getD (eightPieces w) 1 0
+          → pieceOf c ≡ getD (eightPieces w) 2 0 → pieceOf d ≡ getD (eightPieces w) 3 0 → pieceOf e ≡ getD (eightPieces w) 4 0
+          → pieceOf f ≡ getD (eightPieces w) 5 0 → pieceOf g ≡ getD (eightPieces w) 6 0 → pieceOf h ≡ getD (eightPieces w) 7 0
+          → map split eightBytes ≡ numbered w (valuesIn w)
+      go Forward p q r s t u v w =
+          λ i.
+          nibble (p i) (valueOf a)
+          ∷ nibble (q i) (valueOf b)
+          ∷ nibble (r i) (valueOf c)
+          ∷ nibble (s i) (valueOf d)
+          ∷ nibble (t i) (valueOf e)
+          ∷ nibble (u i) (valueOf f)
+          ∷ nibble (v i) (valueOf g)
+          ∷ nibble (w i) (valueOf h)
+          ∷ []
+      go Reverse p q r s t u v w =
+          λ i.
+          nibble (p i) (valueOf a)
+          ∷ nibble (q i) (valueOf b)
+          ∷ nibble (r i) (valueOf c)
+          ∷ nibble (s i) (valueOf d)
+          ∷ nibble (t i) (valueOf e)
+          ∷ nibble (u i) (valueOf f)
+          ∷ nibble (v i) (valueOf g)
+          ∷ nibble (w i) (valueOf h)
+          ∷ []
+
+-- It reads eight pieces in the direction's order, whatever their nibbles are.
+pub any-nibbles-read : (r : MtcReader) (d : Direction) (bs : List ℕ) → Ready d r → map pieceOf bs ≡ eightPieces d
+    → Reads d bs (labelIn d bs) r
+any-nibbles-read r d bs h k = go d bs h k (eight-of bs (sym (length-map pieceOf bs) ∙ ap length k ∙ all d))
+  where
+    all : (w : Direction) → length (eightPieces w) ≡ 8
+    all Forward = refl
+    all Reverse = refl
+
+    go : (w : Direction) (bs : List ℕ) → Ready w r → map pieceOf bs ≡ eightPieces w → Eight bs → Reads w bs (labelIn w bs) r
+    go Forward bs h k (eight a b c d e f g i) =
+        values-read r Forward bs (valuesIn a b c d e f g i Forward) h (split-eight a b c d e f g i Forward k)
+    go Reverse bs h k (eight a b c d e f g i) =
+        values-read r Reverse bs (valuesIn a b c d e f g i Reverse) h (split-eight a b c d e f g i Reverse k)
+
+-- Bits that the page reserves do not count.
+pub reserved-ignored : (a b c d e f g h : ℕ)
+    → rawOf (a ∷ b ∷ c ∷ d ∷ e ∷ f ∷ g ∷ h ∷ []) ≡ rawOf (a ∷ b % 2 ∷ c ∷ d % 4 ∷ e ∷ f % 4 ∷ g ∷ h % 8 ∷ [])
+reserved-ignored a b c d e f g h =
+    let et : (g + h * 16) / 32 % 4 ≡ (g + h % 8 * 16) / 32 % 4 = omega arith in
+    let eh : (g + h * 16) % 32 ≡ (g + h % 8 * 16) % 32 = omega arith in
+    let em : (e + f * 16) % 64 ≡ (e + f % 4 * 16) % 64 = omega arith in
+    let es : (c + d * 16) % 64 ≡ (c + d % 4 * 16) % 64 = omega arith in
+    let ef : (a + b * 16) % 32 ≡ (a + b % 2 * 16) % 32 = omega arith in
+    λ i. label (rateAt (et i)) (eh i) (em i) (es i) (ef i)
+
+-- ---- ready readers
 
 -- A fresh reader is ready for either direction.
 pub fresh-ready : (d : Direction) → Ready d fresh
-fresh-ready d = record { sound = fresh-sound; starts = anew refl (inl refl) }
+fresh-ready d = record { sound = fresh-sound; starts = starts-anew d 0 0 NoDirection (inl refl) }
 
 -- So is a reader that just got a full message, unless it was going the other way.
 pub full-ready : (r : MtcReader) (d : Direction) (t : MtcTime) → Sound r → NotAgainst d (r .direction) → Ready d (afterFullMessage r t)
 full-ready r d t h n =
     record {
       sound = full-sound r h t;
-      starts = anew refl (subst (λ (x : MtcReader). NotAgainst d (x .direction)) (sym (as-is r h)) n);
+      starts =
+          starts-anew d 0 (taken r .first) (taken r .direction) (subst (λ (x : MtcReader). NotAgainst d (x .direction)) (sym (as-is r h)) n);
     }
+
+-- So is one that just got the direction's last piece, whatever calls came before it.
+pub last-piece-ready : (cs : List Call) (b : ℕ) (d : Direction) → pieceOf b ≡ final d → Ready d (afterByte (afterCalls fresh cs) b)
+unfolding newest afterCalls
+last-piece-ready cs b d e =
+    let p = past (byte b ∷ []) (newest [] cs) (afterCalls fresh cs) (past cs [] fresh fresh-past) in
+    record { sound = p .sound; starts = starts-after-last d _ (afterByte (afterCalls fresh cs) b) (p .shape) (last-is _ _ _ ∙ ap Piece e) }
 
 -- ---- a discontinuity
 

@@ -1,24 +1,22 @@
 -- The reader on whole sequences: what the bytes of one report, and the reader that they leave. Assumes nothing.
 use Prim.Native.Nat.{ℕ}
-use mathlib.Core.Bool.{Bool, true, false, cond}
+use mathlib.Core.Bool.{true, false}
 use mathlib.Core.List.{List, [], _∷_, _++_}
 use mathlib.Core.Logic.{_⊎_, inl, inr}
 use mathlib.Core.Path.{_≡_, refl, sym, _∙_, ap, ap₂, subst}
 use native.Mathlib.Omega.{arith}
-use borrow.Author.Tests.{eqb-false, ne-eqb}
-use lib.Dec.{eqb}
 use lib.ListN.{length, set}
-use Rattle.mtc.specs.Generator.{first, after, final}
-use Rattle.mtc.specs.Reader.{Control, control, found, offset, reported, orderOf, numberOf, sequenceOf, readerBy, reportBy, afterPiece, reportOf}
-use Rattle.mtc.specs.Ready.{NotAgainst, Starts, anew, next, again}
+use Rattle.mtc.specs.Generator.{first, final}
+use Rattle.mtc.specs.Reader.{control, offset, reported, orderOf, numberOf, sequenceOf, readerBy, reportBy, afterPiece, reportOf}
+use Rattle.mtc.specs.Ready.{Starts, NotAgainst}
 use Rattle.mtc.specs.Stream.{silent}
 use Rattle.labels.specs.Time.{addFrames}
 use Rattle.mtc.specs.declared.generator.Direction.{Direction}
 use Rattle.mtc.specs.declared.generator.Direction.the-variants.{Forward, Reverse}
 use Rattle.mtc.specs.declared.generator.MaybePiece.{MaybePiece}
-use Rattle.mtc.specs.declared.generator.MaybePiece.the-variants.{NoPiece, Piece}
+use Rattle.mtc.specs.declared.generator.MaybePiece.the-variants.{Piece}
 use Rattle.mtc.specs.declared.reader.MaybeDirection.{MaybeDirection}
-use Rattle.mtc.specs.declared.reader.MaybeDirection.the-variants.{NoDirection, Going}
+use Rattle.mtc.specs.declared.reader.MaybeDirection.the-variants.{Going}
 use Rattle.mtc.specs.declared.reader.MaybeSequence.{MaybeSequence}
 use Rattle.mtc.specs.declared.reader.MaybeSequence.the-variants.{NoSequence, Sequence}
 use Rattle.mtc.specs.declared.reader.MaybeTime.{MaybeTime}
@@ -26,6 +24,7 @@ use Rattle.mtc.specs.declared.reader.MaybeTime.the-variants.{Time}
 use Rattle.mtc.specs.declared.reader.MtcReader.{MtcReader}
 use Rattle.mtc.proofs.Nibbles.{Nibble, Values, opening, seven, numbered, listed, assembled}
 use Rattle.mtc.proofs.Shapes.{opposite, Begun, held, turning}
+use Rattle.mtc.proofs.Starting.{not-against, starts-next}
 
 -- What a list of pieces with their values reports.
 unfoldable pub run : MtcReader → List Nibble → List MaybeSequence
@@ -40,10 +39,10 @@ leave r (q ∷ qs) = leave (afterPiece r (q .piece) (q .value)) qs
 -- ---- readers with known parts
 
 -- A list of eight, taken apart.
-data Eight : List ℕ → Type 0 where
+pub data Eight : List ℕ → Type 0 where
   eight : (a b c d e f g h : ℕ) → Eight (a ∷ b ∷ c ∷ d ∷ e ∷ f ∷ g ∷ h ∷ [])
 
-eight-of : (n : List ℕ) → length n ≡ 8 → Eight n
+pub eight-of : (n : List ℕ) → length n ≡ 8 → Eight n
 eight-of [] h = absurd (omega arith)
 eight-of (a ∷ []) h = absurd (omega arith)
 eight-of (a ∷ b ∷ []) h = absurd (omega arith)
@@ -72,64 +71,6 @@ with r n c f l d =
 
 -- ---- the first piece of a sequence
 
--- It is number 1, and leaves its direction or none.
-Opens : Direction → Control → Type 0
-Opens d c = (numberOf c (orderOf c (first d)) (first d) ≡ 1) × NotAgainst d (orderOf c (first d) .direction)
-
-abbrev parts : ℕ → ℕ → MaybePiece → MaybeDirection → Control
-parts c f l m = record { count = c; first = f; last = l; direction = m }
-
-opens-anew : (d : Direction) (c f : ℕ) (m : MaybeDirection) → NotAgainst d m → Opens d (parts c f NoPiece m)
-unfolding Opens orderOf numberOf
-opens-anew Forward c f m (inl e) = subst (λ (x : MaybeDirection). Opens Forward (parts c f NoPiece x)) (sym e) (refl, inl refl)
-opens-anew Forward c f m (inr e) = subst (λ (x : MaybeDirection). Opens Forward (parts c f NoPiece x)) (sym e) (refl, inr refl)
-opens-anew Reverse c f m (inl e) = subst (λ (x : MaybeDirection). Opens Reverse (parts c f NoPiece x)) (sym e) (refl, inl refl)
-opens-anew Reverse c f m (inr e) = subst (λ (x : MaybeDirection). Opens Reverse (parts c f NoPiece x)) (sym e) (refl, inr refl)
-
-opens-next : (d : Direction) (f : ℕ) (m : MaybeDirection) → Opens d (parts 0 f (Piece (final d)) m)
-unfolding Opens orderOf numberOf
-opens-next Forward f NoDirection = (refl, inr refl)
-opens-next Forward f (Going Forward) = (refl, inr refl)
-opens-next Forward f (Going Reverse) = (refl, inr refl)
-opens-next Reverse f NoDirection = (refl, inr refl)
-opens-next Reverse f (Going Forward) = (refl, inr refl)
-opens-next Reverse f (Going Reverse) = (refl, inr refl)
-
--- A piece that is beside another in neither direction does not come after it.
-beside : (d : Direction) (l p : ℕ) → found l p ≡ NoDirection → after d l ≡ p → ⊥
-beside d l p = go (eqb (after Forward l) p) (eqb (after Reverse l) p) refl refl d
-  where
-    go : (x y : Bool) → eqb (after Forward l) p ≡ x → eqb (after Reverse l) p ≡ y → (e : Direction)
-        → cond x (Going Forward) (cond y (Going Reverse) NoDirection) ≡ NoDirection → after e l ≡ p → ⊥
-    go true y ex ey e h = let z : _≡_ {A = ℕ} 0 1 = cc in absurd (omega arith)
-    go false true ex ey e h = let z : _≡_ {A = ℕ} 0 1 = cc in absurd (omega arith)
-    go false false ex ey Forward h = eqb-false (after Forward l) p ex
-    go false false ex ey Reverse h = eqb-false (after Reverse l) p ey
-
-opens-again : (d : Direction) (c f l : ℕ) (m : MaybeDirection) → found l (first d) ≡ NoDirection → NotAgainst d m
-    → Opens d (parts c f (Piece l) m)
-unfolding Opens orderOf numberOf
-opens-again d c f l m e q = go d m q (not-after Forward) (not-after Reverse)
-  where
-    not-after : (x : Direction) → eqb (after x l) (first d) ≡ false
-    not-after x = ne-eqb (after x l) (first d) (beside x l (first d) e)
-
-    go : (x : Direction) (m : MaybeDirection) → NotAgainst x m → eqb (after Forward l) (first x) ≡ false
-        → eqb (after Reverse l) (first x) ≡ false → Opens x (parts c f (Piece l) m)
-    go Forward m (inl q) i j = subst (λ (y : MaybeDirection). Opens Forward (parts c f (Piece l) y)) (sym q) (rw (i, j) (refl, inl refl))
-    go Forward m (inr q) i j = subst (λ (y : MaybeDirection). Opens Forward (parts c f (Piece l) y)) (sym q) (rw (i, j) (refl, inr refl))
-    go Reverse m (inl q) i j = subst (λ (y : MaybeDirection). Opens Reverse (parts c f (Piece l) y)) (sym q) (rw (i, j) (refl, inl refl))
-    go Reverse m (inr q) i j = subst (λ (y : MaybeDirection). Opens Reverse (parts c f (Piece l) y)) (sym q) (rw (i, j) (refl, inr refl))
-
-opens : (d : Direction) (r : MtcReader) → Starts d r → Opens d (control r)
-opens d r (anew el q) =
-    subst (Opens d) (sym (λ i. parts (r .count) (r .first) (el i) (r .direction))) (opens-anew d (r .count) (r .first) (r .direction) q)
-opens d r (next el ec) =
-    subst (Opens d) (sym (λ i. parts (ec i) (r .first) (el i) (r .direction))) (opens-next d (r .first) (r .direction))
-opens d r (again l el e q) =
-    subst (Opens d) (sym (λ i. parts (r .count) (r .first) (el i) (r .direction)))
-    (opens-again d (r .count) (r .first) l (r .direction) e q)
-
 -- What it leaves: one piece held, and nothing reported.
 record Opened (d : Direction) (r : MtcReader) (v : ℕ) (s : MtcReader) (q : MaybeSequence) : Type 0 where
   way : MaybeDirection
@@ -142,15 +83,14 @@ record Opened (d : Direction) (r : MtcReader) (v : ℕ) (s : MtcReader) (q : May
   previous : s .previous ≡ r .previous
   report : q ≡ NoSequence
 
-opened : (d : Direction) (r : MtcReader) (v : ℕ) → Starts d r → Opened d r v (afterPiece r (first d) v) (reportOf r (first d) v)
-unfolding Opens afterPiece reportOf
+opened : (d : Direction) (r : MtcReader) (v : ℕ) → Starts d (control r) → Opened d r v (afterPiece r (first d) v) (reportOf r (first d) v)
+unfolding afterPiece reportOf
 opened d r v h =
     let o = orderOf (control r) (first d) in
-    let k = opens d r h in
-    subst (λ (n : ℕ). Opened d r v (readerBy r o n (first d) v) (reportBy r o n (first d) v)) (sym (k .0))
+    subst (λ (n : ℕ). Opened d r v (readerBy r o n (first d) v) (reportBy r o n (first d) v)) (sym h)
     (record {
       way = o .direction;
-      not-against = k .1;
+      not-against = not-against d (control r) h;
       nibbles = refl;
       count = refl;
       first-is = refl;
@@ -206,7 +146,7 @@ module _ (v : Values) where
 
   -- ---- a whole sequence
 
-  module _ (r : MtcReader) (d : Direction) (eights : length (r .nibbles) ≡ 8) (starts : Starts d r) where
+  module _ (r : MtcReader) (d : Direction) (eights : length (r .nibbles) ≡ 8) (starts : Starts d (control r)) where
     abbrev second : MtcReader
     second = afterPiece r (first d) (opening d v)
 
@@ -245,7 +185,7 @@ module _ (v : Values) where
     pub is : (report ≡ NoSequence) ⊎ (report ≡ Sequence (reported (assembled v) d (s .previous)))
     pub next : MtcReader
     pub eights : length (next .nibbles) ≡ 8
-    pub starts : Starts d next
+    pub starts : Starts d (control next)
     pub runs : (rest : List Nibble) → run s (seven d v ++ rest) ≡ silent 6 ++ (report ∷ run next rest)
 
   -- The reader that turns round at the second byte, and holds nothing up to the eighth.
@@ -279,7 +219,7 @@ module _ (v : Values) where
         is = inr refl;
         next = left v d;
         eights = refl;
-        starts = next refl refl;
+        starts = starts-next d (first d) (Going d);
         runs =
             λ rest.
             ap (λ (x : MtcReader). run x (seven d v ++ rest)) (λ i. with s (en i) (ec i) (ef i) (el i) (ed i))
@@ -291,7 +231,7 @@ module _ (v : Values) where
         is = inl refl;
         next = turned s d;
         eights = len;
-        starts = next refl refl;
+        starts = starts-next d (s .first) (Going d);
         runs =
             λ rest.
             ap (λ (x : MtcReader). run x (seven d v ++ rest)) (λ i. with s (s .nibbles) (ec i) (s .first) (el i) (ed i))

@@ -159,12 +159,12 @@ module _ (bs : List ℕ) (r : MtcReader) (p : ℕ) where
 -- ---- a piece's number
 
 -- 0, where it starts nothing; 1, where it starts a sequence; or one more than those held, where it is the next one.
-data Number (next : Bool) (count : ℕ) (begins : Bool) (n : ℕ) : Type 0 where
+pub data Number (next : Bool) (count : ℕ) (begins : Bool) (n : ℕ) : Type 0 where
   none : n ≡ 0 → begins ≡ false → Number next count begins n
   opens : n ≡ 1 → begins ≡ true → Number next count begins n
   goes-on : next ≡ true → (count ≡ 0 → ⊥) → n ≡ count + 1 → Number next count begins n
 
-number : (next : Bool) (count : ℕ) (begins : Bool) → Number next count begins (numberAfter (cond next count 0) begins)
+pub number : (next : Bool) (count : ℕ) (begins : Bool) → Number next count begins (numberAfter (cond next count 0) begins)
 number false c true = opens refl refl
 number false c false = none refl refl
 number true zero true = opens refl refl
@@ -176,7 +176,7 @@ kept r o n p v y z = rw (ne-eqb n 0 y, ne-eqb n 8 z)
 
 -- ---- every call keeps the shape
 
-first-piece : (d : Direction) → first d ≡ pieceAt d 0
+pub first-piece : (d : Direction) → first d ≡ pieceAt d 0
 first-piece Forward = refl
 first-piece Reverse = refl
 
@@ -249,7 +249,7 @@ no-start Forward NoDirection e = never (sym e)
 no-start Reverse NoDirection e = never (sym e)
 no-start d (Going f) e = ap Going (other-first d f (eqb-false (first d) (first f) e))
 
-a-start : (d : Direction) (m : MaybeDirection) → starts m (first d) ≡ true → (m ≡ NoDirection) ⊎ (m ≡ Going d)
+pub a-start : (d : Direction) (m : MaybeDirection) → starts m (first d) ≡ true → (m ≡ NoDirection) ⊎ (m ≡ Going d)
 a-start d NoDirection e = inl refl
 a-start d (Going f) e = inr (ap Going (sym (same-first d f (eqb-true (first d) (first f) e))))
 

@@ -8,6 +8,7 @@ use lib.ListN.{length, length-set}
 use Rattle.mtc.specs.QuarterFrame.{pieceOf, valueOf}
 use Rattle.mtc.specs.Reader.{Standing, isSound, Sound, taken, control, orderOf, numberOf, passed, stored, completed, informed, afterPiece, reportOf, afterByte, eventOf, afterFullMessage}
 use Rattle.labels.specs.declared.time.MtcTime.{MtcTime}
+use Rattle.mtc.specs.declared.generator.MaybePiece.the-variants.{Piece}
 use Rattle.mtc.specs.declared.reader.MtcReader.{MtcReader}
 use Rattle.mtc.proofs.Readers.{fit-set, sound, sound-first, sound-nibbles, taken-sound}
 
@@ -54,6 +55,13 @@ same-length r p v =
     let s = length-set (r .nibbles) p v in
     picked (λ (x : MtcReader). length (x .nibbles) ≡ length (r .nibbles)) (eqb n 0) refl
     (picked (λ (x : MtcReader). length (x .nibbles) ≡ length (r .nibbles)) (eqb n 8) s s)
+
+-- A piece is the last one after it came.
+pub last-is : (r : MtcReader) (p v : ℕ) → afterPiece r p v .last ≡ Piece p
+unfolding afterPiece
+last-is r p v =
+    let n = numberOf (control r) (orderOf (control r) p) p in
+    picked (λ (x : MtcReader). x .last ≡ Piece p) (eqb n 0) refl (picked (λ (x : MtcReader). x .last ≡ Piece p) (eqb n 8) refl refl)
 
 completed-sound : (r : MtcReader) → Sound r → Sound (completed r)
 unfolding isSound

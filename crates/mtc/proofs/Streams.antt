@@ -11,7 +11,7 @@ use lib.ListN.{length, take, set, getD}
 use Rattle.mtc.specs.Generator.{first, move}
 use Rattle.mtc.specs.QuarterFrame.{pieceOf, pieces}
 use Rattle.mtc.specs.Reader.{Sound, fresh, isSound, nibblesFit, offset, sameTime, jumps, reported, reportOf, afterPiece, afterByte, afterFullMessage}
-use Rattle.mtc.specs.Ready.{next, afterBytes}
+use Rattle.mtc.specs.Ready.{afterBytes}
 use Rattle.mtc.specs.Rp004.{InWidths}
 use Rattle.labels.specs.St12.{isValid}
 use Rattle.mtc.specs.Stream.{Call, byte, full, runFrom, sent, afterCalls, events, silent, newest, lastSeven, report, frames, shifted, reporting, sevenBefore, StreamLaw}
@@ -20,6 +20,7 @@ use Rattle.labels.specs.declared.time.MtcTime.{MtcTime}
 use Rattle.mtc.specs.declared.generator.Direction.{Direction}
 use Rattle.mtc.specs.declared.generator.Direction.the-variants.{Forward, Reverse}
 use Rattle.mtc.specs.declared.generator.MtcGenerator.{MtcGenerator}
+use Rattle.mtc.specs.declared.reader.MaybeDirection.the-variants.{Going}
 use Rattle.mtc.specs.declared.reader.MaybeSequence.{MaybeSequence}
 use Rattle.mtc.specs.declared.reader.MaybeSequence.the-variants.{NoSequence, Sequence}
 use Rattle.mtc.specs.declared.reader.MaybeTime.{MaybeTime}
@@ -32,6 +33,7 @@ use Rattle.mtc.proofs.Nibbles.{opening, numbered, assembled, values, sp
 use Rattle.mtc.proofs.Rounds.{run, leave, left, round, run-first, Eighth, eighth}
 use Rattle.mtc.proofs.Sending.{later, sequence, sends-three}
 use Rattle.mtc.proofs.Shapes.{opposite, history, Shape, idle, piece-shape, Begun, Quiet, first-byte}
+use Rattle.mtc.proofs.Starting.{starts-next}
 use Rattle.mtc.proofs.Sound.{by-piece, report-by-piece, byte-sound, full-sound, same-length}
 
 -- ---- lists
@@ -69,18 +71,18 @@ silent-else a b c d n h1 h8 h16 h24 =
 -- ---- any list of calls
 
 -- What any list of calls from fresh on leaves, with the bytes since the last full message.
-record Past (bs : List ℕ) (r : MtcReader) : Type 0 where
-  sound : Sound r
-  shape : Shape bs r
+pub record Past (bs : List ℕ) (r : MtcReader) : Type 0 where
+  pub sound : Sound r
+  pub shape : Shape bs r
 
 pub fresh-sound : Sound fresh
 unfolding isSound nibblesFit
 fresh-sound = record { within = tt; eight = refl }
 
-fresh-past : Past [] fresh
+pub fresh-past : Past [] fresh
 fresh-past = record { sound = fresh-sound; shape = idle refl }
 
-past : (cs : List Call) (bs : List ℕ) (r : MtcReader) → Past bs r → Past (newest bs cs) (afterCalls r cs)
+pub past : (cs : List Call) (bs : List ℕ) (r : MtcReader) → Past bs r → Past (newest bs cs) (afterCalls r cs)
 unfolding newest afterCalls
 past [] bs r h = h
 past (byte b ∷ cs) bs r h =
@@ -169,7 +171,7 @@ module _ (a b c : MtcTime) (d : Direction) (bs : List ℕ) (r : MtcReader) (h : 
       ∙ ap (λ (l : List MaybeSequence). silent 6 ++ (after-eight .report ∷ l))
       (round (values b) (after-eight .next) d (after-eight .eights) (after-eight .starts) (numbered d (values c) ++ [])
       ∙ ap (λ (l : List MaybeSequence). silent 7 ++ (report16 ∷ l))
-      (round (values c) (left (values b) d) d refl (next refl refl) [])))
+      (round (values c) (left (values b) d) d refl (starts-next d (first d) (Going d)) [])))
 
 -- ---- times from T
 

@@ -2,6 +2,7 @@
 -- nothing.
 use Prim.Native.Nat.{ℕ, _+_, _*_, _/_, _%_}
 use mathlib.Core.List.{List, [], _∷_}
+use Rattle.labels.specs.St12.{label}
 use Rattle.labels.specs.Time.{bitsOf}
 use Rattle.labels.specs.declared.time.MtcTime.{MtcTime}
 use Rattle.mtc.specs.declared.quarter_frame.QuarterFrame.{QuarterFrame}
@@ -25,6 +26,10 @@ fromByte byte = quarterFrame (pieceOf byte) (valueOf byte)
 -- Piece and value, each masked to its bits.
 abbrev pub toByte : QuarterFrame → ℕ
 toByte q = q .piece % 8 * 16 + q .value % 16
+
+-- A label with its counts masked to their widths: five bits of frames and hours, six of seconds and minutes.
+abbrev pub masked : MtcTime → MtcTime
+masked t = label (t .rate) (t .hours % 32) (t .minutes % 64) (t .seconds % 64) (t .frames % 32)
 
 -- The eight data bytes of a label, with the counts masked to their widths.
 unfoldable pub pieces : MtcTime → List ℕ

@@ -1,28 +1,16 @@
--- RP-004/008, MIDI Time Code: the full message (p. 5) and the user bits message (p. 6), byte by byte. Of the other definitions
--- only the label record is used. Left out: quarter frames, and the MTC cueing messages. Assumes nothing.
+-- RP-004/008, MIDI Time Code: the full message (p. 5) and the user bits message (p. 6), byte by byte. The hours with the time code
+-- type are those of a quarter frame (Rp004.antt). Left out: quarter frames, and the MTC cueing messages. Assumes nothing.
 use Prim.Native.Nat.{ℕ, _+_, _*_}
 use mathlib.Core.List.{List, [], _∷_}
 use Rattle.labels.specs.declared.time.MtcTime.{MtcTime}
-use Rattle.labels.specs.declared.time.TimeCodeType.{TimeCodeType}
-use Rattle.labels.specs.declared.time.TimeCodeType.the-variants.{Fps24, Fps25, Fps30Drop, Fps30}
+use Rattle.mtc.specs.Rp004.{hoursCount}
 
 -- ---- the full message, p. 5
 
--- yy, the time code type: 00 is 24, 01 is 25, 10 is 30 drop-frame, 11 is 30 non-drop frames per second.
-abbrev pub yy : TimeCodeType → ℕ
-yy Fps24 = 0b00
-yy Fps25 = 0b01
-yy Fps30Drop = 0b10
-yy Fps30 = 0b11
-
--- hr = 0 yy zzzzz: the type in bits 5 and 6, the hours in bits 0 to 4.
-abbrev pub hr : MtcTime → ℕ
-hr t = yy (t .rate) * 32 + t .hours
-
--- F0 7F <device ID> 01 01 hr mn sc fr F7.
+-- F0 7F <device ID> 01 01 hr mn sc fr F7, with hr = 0 yy zzzzz: the type in bits 5 and 6, the hours in bits 0 to 4.
 unfoldable pub fullMessageBytes : ℕ → MtcTime → List ℕ
 fullMessageBytes device t =
-    0xF0 ∷ 0x7F ∷ device ∷ 0x01 ∷ 0x01 ∷ hr t ∷ t .minutes ∷ t .seconds ∷ t .frames ∷ 0xF7 ∷ []
+    0xF0 ∷ 0x7F ∷ device ∷ 0x01 ∷ 0x01 ∷ hoursCount t ∷ t .minutes ∷ t .seconds ∷ t .frames ∷ 0xF7 ∷ []
 
 -- ---- user bits, p. 6
 

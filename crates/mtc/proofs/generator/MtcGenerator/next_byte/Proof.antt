@@ -2,7 +2,7 @@
 use mathlib.Core.Path.{refl}
 use borrow.Author.Needs.{needs}
 use borrow.Author.Tests.{not-true, not-false}
-use Rattle.mtc.proofs.Generators.{known-none, known-above, known-within, sends, stops}
+use Rattle.mtc.proofs.Generators.{known-none, known-above, known-within, answers, stops}
 use Rattle.mtc.proofs.generator.MtcGenerator.next_byte.Statement.{statement}
 use Rattle.mtc.proofs.generator.MtcGenerator.next_byte.Tie as tie
 
@@ -23,7 +23,7 @@ send-requires c κs = search needs
 
 returns-2 : tie.Need-returns-2
 returns-2 c =
-    sends _ (c .send .result) (not-false _ (c .before .before .before .before .before .if1 .left))
+    answers _ (c .send .result) (not-false _ (c .before .before .before .before .before .if1 .left))
     (known-none (c .before .before .enum-told .given .1)) refl (c .before .first .ensures .0) (c .send .ensures)
 
 first-requires-2 : tie.Need-first-requires-2
@@ -34,7 +34,7 @@ send-requires-2 c κs = search needs
 
 returns-3 : tie.Need-returns-3
 returns-3 c =
-    sends _ (c .send2 .result) (not-false _ (c .before .before .before .before .before .before .before .if1 .left))
+    answers _ (c .send2 .result) (not-false _ (c .before .before .before .before .before .before .before .if1 .left))
     (known-above (c .before .before .before .before .last .given .1) (c .before .before .if2 .taken)) refl
     (c .before .first2 .ensures .0) (c .send2 .ensures)
 
@@ -49,7 +49,7 @@ send-requires-3 c κs = search needs
 
 returns-4 : tie.Need-returns-4
 returns-4 c =
-    sends _ (c .send3 .result) (not-false _ (c .before .before .before .before .before .before .before .before .if1 .left))
+    answers _ (c .send3 .result) (not-false _ (c .before .before .before .before .before .before .before .before .if1 .left))
     (known-within (c .before .before .before .before .before .last .given .1) (c .before .before .before .if2 .left))
     (c .before .before .moved-on .ensures) (c .before .after .ensures .0) (c .send3 .ensures)
 
