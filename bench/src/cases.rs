@@ -3,11 +3,11 @@
 use std::hint::black_box;
 
 use super::boundary;
-use super::lib::mmc::{FinalByte, MmcCommand, StandardTimeCode};
+use super::lib::mmc::{FinalByte, InfoFields, MmcCommand, StandardTimeCode};
 use super::lib::mtc::{Direction, MtcGenerator, MtcReader, MtcTime, TimeCodeType};
 use super::lib::universal::Universal;
 use crate::case::Case;
-use crate::inputs::{self, BODIES, BODY, LIST, LOCATE_PLAY, ROOM, ROUND};
+use crate::inputs::{self, BODIES, BODY, GP0, LIST, LOCATE_PLAY, ROOM, ROUND};
 
 /// Every case, in the order of the tables.
 pub fn all() -> Vec<Case> {
@@ -20,6 +20,7 @@ pub fn all() -> Vec<Case> {
         from_frame_count(),
         add_frames(),
         write(),
+        write_mixed(),
         read_back(),
         read_stops(),
         read_random(),
@@ -117,6 +118,25 @@ fn write() -> Case {
     let list = [MmcCommand::LocateTarget(target), MmcCommand::Play];
     let mut out = [0; ROOM];
     Case::new("write", move |_| {
+        let room = black_box(&mut out);
+        let length = black_box(boundary::write(room, black_box(0x7F), black_box(&list)));
+        length.map_or(1000, |n| n as u64) + u64::from(out[8])
+    })
+}
+
+/// Commands that are no names alone: Write of GP0, Move of the selected time code to it, Locate to it, and Play.
+fn write_mixed() -> Case {
+    let list = [
+        MmcCommand::Write(InfoFields::new(&GP0)),
+        MmcCommand::Move {
+            destination: 0x08,
+            source: 0x01,
+        },
+        MmcCommand::LocateField { register: 0x08 },
+        MmcCommand::Play,
+    ];
+    let mut out = [0; ROOM];
+    Case::new("write_mixed", move |_| {
         let room = black_box(&mut out);
         let length = black_box(boundary::write(room, black_box(0x7F), black_box(&list)));
         length.map_or(1000, |n| n as u64) + u64::from(out[8])

@@ -12,6 +12,8 @@ pub const BODIES: usize = 64;
 pub const BODY: usize = 48;
 /// Locate to 01:37:52:16 at 30 drop-frame, then Play, as a message's data.
 pub const LOCATE_PLAY: [u8; 9] = [0x44, 0x06, 0x01, 0x41, 37, 52, 16, 0x00, 0x02];
+/// Field GP0 at 01:02:03:04 at 25 frames with 5 subframes, as a Write's data.
+pub const GP0: [u8; 6] = [0x08, 0x21, 2, 3, 4, 5];
 /// Room for a whole message.
 pub const ROOM: usize = 64;
 

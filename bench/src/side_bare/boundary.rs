@@ -3,12 +3,12 @@
 use std::hint::black_box;
 
 use super::ffi::{
-    fimbrast_add_frames, fimbrast_feed, fimbrast_from_frame_count, fimbrast_mmc_kind,
-    fimbrast_next_byte, fimbrast_next_word, fimbrast_receive, fimbrast_to_frame_count,
-    fimbrast_write_words,
+    fimbrast_add_frames, fimbrast_close_message, fimbrast_feed, fimbrast_from_frame_count,
+    fimbrast_mmc_kind, fimbrast_next_byte, fimbrast_next_word, fimbrast_open_commands,
+    fimbrast_put_command, fimbrast_receive, fimbrast_to_frame_count, fimbrast_write_words,
 };
 pub use super::ffi::{fimbrast_generator_new, fimbrast_reader_new};
-pub use super::ffi::{Event, Generator, Reader, Time, Universal, Written};
+pub use super::ffi::{Command, Event, Generator, Part, Reader, Time, Universal, Written};
 
 /// The lowest byte of `next_word`'s number at the end: the refusal 9.
 const END: u8 = 128 + 9;
@@ -57,6 +57,21 @@ pub fn write(out: &mut [u8], device_id: u8, words: &[u64]) -> Written {
     let (to, room) = (out.as_mut_ptr(), out.len());
     // SAFETY: `to` and `room` are a live slice that is borrowed alone, and `words` is a live slice.
     unsafe { fimbrast_write_words(to, room, device_id, words.as_ptr(), words.len()) }
+}
+
+/// A whole message written call by call; the data of the commands are parts of the source.
+#[inline(never)]
+pub fn write_each(out: &mut [u8], device_id: u8, source: &[u8], commands: &[Command]) -> Written {
+    let (to, room) = (out.as_mut_ptr(), out.len());
+    let (from, length) = (source.as_ptr(), source.len());
+    // SAFETY: `to` and `room` are a live slice that is borrowed alone, and `from` and `length` are a live slice.
+    unsafe {
+        let mut writer = fimbrast_open_commands(to, room, device_id);
+        for command in commands {
+            writer = fimbrast_put_command(writer, to, room, from, length, *command);
+        }
+        fimbrast_close_message(writer, to, room)
+    }
 }
 
 /// A whole message of commands, item by item: how many.

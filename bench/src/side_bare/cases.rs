@@ -2,14 +2,17 @@
 
 use std::hint::black_box;
 
-use super::boundary::{self, Time, Universal};
+use super::boundary::{self, Command, Part, Time, Universal, Written};
 use crate::case::Case;
-use crate::inputs::{self, BODIES, BODY, LIST, LOCATE_PLAY, ROOM, ROUND};
+use crate::inputs::{self, BODIES, BODY, GP0, LIST, LOCATE_PLAY, ROOM, ROUND};
 
 const FORWARD: u8 = 0;
 const DROP_FRAME: u8 = 2;
 const PLAY: u64 = 1;
+const WRITE: u8 = 9;
+const LOCATE_FIELD: u8 = 10;
 const LOCATE_TARGET: u8 = 11;
+const MOVE: u8 = 12;
 
 /// The header of a message of commands, for all devices.
 pub const COMMANDS: Universal = Universal {
@@ -31,6 +34,7 @@ pub fn all() -> Vec<Case> {
         from_frame_count(),
         add_frames(),
         write(),
+        write_mixed(),
         read_back(),
         read_stops(),
         read_random(),
@@ -118,13 +122,54 @@ fn write() -> Case {
     Case::new("write", move |_| {
         let room = black_box(&mut out);
         let written = black_box(boundary::write(room, black_box(0x7F), black_box(&list)));
-        let length = if written.refusal == 0 {
-            written.length as u64
-        } else {
-            1000
-        };
-        length + u64::from(out[8])
+        length_of(written) + u64::from(out[8])
     })
+}
+
+/// A command of a kind and two names.
+fn command(kind: u8, first: u8, second: u8) -> Command {
+    Command {
+        kind,
+        first,
+        second,
+        ..Command::default()
+    }
+}
+
+fn write_mixed() -> Case {
+    let data = Part {
+        start: 0,
+        length: GP0.len(),
+    };
+    let list = [
+        Command {
+            data,
+            ..command(WRITE, 0, 0)
+        },
+        command(MOVE, 0x08, 0x01),
+        command(LOCATE_FIELD, 0x08, 0),
+        command(PLAY as u8, 0, 0),
+    ];
+    let mut out = [0; ROOM];
+    Case::new("write_mixed", move |_| {
+        let room = black_box(&mut out);
+        let written = black_box(boundary::write_each(
+            room,
+            black_box(0x7F),
+            &GP0,
+            black_box(&list),
+        ));
+        length_of(written) + u64::from(out[8])
+    })
+}
+
+/// The length of a message that was written, or a number that none has.
+fn length_of(written: Written) -> u64 {
+    if written.refusal == 0 {
+        written.length as u64
+    } else {
+        1000
+    }
 }
 
 /// A message's data read item by item.

@@ -24,6 +24,9 @@ records! {
     Fed { reports: usize, discontinuities: usize, last: u64 }
     Universal { real_time: bool, device_id: u8, sub_id1: u8, has_sub_id2: bool, sub_id2: u8 }
     Written { refusal: u8, length: usize }
+    Code { time: Time, color_frame: bool, blank: bool, negative: bool, status: bool, last: u8 }
+    Part { start: usize, length: usize }
+    Command { kind: u8, first: u8, second: u8, code: Code, name: Part, data: Part }
     NextWord { word: u64, place: usize }
 }
 
@@ -38,6 +41,16 @@ unsafe extern "C" {
     pub fn fimbrast_feed(reader: &mut Reader, bytes: *const u8, length: usize) -> Fed;
     pub fn fimbrast_mmc_kind(real_time: bool, sub_id1: u8, data: *const u8, length: usize) -> u8;
     pub fn fimbrast_next_word(body: *const u8, length: usize, place: usize) -> NextWord;
+    pub fn fimbrast_open_commands(out: *mut u8, out_length: usize, device_id: u8) -> u64;
+    pub fn fimbrast_put_command(
+        writer: u64,
+        out: *mut u8,
+        out_length: usize,
+        source: *const u8,
+        source_length: usize,
+        command: Command,
+    ) -> u64;
+    pub fn fimbrast_close_message(writer: u64, out: *mut u8, out_length: usize) -> Written;
     pub fn fimbrast_write_words(
         out: *mut u8,
         out_length: usize,
