@@ -126,6 +126,11 @@ impl Writer {
     fn ready(self) -> Checked
         ensures { λ r. ⌜ stopOf r ≡ ready (writingOf self) ⌝ }
     {
+        if self.items < MOST_ITEMS {
+            if self.at <= MOST_POSITION {
+                return self.checked;
+            }
+        }
         let checked = self.sound();
         if let Checked::Refused(e) = checked {
             return Checked::Refused(e);
