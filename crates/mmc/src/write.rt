@@ -126,6 +126,7 @@ impl Writer {
     fn ready(self) -> Checked
         ensures { λ r. ⌜ stopOf r ≡ ready (writingOf self) ⌝ }
     {
+        // Most often it is its own; handed on as it is, it is not made anew.
         if self.items < MOST_ITEMS {
             if self.at <= MOST_POSITION {
                 return self.checked;
