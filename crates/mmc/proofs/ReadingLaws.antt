@@ -9,6 +9,7 @@ use native.Mathlib.Omega.{arith}
 use borrow.Author.Tests.{le-leb}
 use lib.ListN.{length, getD, take, drop, length-append}
 use lib.Seq.{drop-cons}
+use Rattle.mmc.specs.Names.{NamesRead}
 use Rattle.mmc.specs.declared.command.MmcCommand.{MmcCommand}
 use Rattle.mmc.specs.declared.command.MmcCommand.the-variants.{Other}
 use Rattle.mmc.specs.declared.length.Kind.{Kind}
@@ -50,21 +51,7 @@ pub command-length : (n : ℕ) → commandLength n ≡ cond (within 64 120 n) Co
 unfolding commandLength
 command-length n = refl
 
--- What each known name of one byte is read as, with its data.
-pub record NamesRead (d : List ℕ) : Type 0 where
-  pub stop : readByte 1 d ≡ K.stop
-  pub play : readByte 2 d ≡ K.play
-  pub deferred-play : readByte 3 d ≡ K.deferredPlay
-  pub fast-forward : readByte 4 d ≡ K.fastForward
-  pub rewind : readByte 5 d ≡ K.rewind
-  pub record-strobe : readByte 6 d ≡ K.recordStrobe
-  pub record-exit : readByte 7 d ≡ K.recordExit
-  pub pause : readByte 9 d ≡ K.pause
-  pub reset : readByte 13 d ≡ K.reset
-  pub write : readByte 64 d ≡ K.write
-  pub locate : readByte 68 d ≡ readLocate d
-  pub move : readByte 76 d ≡ readMove d
-
+-- Each known name of one byte is read as its case.
 pub names-read : (d : List ℕ) → NamesRead d
 unfolding readByte
 names-read d =

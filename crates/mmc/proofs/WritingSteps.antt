@@ -7,6 +7,7 @@ use mathlib.Core.List.{List, [], _∷_}
 use mathlib.Core.Option.{Option, some}
 use lib.Dec.{leb, ltb, lit≤}
 use lib.ListN.{length}
+use Rattle.mmc.specs.Names.{NamesSent}
 use Rattle.mmc.specs.declared.command.MmcCommand.the-variants as C
 use Rattle.mmc.specs.declared.length.Kind.{Kind}
 use Rattle.mmc.specs.Item.{commandItem, isSubframes, locateTargetItem, standardItem}
@@ -81,18 +82,7 @@ pub after-cons : (kind : Kind) (s : State) (g : Given kind) (gs : List (Given ki
 unfolding afterItems
 after-cons kind s g gs = refl
 
--- The commands that are a name alone go out as this name.
-pub record NamesSent (source : List ℕ) : Type 0 where
-  pub stop : commandItem source C.Stop ≡ sent (1 ∷ [])
-  pub play : commandItem source C.Play ≡ sent (2 ∷ [])
-  pub deferred-play : commandItem source C.DeferredPlay ≡ sent (3 ∷ [])
-  pub fast-forward : commandItem source C.FastForward ≡ sent (4 ∷ [])
-  pub rewind : commandItem source C.Rewind ≡ sent (5 ∷ [])
-  pub record-strobe : commandItem source C.RecordStrobe ≡ sent (6 ∷ [])
-  pub record-exit : commandItem source C.RecordExit ≡ sent (7 ∷ [])
-  pub pause : commandItem source C.Pause ≡ sent (9 ∷ [])
-  pub reset : commandItem source C.Reset ≡ sent (13 ∷ [])
-
+-- Each command that is a name alone goes out as this name.
 pub names-sent : (source : List ℕ) → NamesSent source
 unfolding commandItem
 names-sent source =

@@ -5,6 +5,7 @@ pub mod Item
 pub mod Length
 pub mod Message
 pub mod Named
+pub mod Names
 pub mod Part
 pub mod Rp013
 pub mod Rp013Commands
