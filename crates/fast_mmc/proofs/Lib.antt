@@ -1,3 +1,6 @@
+mod Back
+mod Checks
+pub mod Laws
 mod WordAnswers
 mod WordPuts
 mod WordRanges

@@ -1,4 +1,10 @@
+pub mod Apply
+pub mod Code
 pub mod Contracts
+pub mod Message
 pub mod Numbers
+pub mod Refusal
+pub mod String
 pub mod Word
 pub mod Words
+pub mod Write

@@ -8,8 +8,8 @@ use native.Mathlib.Omega.{arith}
 use lib.Dec.{lit≤}
 use lib.ListN.{length, drop, getD, drop-of-length-le}
 use lib.Seq.{drop-cons}
-use Rattle.flat_mtc.proofs.Laws.{report-of, none-reported, some-reported, jump-reported}
-use Rattle.flat_mtc.specs.Reader.{flatReport, flatEvent, readerIn}
+use Rattle.fast_mtc.proofs.Laws.{report-of, none-reported, some-reported, jump-reported}
+use Rattle.fast_mtc.specs.Reader.{flatReport, flatEvent, readerIn}
 use Rattle.fimbrast.specs.Feed.{Fed, unfed, counted, fedBy, fedAll, fed, flatFed, flatCounted, one, jump, later, total, lastOf, Feeds}
 use Rattle.fimbrast.specs.declared.feed.FlatFed.{FlatFed}
 use Rattle.mtc.proofs.Laws.{calls-none, calls-more, events-more}

@@ -4,8 +4,8 @@ use Prim.Native.Nat.{ℕ, _+_, _/_, _%_}
 use mathlib.Core.Bool.{cond}
 use mathlib.Core.List.{List, [], _∷_, map}
 use mathlib.Core.Path.{_≡_}
-use Rattle.flat_mtc.specs.Generator.{isSet}
-use Rattle.flat_mtc.specs.Reader.{flatReport}
+use Rattle.fast_mtc.specs.Generator.{isSet}
+use Rattle.fast_mtc.specs.Reader.{flatReport}
 use Rattle.fimbrast.specs.declared.feed.FlatFed.{FlatFed}
 use Rattle.mtc.specs.Reader.{afterByte, eventOf}
 use Rattle.mtc.specs.Stream.{byte, afterCalls, events}

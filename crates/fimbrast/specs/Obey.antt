@@ -1,6 +1,6 @@
 -- What became of a string's commands, as a flat record. Assumes nothing.
 use Rattle.fimbrast.specs.declared.obey.FlatRun.{FlatRun}
-use Rattle.flat_mtc.specs.Generator.{flatGenerator}
+use Rattle.fast_mtc.specs.Generator.{flatGenerator}
 use Rattle.transport.specs.Demand3.{Run}
 use Rattle.transport.specs.Obey.{Summary, summary}
 

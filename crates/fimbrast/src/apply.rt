@@ -1,15 +1,15 @@
 // The transport.
-use flat_mmc::apply::FlatApplied;
-use flat_mmc::apply::flat_applied;
-use flat_mmc::string::FlatCommand;
-use flat_mmc::string::command_of;
-use flat_mtc::generator::FlatGenerator;
-use flat_mtc::generator::generator_of;
+use fast_mmc::apply::FlatApplied;
+use fast_mmc::apply::flat_applied;
+use fast_mmc::string::FlatCommand;
+use fast_mmc::string::command_of;
+use fast_mtc::generator::FlatGenerator;
+use fast_mtc::generator::generator_of;
 ghost use mathlib.Core.Path.{_≡_};
 ghost use Rattle.transport.specs.Transport.{applied};
-ghost use Rattle.flat_mtc.specs.Generator.{generatorOf};
-ghost use Rattle.flat_mmc.specs.String.{commandOf};
-ghost use Rattle.flat_mmc.specs.Apply.{flatApplied};
+ghost use Rattle.fast_mtc.specs.Generator.{generatorOf};
+ghost use Rattle.fast_mmc.specs.String.{commandOf};
+ghost use Rattle.fast_mmc.specs.Apply.{flatApplied};
 
 // `apply`: one command of a message for `device_id`, to the generator of the device `own`.
 #[no_mangle]

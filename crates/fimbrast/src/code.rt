@@ -1,28 +1,28 @@
 // Time code fields of machine control.
-use flat_mmc::code::FiveBytes;
-use flat_mmc::code::FlatCode;
-use flat_mmc::code::FlatCodeBytes;
-use flat_mmc::code::FlatShort;
-use flat_mmc::code::FlatShortBytes;
-use flat_mmc::code::FlatStatus;
-use flat_mmc::code::TwoBytes;
-use flat_mmc::code::code_of;
-use flat_mmc::code::flat_code;
-use flat_mmc::code::flat_code_bytes;
-use flat_mmc::code::flat_name;
-use flat_mmc::code::flat_short;
-use flat_mmc::code::flat_short_bytes;
-use flat_mmc::code::flat_status;
-use flat_mmc::code::short_of;
-use flat_mmc::code::status_of;
+use fast_mmc::code::FiveBytes;
+use fast_mmc::code::FlatCode;
+use fast_mmc::code::FlatCodeBytes;
+use fast_mmc::code::FlatShort;
+use fast_mmc::code::FlatShortBytes;
+use fast_mmc::code::FlatStatus;
+use fast_mmc::code::TwoBytes;
+use fast_mmc::code::code_of;
+use fast_mmc::code::flat_code;
+use fast_mmc::code::flat_code_bytes;
+use fast_mmc::code::flat_name;
+use fast_mmc::code::flat_short;
+use fast_mmc::code::flat_short_bytes;
+use fast_mmc::code::flat_status;
+use fast_mmc::code::short_of;
+use fast_mmc::code::status_of;
 use mmc::ShortTimeCode;
 use mmc::StandardTimeCode;
 use mmc::TimeCodeStatus;
 ghost use mathlib.Core.Path.{_≡_};
 ghost use lib.ListN.{getD};
 ghost use Rattle.codes.specs.TimeCode.{readStatus, statusByte, readStandard, readShort, standardBytes, shortBytes, standardLeft, shortLeft, shortForm, withShort, subframesForm, statusForm, shortName, fullName};
-ghost use Rattle.flat_mtc.specs.Refusal.{refusalIn};
-ghost use Rattle.flat_mmc.specs.Code.{statusOf, flatStatus, codeOf, flatCode, shortOf, flatShort, flatName};
+ghost use Rattle.fast_mtc.specs.Refusal.{refusalIn};
+ghost use Rattle.fast_mmc.specs.Code.{statusOf, flatStatus, codeOf, flatCode, shortOf, flatShort, flatName};
 
 // `short_name`, or 0.
 #[no_mangle]

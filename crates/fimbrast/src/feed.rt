@@ -1,8 +1,8 @@
 // A list of quarter frames given to a reader.
-use flat_mtc::reader::receive;
+use fast_mtc::reader::receive;
 ghost use mathlib.Core.Path.{_≡_};
 ghost use Prim.Native.Nat.{_<_};
-ghost use Rattle.flat_mtc.specs.Reader.{readerIn};
+ghost use Rattle.fast_mtc.specs.Reader.{readerIn};
 ghost use Rattle.fimbrast.specs.Feed.{flatCounted, fed, flatFed};
 
 // The reports of the data bytes, those with a discontinuity, and the last one, as a number.

@@ -1,18 +1,18 @@
 // The quarter frame generator.
-use flat_mtc::generator::FlatByte;
-use flat_mtc::generator::FlatGenerator;
-use flat_mtc::generator::direction_at;
-use flat_mtc::generator::flat_generator;
-use flat_mtc::generator::generator_of;
-use flat_mtc::generator::next_byte;
-use flat_mtc::time::FlatTime;
-use flat_mtc::time::flat_time;
-use flat_mtc::time::time_of;
+use fast_mtc::generator::FlatByte;
+use fast_mtc::generator::FlatGenerator;
+use fast_mtc::generator::direction_at;
+use fast_mtc::generator::flat_generator;
+use fast_mtc::generator::generator_of;
+use fast_mtc::generator::next_byte;
+use fast_mtc::time::FlatTime;
+use fast_mtc::time::flat_time;
+use fast_mtc::time::time_of;
 use mtc::MtcGenerator;
 ghost use mathlib.Core.Path.{_≡_};
 ghost use Rattle.mtc.specs.Generator.{nextByte, afterNextByte, started, withRunning, withDirection, located};
-ghost use Rattle.flat_mtc.specs.Time.{timeOf, flatTime};
-ghost use Rattle.flat_mtc.specs.Generator.{directionAt, generatorOf, flatGenerator, generatorIn, flatByte};
+ghost use Rattle.fast_mtc.specs.Time.{timeOf, flatTime};
+ghost use Rattle.fast_mtc.specs.Generator.{directionAt, generatorOf, flatGenerator, generatorIn, flatByte};
 
 // `MtcGenerator::new`.
 #[no_mangle]

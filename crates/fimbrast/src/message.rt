@@ -1,20 +1,20 @@
 // Universal messages, full messages, user bits, and machine control messages, by their split parts.
 use fast_mmc::WrittenNumbers;
 use fast_mmc::written_numbers;
-use flat_mmc::message::FlatFullMessage;
-use flat_mmc::message::FlatMmcMessage;
-use flat_mmc::message::FlatReadUserBits;
-use flat_mmc::message::FlatUniversal;
-use flat_mmc::message::FlatUserBits;
-use flat_mmc::message::FourBytes;
-use flat_mmc::message::bits_of;
-use flat_mmc::message::flat_full_message;
-use flat_mmc::message::flat_mmc_message;
-use flat_mmc::message::flat_user_bits;
-use flat_mmc::message::mmc_kind;
-use flat_mmc::message::universal_of;
-use flat_mtc::time::FlatTime;
-use flat_mtc::time::time_of;
+use fast_mmc::message::FlatFullMessage;
+use fast_mmc::message::FlatMmcMessage;
+use fast_mmc::message::FlatReadUserBits;
+use fast_mmc::message::FlatUniversal;
+use fast_mmc::message::FlatUserBits;
+use fast_mmc::message::FourBytes;
+use fast_mmc::message::bits_of;
+use fast_mmc::message::flat_full_message;
+use fast_mmc::message::fast_mmc_message;
+use fast_mmc::message::flat_user_bits;
+use fast_mmc::message::mmc_kind;
+use fast_mmc::message::universal_of;
+use fast_mtc::time::FlatTime;
+use fast_mtc::time::time_of;
 use mmc::MmcMessage;
 use mtc::FullMessage;
 use mtc::UserBits;
@@ -30,8 +30,8 @@ ghost use Rattle.mtc.specs.FullMessage.{fullMessage, fullMessageFrom, fullMessa
 ghost use Rattle.mtc.specs.UserBits.{userBitsFrom, userBitsWritten, groupBytes};
 ghost use Rattle.fast_mmc.specs.Numbers.{writtenNumbers};
 ghost use Rattle.mmc.specs.Message.{messageFrom};
-ghost use Rattle.flat_mtc.specs.Time.{timeOf};
-ghost use Rattle.flat_mmc.specs.Message.{universalOf, bitsOf, flatFullMessage, flatUserBits, flatMmcMessage, mmcKind};
+ghost use Rattle.fast_mtc.specs.Time.{timeOf};
+ghost use Rattle.fast_mmc.specs.Message.{universalOf, bitsOf, flatFullMessage, flatUserBits, flatMmcMessage, mmcKind};
 
 // `addressed`.
 #[no_mangle]
@@ -118,7 +118,7 @@ pub extern "C" fn fimbrast_user_bits_bytes(bits: FlatUserBits) -> FourBytes
 pub extern "C" fn fimbrast_mmc_message_read(header: FlatUniversal, data: &[u8]) -> FlatMmcMessage
     ensures { λ r. ⌜ r ≡ flatMmcMessage (messageFrom (universalOf header) (now («data» .entry))) ⌝ }
 {
-    flat_mmc_message(MmcMessage::from_universal(universal_of(header), data))
+    fast_mmc_message(MmcMessage::from_universal(universal_of(header), data))
 }
 
 // The same without the device, which decides nothing, as one number.

@@ -1,13 +1,13 @@
 // A message's data, read from the front to its end, each command applied as it is read.
-use flat_mtc::generator::FlatGenerator;
-use flat_mtc::generator::flat_generator;
-use flat_mtc::generator::generator_of;
+use fast_mtc::generator::FlatGenerator;
+use fast_mtc::generator::flat_generator;
+use fast_mtc::generator::generator_of;
 use transport::Obeyed;
 use transport::obey;
 ghost use mathlib.Core.Path.{_≡_};
 ghost use Rattle.transport.specs.Demand3.{obey};
 ghost use Rattle.transport.specs.Obey.{obeyedOf};
-ghost use Rattle.flat_mtc.specs.Generator.{generatorOf};
+ghost use Rattle.fast_mtc.specs.Generator.{generatorOf};
 ghost use Rattle.fimbrast.specs.Obey.{flatSummary, flatRun};
 
 // The answers to a string's commands: how many, how many of them refusals, and the refusal that ended the reading.

@@ -1,26 +1,26 @@
 // The quarter frame reader.
-use flat_mtc::reader::FlatMaybeSequence;
-use flat_mtc::reader::FlatMaybeTime;
-use flat_mtc::reader::FlatReader;
-use flat_mtc::reader::FlatReaderFields;
-use flat_mtc::reader::direction;
-use flat_mtc::reader::flat_maybe_time;
-use flat_mtc::reader::flat_way;
-use flat_mtc::reader::fresh;
-use flat_mtc::reader::informed;
-use flat_mtc::reader::is_locked;
-use flat_mtc::reader::is_running;
-use flat_mtc::reader::reader_fields;
-use flat_mtc::reader::reader_in;
-use flat_mtc::reader::receive;
-use flat_mtc::reader::report_at;
-use flat_mtc::reader::time;
-use flat_mtc::time::FlatTime;
-use flat_mtc::time::time_of;
+use fast_mtc::reader::FlatMaybeSequence;
+use fast_mtc::reader::FlatMaybeTime;
+use fast_mtc::reader::FlatReader;
+use fast_mtc::reader::FlatReaderFields;
+use fast_mtc::reader::direction;
+use fast_mtc::reader::flat_maybe_time;
+use fast_mtc::reader::flat_way;
+use fast_mtc::reader::fresh;
+use fast_mtc::reader::informed;
+use fast_mtc::reader::is_locked;
+use fast_mtc::reader::is_running;
+use fast_mtc::reader::reader_fields;
+use fast_mtc::reader::reader_in;
+use fast_mtc::reader::receive;
+use fast_mtc::reader::report_at;
+use fast_mtc::reader::time;
+use fast_mtc::time::FlatTime;
+use fast_mtc::time::time_of;
 ghost use mathlib.Core.Path.{_≡_};
 ghost use Rattle.mtc.specs.Reader.{fresh, afterByte, eventOf, afterFullMessage};
-ghost use Rattle.flat_mtc.specs.Time.{timeOf};
-ghost use Rattle.flat_mtc.specs.Reader.{flatWay, flatMaybeTime, readerIn, readerFields, flatEvent, reportAt, flatMaybeSequence};
+ghost use Rattle.fast_mtc.specs.Time.{timeOf};
+ghost use Rattle.fast_mtc.specs.Reader.{flatWay, flatMaybeTime, readerIn, readerFields, flatEvent, reportAt, flatMaybeSequence};
 
 // `MtcReader::new`.
 #[no_mangle]

@@ -1,14 +1,14 @@
 // Command and field strings: one item after another.
 use fast_mmc::NextWord;
-use flat_mmc::string::FlatNextCommand;
-use flat_mmc::string::FlatNextField;
-use flat_mmc::string::flat_next_command;
-use flat_mmc::string::flat_next_field;
+use fast_mmc::string::FlatNextCommand;
+use fast_mmc::string::FlatNextField;
+use fast_mmc::string::flat_next_command;
+use fast_mmc::string::flat_next_field;
 ghost use mathlib.Core.Path.{_≡_};
 ghost use Rattle.mmc.specs.Command.{nextCommand};
 ghost use Rattle.mmc.specs.Field.{nextField};
 ghost use Rattle.fast_mmc.specs.Word.{nextWord};
-ghost use Rattle.flat_mmc.specs.String.{flatNextCommand, flatNextField};
+ghost use Rattle.fast_mmc.specs.String.{flatNextCommand, flatNextField};
 
 // The next of `Commands`: the command at a place of the string.
 #[no_mangle]

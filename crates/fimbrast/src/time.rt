@@ -1,14 +1,14 @@
 // Labels, and the quarter frames of a label.
-use flat_mtc::time::EightBytes;
-use flat_mtc::time::FlatFrame;
-use flat_mtc::time::FlatTime;
-use flat_mtc::time::flat_frame;
-use flat_mtc::time::flat_new;
-use flat_mtc::time::flat_time;
-use flat_mtc::time::frame_of;
-use flat_mtc::time::time_in;
-use flat_mtc::time::time_numbered;
-use flat_mtc::time::time_of;
+use fast_mtc::time::EightBytes;
+use fast_mtc::time::FlatFrame;
+use fast_mtc::time::FlatTime;
+use fast_mtc::time::flat_frame;
+use fast_mtc::time::flat_new;
+use fast_mtc::time::flat_time;
+use fast_mtc::time::frame_of;
+use fast_mtc::time::time_in;
+use fast_mtc::time::time_numbered;
+use fast_mtc::time::time_of;
 use mtc::MtcTime;
 use mtc::QuarterFrame;
 use mtc::TimeCodeType;
@@ -16,8 +16,8 @@ ghost use mathlib.Core.Path.{_≡_};
 ghost use Rattle.mtc.specs.QuarterFrame.{fromByte, toByte, pieces};
 ghost use Rattle.labels.specs.St12.{framesPerSecond, isValid};
 ghost use Rattle.labels.specs.Time.{newTime, nextValid, frameCount, labelAt, addFrames, typeOf};
-ghost use Rattle.flat_mtc.specs.Refusal.{refusalIn};
-ghost use Rattle.flat_mtc.specs.Time.{timeOf, timeAt, flatTime, frameOf, flatFrame};
+ghost use Rattle.fast_mtc.specs.Refusal.{refusalIn};
+ghost use Rattle.fast_mtc.specs.Time.{timeOf, timeAt, flatTime, frameOf, flatFrame};
 
 // The frames of a counting second.
 #[no_mangle]

@@ -1,13 +1,13 @@
 // Writing a string: opened, given its items one at a time, and closed.
 use fast_mmc::WrittenNumbers;
 use fast_mmc::written_numbers;
-use flat_mmc::string::FlatCommand;
-use flat_mmc::string::FlatField;
-use flat_mmc::string::command_of;
-use flat_mmc::string::field_of;
-use flat_mmc::write::FlatWriter;
-use flat_mmc::write::flat_writer;
-use flat_mmc::write::writer_of;
+use fast_mmc::string::FlatCommand;
+use fast_mmc::string::FlatField;
+use fast_mmc::string::command_of;
+use fast_mmc::string::field_of;
+use fast_mmc::write::FlatWriter;
+use fast_mmc::write::flat_writer;
+use fast_mmc::write::writer_of;
 ghost use mathlib.Core.Path.{_≡_};
 ghost use lib.ListN.{length};
 ghost use Rattle.universal.specs.Overlay.{overlay};
@@ -17,8 +17,8 @@ ghost use Rattle.fast_mmc.specs.Words.{wordItems};
 ghost use Rattle.mmc.specs.Write.{openedCommands, openedResponses, openedFields, begun, admitted, given, closedMessage, wholeMessage, wholeFields};
 ghost use Rattle.mmc.specs.Writings.{stringAnswer, stringLeft};
 ghost use Rattle.mmc.specs.declared.length.Kind.the-variants.{Commands};
-ghost use Rattle.flat_mmc.specs.String.{commandOf, fieldOf};
-ghost use Rattle.flat_mmc.specs.Write.{writingAt, flatWriter};
+ghost use Rattle.fast_mmc.specs.String.{commandOf, fieldOf};
+ghost use Rattle.fast_mmc.specs.Write.{writingAt, flatWriter};
 
 // `write_commands` opens: F0H, 7FH, the device, 06H.
 #[no_mangle]

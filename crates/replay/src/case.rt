@@ -1,6 +1,6 @@
 // The fields of a case. Those of the input are read at their place. Those of an answer are compared one after another: each
 // comparison answers the place after its bytes, or `WRONG`.
-use flat_mtc::time::FlatTime;
+use fast_mtc::time::FlatTime;
 ghost use Prim.Native.Nat.{_<_};
 
 // A byte of the input; 0 past its end.

@@ -15,8 +15,8 @@ use fimbrast::message::fimbrast_has_sub_id2;
 use fimbrast::message::fimbrast_mmc_message_read;
 use fimbrast::message::fimbrast_user_bits_bytes;
 use fimbrast::message::fimbrast_user_bits_read;
-use flat_mmc::message::FlatUniversal;
-use flat_mmc::message::FlatUserBits;
+use fast_mmc::message::FlatUniversal;
+use fast_mmc::message::FlatUserBits;
 
 pub(crate) fn header_at(input: &[u8]) -> FlatUniversal {
     FlatUniversal {

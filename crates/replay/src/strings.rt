@@ -12,9 +12,9 @@ use crate::time_codes::short_at;
 use crate::time_codes::short_is;
 use fimbrast::string::fimbrast_next_command;
 use fimbrast::string::fimbrast_next_field;
-use flat_mmc::string::FlatCommand;
-use flat_mmc::string::FlatField;
-use flat_mmc::string::FlatPart;
+use fast_mmc::string::FlatCommand;
+use fast_mmc::string::FlatField;
+use fast_mmc::string::FlatPart;
 ghost use Prim.Native.Nat.{_<_};
 
 fn part_at(input: &[u8], at: usize) -> FlatPart

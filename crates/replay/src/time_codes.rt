@@ -19,11 +19,11 @@ use fimbrast::code::fimbrast_status_byte;
 use fimbrast::code::fimbrast_status_read;
 use fimbrast::code::fimbrast_to_status_form;
 use fimbrast::code::fimbrast_to_subframes_form;
-use flat_mmc::code::FiveBytes;
-use flat_mmc::code::FlatCode;
-use flat_mmc::code::FlatShort;
-use flat_mmc::code::FlatStatus;
-use flat_mmc::code::TwoBytes;
+use fast_mmc::code::FiveBytes;
+use fast_mmc::code::FlatCode;
+use fast_mmc::code::FlatShort;
+use fast_mmc::code::FlatStatus;
+use fast_mmc::code::TwoBytes;
 ghost use Prim.Native.Nat.{_<_};
 
 pub(crate) fn code_at(input: &[u8], at: usize) -> FlatCode

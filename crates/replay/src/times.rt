@@ -15,7 +15,7 @@ use fimbrast::time::fimbrast_is_valid;
 use fimbrast::time::fimbrast_next_valid;
 use fimbrast::time::fimbrast_time_new;
 use fimbrast::time::fimbrast_to_frame_count;
-use flat_mtc::time::FlatTime;
+use fast_mtc::time::FlatTime;
 
 fn count(time: FlatTime) -> u32 {
     let bytes = [

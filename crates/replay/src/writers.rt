@@ -22,7 +22,7 @@ use fimbrast::write::fimbrast_open_fields;
 use fimbrast::write::fimbrast_open_responses;
 use fimbrast::write::fimbrast_put_command;
 use fimbrast::write::fimbrast_put_field;
-use flat_mmc::write::FlatWriter;
+use fast_mmc::write::FlatWriter;
 ghost use Prim.Native.Nat.{_<_};
 
 // An answer that no call gives.

@@ -1,6 +1,6 @@
 -- `fimbrast::apply::fimbrast_apply` meets its contract. Assumes nothing.
 use mathlib.Core.Path.{ap, _∙_}
-use Rattle.flat_mmc.specs.Apply.{flatApplied}
+use Rattle.fast_mmc.specs.Apply.{flatApplied}
 use borrow.Author.Needs.{needs}
 use Rattle.fimbrast.proofs.apply.fimbrast_apply.Statement.{statement}
 use Rattle.fimbrast.proofs.apply.fimbrast_apply.Tie as tie

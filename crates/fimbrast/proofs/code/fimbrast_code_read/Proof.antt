@@ -1,6 +1,6 @@
 -- `fimbrast::code::fimbrast_code_read` meets its contract. Assumes nothing.
 use mathlib.Core.Path.{ap, _∙_}
-use Rattle.flat_mmc.specs.Code.{flatCode}
+use Rattle.fast_mmc.specs.Code.{flatCode}
 use borrow.Author.Needs.{needs}
 use Rattle.fimbrast.proofs.code.fimbrast_code_read.Statement.{statement}
 use Rattle.fimbrast.proofs.code.fimbrast_code_read.Tie as tie

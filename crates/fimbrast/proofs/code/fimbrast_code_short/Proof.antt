@@ -1,6 +1,6 @@
 -- `fimbrast::code::fimbrast_code_short` meets its contract. Assumes nothing.
 use mathlib.Core.Path.{ap, _∙_}
-use Rattle.flat_mmc.specs.Code.{flatShort}
+use Rattle.fast_mmc.specs.Code.{flatShort}
 use borrow.Author.Needs.{needs}
 use Rattle.fimbrast.proofs.code.fimbrast_code_short.Statement.{statement}
 use Rattle.fimbrast.proofs.code.fimbrast_code_short.Tie as tie

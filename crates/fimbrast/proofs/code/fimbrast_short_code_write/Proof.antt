@@ -1,6 +1,6 @@
 -- `fimbrast::code::fimbrast_short_code_write` meets its contract. Assumes nothing.
 use mathlib.Core.Path.{ap, _∙_}
-use Rattle.flat_mtc.specs.Refusal.{refusalIn}
+use Rattle.fast_mtc.specs.Refusal.{refusalIn}
 use borrow.Author.Needs.{needs}
 use Rattle.fimbrast.proofs.code.fimbrast_short_code_write.Statement.{statement}
 use Rattle.fimbrast.proofs.code.fimbrast_short_code_write.Tie as tie

@@ -1,6 +1,6 @@
 -- `fimbrast::code::fimbrast_short_name` meets its contract. Assumes nothing.
 use mathlib.Core.Path.{ap, _∙_}
-use Rattle.flat_mmc.specs.Code.{flatName}
+use Rattle.fast_mmc.specs.Code.{flatName}
 use borrow.Author.Needs.{needs}
 use Rattle.fimbrast.proofs.code.fimbrast_short_name.Statement.{statement}
 use Rattle.fimbrast.proofs.code.fimbrast_short_name.Tie as tie

@@ -1,6 +1,6 @@
 -- `fimbrast::code::fimbrast_status_read` meets its contract. Assumes nothing.
 use mathlib.Core.Path.{ap, _∙_}
-use Rattle.flat_mmc.specs.Code.{flatStatus}
+use Rattle.fast_mmc.specs.Code.{flatStatus}
 use borrow.Author.Needs.{needs}
 use Rattle.fimbrast.proofs.code.fimbrast_status_read.Statement.{statement}
 use Rattle.fimbrast.proofs.code.fimbrast_status_read.Tie as tie

@@ -4,8 +4,8 @@ use Prim.Native.Nat.{_≤_, _-_}
 use native.Mathlib.Omega.{arith}
 use borrow.Author.Needs.{needs}
 use lib.ListN.{length}
-use Rattle.flat_mtc.proofs.Laws.{none-reported}
-use Rattle.flat_mtc.specs.Reader.{readerIn}
+use Rattle.fast_mtc.proofs.Laws.{none-reported}
+use Rattle.fast_mtc.specs.Reader.{readerIn}
 use Rattle.fimbrast.specs.Feed.{flatFed}
 use Rattle.fimbrast.proofs.Feeding.{After, before-all, after-one, after-all}
 use Rattle.fimbrast.proofs.feed.fimbrast_feed.Statement.{statement}

@@ -1,6 +1,6 @@
 -- `fimbrast::generator::fimbrast_generator_time` meets its contract. Assumes nothing.
 use mathlib.Core.Path.{ap, _∙_}
-use Rattle.flat_mtc.specs.Time.{flatTime}
+use Rattle.fast_mtc.specs.Time.{flatTime}
 use borrow.Author.Needs.{needs}
 use Rattle.fimbrast.proofs.generator.fimbrast_generator_time.Statement.{statement}
 use Rattle.fimbrast.proofs.generator.fimbrast_generator_time.Tie as tie

@@ -1,6 +1,6 @@
 -- `fimbrast::generator::fimbrast_locate` meets its contract. Assumes nothing.
 use mathlib.Core.Path.{ap, _∙_}
-use Rattle.flat_mtc.specs.Generator.{flatGenerator}
+use Rattle.fast_mtc.specs.Generator.{flatGenerator}
 use borrow.Author.Needs.{needs}
 use Rattle.fimbrast.proofs.generator.fimbrast_locate.Statement.{statement}
 use Rattle.fimbrast.proofs.generator.fimbrast_locate.Tie as tie

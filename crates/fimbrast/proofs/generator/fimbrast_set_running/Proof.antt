@@ -1,6 +1,6 @@
 -- `fimbrast::generator::fimbrast_set_running` meets its contract. Assumes nothing.
 use mathlib.Core.Path.{ap, _∙_}
-use Rattle.flat_mtc.specs.Generator.{flatGenerator}
+use Rattle.fast_mtc.specs.Generator.{flatGenerator}
 use borrow.Author.Needs.{needs}
 use Rattle.fimbrast.proofs.generator.fimbrast_set_running.Statement.{statement}
 use Rattle.fimbrast.proofs.generator.fimbrast_set_running.Tie as tie

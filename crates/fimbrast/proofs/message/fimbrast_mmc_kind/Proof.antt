@@ -1,6 +1,6 @@
 -- `fimbrast::message::fimbrast_mmc_kind` meets its contract. Assumes nothing.
 use mathlib.Core.Path.{_∙_, ap}
-use Rattle.flat_mmc.specs.Message.{mmcKind}
+use Rattle.fast_mmc.specs.Message.{mmcKind}
 use borrow.Author.Needs.{needs}
 use Rattle.fimbrast.proofs.message.fimbrast_mmc_kind.Statement.{statement}
 use Rattle.fimbrast.proofs.message.fimbrast_mmc_kind.Tie as tie

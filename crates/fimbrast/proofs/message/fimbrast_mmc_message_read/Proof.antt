@@ -1,6 +1,6 @@
 -- `fimbrast::message::fimbrast_mmc_message_read` meets its contract. Assumes nothing.
 use mathlib.Core.Path.{ap, _∙_}
-use Rattle.flat_mmc.specs.Message.{flatMmcMessage}
+use Rattle.fast_mmc.specs.Message.{flatMmcMessage}
 use borrow.Author.Needs.{needs}
 use Rattle.fimbrast.proofs.message.fimbrast_mmc_message_read.Statement.{statement}
 use Rattle.fimbrast.proofs.message.fimbrast_mmc_message_read.Tie as tie

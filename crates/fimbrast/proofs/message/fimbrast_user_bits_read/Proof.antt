@@ -1,6 +1,6 @@
 -- `fimbrast::message::fimbrast_user_bits_read` meets its contract. Assumes nothing.
 use mathlib.Core.Path.{ap₂, _∙_}
-use Rattle.flat_mmc.specs.Message.{flatReadBits}
+use Rattle.fast_mmc.specs.Message.{flatReadBits}
 use borrow.Author.Needs.{needs}
 use Rattle.fimbrast.proofs.message.fimbrast_user_bits_read.Statement.{statement}
 use Rattle.fimbrast.proofs.message.fimbrast_user_bits_read.Tie as tie

@@ -1,6 +1,6 @@
 -- `fimbrast::reader::fimbrast_reader_direction` meets its contract. Assumes nothing.
 use mathlib.Core.Path.{ap, _∙_}
-use Rattle.flat_mtc.specs.Reader.{flatWay}
+use Rattle.fast_mtc.specs.Reader.{flatWay}
 use borrow.Author.Needs.{needs}
 use Rattle.fimbrast.proofs.reader.fimbrast_reader_direction.Statement.{statement}
 use Rattle.fimbrast.proofs.reader.fimbrast_reader_direction.Tie as tie

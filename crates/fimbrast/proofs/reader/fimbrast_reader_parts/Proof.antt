@@ -1,6 +1,6 @@
 -- `fimbrast::reader::fimbrast_reader_parts` meets its contract. Assumes nothing.
 use mathlib.Core.Path.{ap, _∙_}
-use Rattle.flat_mtc.specs.Reader.{readerFields}
+use Rattle.fast_mtc.specs.Reader.{readerFields}
 use borrow.Author.Needs.{needs}
 use Rattle.fimbrast.proofs.reader.fimbrast_reader_parts.Statement.{statement}
 use Rattle.fimbrast.proofs.reader.fimbrast_reader_parts.Tie as tie

@@ -1,6 +1,6 @@
 -- `fimbrast::reader::fimbrast_reader_time` meets its contract. Assumes nothing.
 use mathlib.Core.Path.{ap, _∙_}
-use Rattle.flat_mtc.specs.Reader.{flatMaybeTime}
+use Rattle.fast_mtc.specs.Reader.{flatMaybeTime}
 use borrow.Author.Needs.{needs}
 use Rattle.fimbrast.proofs.reader.fimbrast_reader_time.Statement.{statement}
 use Rattle.fimbrast.proofs.reader.fimbrast_reader_time.Tie as tie

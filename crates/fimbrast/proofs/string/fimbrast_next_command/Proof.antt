@@ -1,6 +1,6 @@
 -- `fimbrast::string::fimbrast_next_command` meets its contract. Assumes nothing.
 use mathlib.Core.Path.{ap, _∙_}
-use Rattle.flat_mmc.specs.String.{flatNextCommand}
+use Rattle.fast_mmc.specs.String.{flatNextCommand}
 use borrow.Author.Needs.{needs}
 use Rattle.fimbrast.proofs.string.fimbrast_next_command.Statement.{statement}
 use Rattle.fimbrast.proofs.string.fimbrast_next_command.Tie as tie

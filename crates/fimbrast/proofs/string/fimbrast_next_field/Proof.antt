@@ -1,6 +1,6 @@
 -- `fimbrast::string::fimbrast_next_field` meets its contract. Assumes nothing.
 use mathlib.Core.Path.{ap, _∙_}
-use Rattle.flat_mmc.specs.String.{flatNextField}
+use Rattle.fast_mmc.specs.String.{flatNextField}
 use borrow.Author.Needs.{needs}
 use Rattle.fimbrast.proofs.string.fimbrast_next_field.Statement.{statement}
 use Rattle.fimbrast.proofs.string.fimbrast_next_field.Tie as tie

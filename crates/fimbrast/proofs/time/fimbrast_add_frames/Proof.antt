@@ -3,8 +3,8 @@ use mathlib.Core.Path.{ap, _∙_}
 use mir.Syntax.{w32}
 use mir.ValLaws.{toZ-ofZ}
 use borrow.Author.Needs.{needs}
-use Rattle.flat_mtc.proofs.Laws.{number-time}
-use Rattle.flat_mtc.specs.Time.{timeNumbered}
+use Rattle.fast_mtc.proofs.Laws.{number-time}
+use Rattle.fast_mtc.specs.Time.{timeNumbered}
 use Rattle.labels.proofs.Laws.{moved-valid}
 use Rattle.fimbrast.proofs.time.fimbrast_add_frames.Statement.{statement}
 use Rattle.fimbrast.proofs.time.fimbrast_add_frames.Tie as tie

@@ -1,8 +1,8 @@
 -- `fimbrast::time::fimbrast_from_frame_count` meets its contract. Assumes nothing.
 use mathlib.Core.Path.{ap, _∙_}
 use borrow.Author.Needs.{needs}
-use Rattle.flat_mtc.proofs.Laws.{number-time}
-use Rattle.flat_mtc.specs.Time.{timeNumbered}
+use Rattle.fast_mtc.proofs.Laws.{number-time}
+use Rattle.fast_mtc.specs.Time.{timeNumbered}
 use Rattle.labels.proofs.Laws.{label-valid}
 use Rattle.fimbrast.proofs.time.fimbrast_from_frame_count.Statement.{statement}
 use Rattle.fimbrast.proofs.time.fimbrast_from_frame_count.Tie as tie

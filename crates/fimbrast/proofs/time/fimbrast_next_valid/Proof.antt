@@ -1,6 +1,6 @@
 -- `fimbrast::time::fimbrast_next_valid` meets its contract. Assumes nothing.
 use mathlib.Core.Path.{ap, _∙_}
-use Rattle.flat_mtc.specs.Time.{flatTime}
+use Rattle.fast_mtc.specs.Time.{flatTime}
 use borrow.Author.Needs.{needs}
 use Rattle.fimbrast.proofs.time.fimbrast_next_valid.Statement.{statement}
 use Rattle.fimbrast.proofs.time.fimbrast_next_valid.Tie as tie

@@ -1,6 +1,6 @@
 -- `fimbrast::time::fimbrast_quarter_frame_read` meets its contract. Assumes nothing.
 use mathlib.Core.Path.{ap, _∙_}
-use Rattle.flat_mtc.specs.Time.{flatFrame}
+use Rattle.fast_mtc.specs.Time.{flatFrame}
 use borrow.Author.Needs.{needs}
 use Rattle.fimbrast.proofs.time.fimbrast_quarter_frame_read.Statement.{statement}
 use Rattle.fimbrast.proofs.time.fimbrast_quarter_frame_read.Tie as tie

@@ -1,6 +1,6 @@
 -- `fimbrast::time::fimbrast_time_new` meets its contract. Assumes nothing.
 use mathlib.Core.Path.{ap, _∙_}
-use Rattle.flat_mtc.specs.Refusal.{refusalIn}
+use Rattle.fast_mtc.specs.Refusal.{refusalIn}
 use borrow.Author.Needs.{needs}
 use Rattle.fimbrast.proofs.time.fimbrast_time_new.Statement.{statement}
 use Rattle.fimbrast.proofs.time.fimbrast_time_new.Tie as tie

@@ -1,6 +1,6 @@
 -- `fimbrast::write::fimbrast_open_fields` meets its contract. Assumes nothing.
 use mathlib.Core.Path.{ap, _∙_}
-use Rattle.flat_mmc.specs.Write.{flatWriter}
+use Rattle.fast_mmc.specs.Write.{flatWriter}
 use borrow.Author.Needs.{needs}
 use Rattle.fimbrast.proofs.write.fimbrast_open_fields.Statement.{statement}
 use Rattle.fimbrast.proofs.write.fimbrast_open_fields.Tie as tie

@@ -1,0 +1,24 @@
+-- Writers as numbers, and back. Assumes nothing.
+use Prim.Native.Nat.{ℕ, _+_, _*_, _/_, _%_}
+use mathlib.Core.Bool.{cond}
+use lib.Dec.{eqb}
+use Rattle.fast_mmc.specs.Refusal.{errorOf, flatStop}
+use Rattle.mmc.specs.Write.{Writing, writingOf}
+use Rattle.codes.specs.declared.time_code.Checked.{Checked}
+use Rattle.codes.specs.declared.time_code.Checked.the-variants.{Accepted, Refused}
+use Rattle.mmc.specs.declared.write.Writer.{Writer}
+
+unfoldable pub checkedAt : ℕ → ℕ → Checked
+checkedAt n needed = cond (eqb n 0) Accepted (Refused (errorOf n needed))
+
+-- The position in the lowest four bytes, the items in the next two, the refusal in the byte above them.
+unfoldable pub writerOf : ℕ → Writer
+writerOf w =
+    record { at = w % 4294967296; items = w / 4294967296 % 65536; checked = checkedAt (w / 281474976710656 % 256) 0 }
+
+-- In the paper's numbers.
+abbrev pub writingAt : ℕ → Writing
+writingAt w = writingOf (writerOf w)
+
+unfoldable pub flatWriter : Writing → ℕ
+flatWriter w = w .at % 4294967296 + w .items % 65536 * 4294967296 + flatStop (w .stop) * 281474976710656

@@ -1,0 +1,55 @@
+-- `fast_mtc::reader::label_word` meets its contract. Assumes nothing.
+use native.Mathlib.Omega.{arith}
+use Rattle.fast_mtc.proofs.Words.{label-back}
+use borrow.Author.Needs.{needs}
+use Rattle.fast_mtc.proofs.reader.label_word.Statement.{statement}
+use Rattle.fast_mtc.proofs.reader.label_word.Tie as tie
+
+cast-result : tie.Need-cast-result
+cast-result c = search needs
+
+cast-result-2 : tie.Need-cast-result-2
+cast-result-2 c = search needs
+
+mul-result : tie.Need-mul-result
+mul-result c = search needs
+
+add-result : tie.Need-add-result
+add-result c = search needs
+
+cast-result-3 : tie.Need-cast-result-3
+cast-result-3 c = search needs
+
+mul-result-2 : tie.Need-mul-result-2
+mul-result-2 c = search needs
+
+add-result-2 : tie.Need-add-result-2
+add-result-2 c = search needs
+
+cast-result-4 : tie.Need-cast-result-4
+cast-result-4 c = search needs
+
+mul-result-3 : tie.Need-mul-result-3
+mul-result-3 c = search needs
+
+add-result-3 : tie.Need-add-result-3
+add-result-3 c = search needs
+
+returns : tie.Need-returns
+returns c = label-back (c .before .before .before .before .args .t) (omega arith) (omega arith) (omega arith) (omega arith)
+
+pub label-word-spec : {M : Type 1} → statement M
+label-word-spec =
+    tie.close
+    (tie.spec
+    cast-result
+    cast-result-2
+    mul-result
+    add-result
+    cast-result-3
+    mul-result-2
+    add-result-2
+    cast-result-4
+    mul-result-3
+    add-result-3
+    returns)

@@ -1,3 +1,0 @@
-mod Back
-mod Checks
-pub mod Laws

@@ -1,6 +1,0 @@
-pub mod Apply
-pub mod Code
-pub mod Message
-pub mod Refusal
-pub mod String
-pub mod Write
