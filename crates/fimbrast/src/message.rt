@@ -1,6 +1,5 @@
 // Universal messages, full messages, user bits, and machine control messages, by their split parts.
 use fast_mmc::WrittenNumbers;
-use fast_mmc::written_numbers;
 use fast_mmc::message::FlatFullMessage;
 use fast_mmc::message::FlatMmcMessage;
 use fast_mmc::message::FlatReadUserBits;
@@ -8,11 +7,12 @@ use fast_mmc::message::FlatUniversal;
 use fast_mmc::message::FlatUserBits;
 use fast_mmc::message::FourBytes;
 use fast_mmc::message::bits_of;
-use fast_mmc::message::flat_full_message;
 use fast_mmc::message::fast_mmc_message;
+use fast_mmc::message::flat_full_message;
 use fast_mmc::message::flat_user_bits;
 use fast_mmc::message::mmc_kind;
 use fast_mmc::message::universal_of;
+use fast_mmc::written_numbers;
 use fast_mtc::time::FlatTime;
 use fast_mtc::time::time_of;
 use mmc::MmcMessage;

@@ -1,6 +1,5 @@
 // Writing a string: opened, given its items one at a time, and closed.
 use fast_mmc::WrittenNumbers;
-use fast_mmc::written_numbers;
 use fast_mmc::string::FlatCommand;
 use fast_mmc::string::FlatField;
 use fast_mmc::string::command_of;
@@ -8,6 +7,7 @@ use fast_mmc::string::field_of;
 use fast_mmc::write::FlatWriter;
 use fast_mmc::write::flat_writer;
 use fast_mmc::write::writer_of;
+use fast_mmc::written_numbers;
 ghost use mathlib.Core.Path.{_≡_};
 ghost use lib.ListN.{length};
 ghost use Rattle.universal.specs.Overlay.{overlay};

@@ -9,14 +9,14 @@ use crate::case::same_at;
 use crate::case::time_is;
 use crate::case::two_are;
 use crate::writers::writes;
+use fast_mmc::message::FlatUniversal;
+use fast_mmc::message::FlatUserBits;
 use fimbrast::message::fimbrast_addressed;
 use fimbrast::message::fimbrast_full_message_read;
 use fimbrast::message::fimbrast_has_sub_id2;
 use fimbrast::message::fimbrast_mmc_message_read;
 use fimbrast::message::fimbrast_user_bits_bytes;
 use fimbrast::message::fimbrast_user_bits_read;
-use fast_mmc::message::FlatUniversal;
-use fast_mmc::message::FlatUserBits;
 
 pub(crate) fn header_at(input: &[u8]) -> FlatUniversal {
     FlatUniversal {

@@ -10,11 +10,11 @@ use crate::time_codes::code_at;
 use crate::time_codes::code_is;
 use crate::time_codes::short_at;
 use crate::time_codes::short_is;
-use fimbrast::string::fimbrast_next_command;
-use fimbrast::string::fimbrast_next_field;
 use fast_mmc::string::FlatCommand;
 use fast_mmc::string::FlatField;
 use fast_mmc::string::FlatPart;
+use fimbrast::string::fimbrast_next_command;
+use fimbrast::string::fimbrast_next_field;
 ghost use Prim.Native.Nat.{_<_};
 
 fn part_at(input: &[u8], at: usize) -> FlatPart

@@ -7,6 +7,11 @@ use crate::case::same_at;
 use crate::case::time_at;
 use crate::case::time_is;
 use crate::case::two_are;
+use fast_mmc::code::FiveBytes;
+use fast_mmc::code::FlatCode;
+use fast_mmc::code::FlatShort;
+use fast_mmc::code::FlatStatus;
+use fast_mmc::code::TwoBytes;
 use fimbrast::code::fimbrast_code_read;
 use fimbrast::code::fimbrast_code_short;
 use fimbrast::code::fimbrast_code_with_short;
@@ -19,11 +24,6 @@ use fimbrast::code::fimbrast_status_byte;
 use fimbrast::code::fimbrast_status_read;
 use fimbrast::code::fimbrast_to_status_form;
 use fimbrast::code::fimbrast_to_subframes_form;
-use fast_mmc::code::FiveBytes;
-use fast_mmc::code::FlatCode;
-use fast_mmc::code::FlatShort;
-use fast_mmc::code::FlatStatus;
-use fast_mmc::code::TwoBytes;
 ghost use Prim.Native.Nat.{_<_};
 
 pub(crate) fn code_at(input: &[u8], at: usize) -> FlatCode

@@ -8,6 +8,7 @@ use crate::case::time_is;
 use crate::case::two_are;
 use crate::case::u32_at;
 use crate::case::u32_is;
+use fast_mtc::time::FlatTime;
 use fimbrast::time::fimbrast_add_frames;
 use fimbrast::time::fimbrast_frames_per_second;
 use fimbrast::time::fimbrast_from_frame_count;
@@ -15,7 +16,6 @@ use fimbrast::time::fimbrast_is_valid;
 use fimbrast::time::fimbrast_next_valid;
 use fimbrast::time::fimbrast_time_new;
 use fimbrast::time::fimbrast_to_frame_count;
-use fast_mtc::time::FlatTime;
 
 fn count(time: FlatTime) -> u32 {
     let bytes = [

@@ -12,6 +12,7 @@ use crate::messages::header_at;
 use crate::strings::command_at;
 use crate::strings::field_at;
 use fast_mmc::WrittenNumbers;
+use fast_mmc::write::FlatWriter;
 use fimbrast::message::fimbrast_full_message_write;
 use fimbrast::message::fimbrast_universal_write;
 use fimbrast::message::fimbrast_user_bits_write;
@@ -22,7 +23,6 @@ use fimbrast::write::fimbrast_open_fields;
 use fimbrast::write::fimbrast_open_responses;
 use fimbrast::write::fimbrast_put_command;
 use fimbrast::write::fimbrast_put_field;
-use fast_mmc::write::FlatWriter;
 ghost use Prim.Native.Nat.{_<_};
 
 // An answer that no call gives.
