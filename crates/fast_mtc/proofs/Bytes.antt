@@ -5,7 +5,7 @@ use mathlib.Core.List.{List, [], _∷_}
 use mathlib.Core.Path.{_≡_, refl, sym, subst, ap, _∙_}
 use native.Mathlib.Omega.{arith}
 use borrow.Author.Tests.{le-leb, lt-leb, eq-eqb, ne-eqb}
-use lib.ListN.{length, getD, set, drop}
+use lib.ListN.{length, getD, set}
 use Rattle.mtc.proofs.Laws.{sends, stops}
 use Rattle.mtc.specs.Generator.{first, after, final, move, known, pieceNext, timeNext, sentAt, nextByte, afterNextByte}
 use Rattle.mtc.specs.QuarterFrame.{pieces}
@@ -21,18 +21,7 @@ use Rattle.fast_mtc.specs.declared.generator.FlatByte.{FlatByte}
 use Rattle.fast_mtc.specs.declared.time.FlatTime.{FlatTime}
 use Rattle.universal.specs.Refusals.{gives}
 use Rattle.fast_mtc.proofs.Back.{time-back}
-
--- ---- lists byte by byte
-
--- A list with its first n bytes spelled, at which stores and reads compute.
-abbrev spelled : ℕ → List ℕ → List ℕ
-spelled zero bs = bs
-spelled (suc n) bs = getD bs 0 0 ∷ spelled n (drop 1 bs)
-
-spell : (n : ℕ) (bs : List ℕ) → n ≤ length bs → spelled n bs ≡ bs
-spell zero bs h = refl
-spell (suc n) [] h = absurd (omega arith)
-spell (suc n) (x ∷ bs) h = ap (λ (r : List ℕ). x ∷ r) (spell n bs (omega arith))
+use Rattle.fast_mtc.proofs.Spelled.{spell}
 
 -- ---- the generator
 

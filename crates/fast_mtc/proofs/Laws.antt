@@ -4,9 +4,6 @@ use mathlib.Core.Path.{_≡_, refl}
 use Rattle.fast_mtc.specs.Refusal.{refusalIn}
 use Rattle.universal.specs.Refusals.{Refusal, gives, refused}
 pub use Rattle.fast_mtc.proofs.Back.{time-back, number-time, generator-back}
-pub use Rattle.fast_mtc.proofs.Words.{sound-in}
--- Events and reports as numbers, and what is read off them.
-pub use Rattle.fast_mtc.proofs.Events.{report-of, none-reported, some-reported, jump-reported, report-back, reported-back}
 
 -- An answer's refusal is its number, and 0 where there is none.
 pub in-gives : {A : Type 0} (a : A) → refusalIn (gives a) ≡ 0

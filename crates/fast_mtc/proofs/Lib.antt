@@ -2,6 +2,9 @@ mod Back
 mod Bytes
 mod Events
 pub mod Laws
-mod Reverse
+mod Near
+mod Orders
+mod Passing
+mod Receiving
+mod Spelled
 mod Steady
-mod Words

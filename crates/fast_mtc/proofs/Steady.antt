@@ -1,99 +1,113 @@
--- A label that comes a sequence after the previous one, with the current one, all in one second. Assumes nothing.
+-- A label that comes a sequence after the previous one, with the current one, all in one second; and the words with both labels of a
+-- report. Assumes nothing.
 use Prim.Native.Nat.{ℕ, _+_, _-_, _*_, _/_, _%_, _≤_, _<_}
 use mathlib.Core.Bool.{true, false}
-use mathlib.Core.Logic.{inr}
+use mathlib.Core.List.{List}
 use mathlib.Core.Path.{_≡_, refl, sym, ap, _∙_}
 use native.Mathlib.Omega.{arith}
 use borrow.Author.Tests.{eq-eqb, eqb-true}
 use lib.Dec.{T, eqb, lit≤}
 use lib.IntN.{pos, negsuc}
-use Rattle.fast_mtc.specs.Reader.{labelIn, timeIn, leastSteady, steady}
-use Rattle.fast_mtc.proofs.Words.{marked}
-use Rattle.labels.proofs.Laws.{two-later, frames-later, in-range-valid, moved-by-sum, moved-by-none}
-use Rattle.mtc.specs.Reader.{reported, sameTime}
-use Rattle.labels.specs.St12.{label, framesPerSecond, isValid}
+use lib.ListN.{length, getD, set}
+use Rattle.fast_mtc.specs.Generator.{isSet}
+use Rattle.fast_mtc.specs.Inner.{Ended, Steady, steady}
+use Rattle.fast_mtc.specs.Reader.{labelIn, timeIn, nibblesIn, readerIn, flatEvent}
+use Rattle.fast_mtc.proofs.Near.{two-fit, one-before, two-before, marked}
+use Rattle.fast_mtc.proofs.Spelled.{by-words}
+use Rattle.labels.proofs.Laws.{two-later}
+use Rattle.labels.specs.St12.{label, framesPerSecond}
 use Rattle.labels.specs.Time.{addFrames, bitsOf}
+use Rattle.labels.specs.declared.time.MtcTime.{MtcTime}
+use Rattle.mtc.proofs.Laws.{sequence-of}
+use Rattle.mtc.specs.Generator.{final}
+use Rattle.mtc.specs.Reader.{rawOf, directionOf, reported, sameTime, sequenceOf, completed, eventWith}
 use Rattle.mtc.specs.declared.generator.Direction.{Direction}
 use Rattle.mtc.specs.declared.generator.Direction.the-variants.{Forward, Reverse}
+use Rattle.mtc.specs.declared.reader.MaybeDirection.{MaybeDirection}
+use Rattle.mtc.specs.declared.reader.MaybeDirection.the-variants.{Going}
+use Rattle.mtc.specs.declared.reader.MaybeSequence.the-variants.{Sequence}
+use Rattle.mtc.specs.declared.reader.MaybeTime.{MaybeTime}
 use Rattle.mtc.specs.declared.reader.MaybeTime.the-variants.{Time}
-use Rattle.labels.specs.declared.time.MtcTime.{MtcTime}
-use Rattle.labels.specs.declared.time.TimeCodeType.{TimeCodeType}
-use Rattle.labels.specs.declared.time.TimeCodeType.the-variants.{Fps24, Fps25, Fps30Drop, Fps30}
-
-pub two-fit : (r : TimeCodeType) → (2 ≤ framesPerSecond r) × (framesPerSecond r ≤ 30)
-two-fit Fps24 = (lit≤ tt, lit≤ tt)
-two-fit Fps25 = (lit≤ tt, lit≤ tt)
-two-fit Fps30Drop = (lit≤ tt, lit≤ tt)
-two-fit Fps30 = (lit≤ tt, lit≤ tt)
+use Rattle.mtc.specs.declared.reader.MtcReader.{MtcReader}
+use Rattle.mtc.specs.declared.reader.MtcSequence.{MtcSequence}
 
 same : (t : MtcTime) → sameTime t t ≡ true
 same t =
     rw (eq-eqb (t .hours) (t .hours) refl, eq-eqb (t .minutes) (t .minutes) refl, eq-eqb (t .seconds) (t .seconds) refl, eq-eqb (t .frames) (t .frames) refl, eq-eqb (bitsOf (t .rate)) (bitsOf (t .rate)) refl)
 
--- A label's word moved by frames in its lowest byte is that of the label so many frames away.
-module _ (t : MtcTime) (w v g : ℕ) (e : labelIn (t .rate) w ≡ t) (low : v % 256 ≡ g) (above : v / 256 ≡ w / 256) where
-  upper : (v / 65536 ≡ w / 65536) × (v / 16777216 ≡ w / 16777216)
-  upper = (omega (arith, above), omega (arith, above))
+-- ---- the previous label's word
 
-  pub word-at : labelIn (t .rate) v ≡ label (t .rate) (t .hours) (t .minutes) (t .seconds) g
-  unfolding labelIn
-  word-at =
-      rw (low, above, upper .0, upper .1)
-      (ap (λ (u : MtcTime). label (t .rate) (u .hours) (u .minutes) (u .seconds) g) e)
-
-back : (f : ℕ) → 2 ≤ f → f - 2 + 2 ≡ f
-back f h = omega arith
-
-frames-in : (t : MtcTime) (w : ℕ) → labelIn (t .rate) w ≡ t → w % 256 ≡ t .frames
+frames-in : (t : MtcTime) (w : ℕ) → labelIn (t .rate) w ≡ t → w / 16777216 % 256 ≡ t .frames
 unfolding labelIn
 frames-in t w e = ap (λ (u : MtcTime). u .frames) e
 
-pub word-fits : (t : MtcTime) (w : ℕ) → labelIn (t .rate) w ≡ t → 2 ≤ t .frames → 2 ≤ w
+-- The bytes below the frames.
+byte-0 : (n : ℕ) → n % 256 ≡ n % 16777216 % 256
+byte-0 n = omega arith
+
+over : (x q : ℕ) → (x + q * 256) % 256 ≡ x % 256
+over x q = omega arith
+
+byte-1 : (n : ℕ) → n / 256 % 256 ≡ n % 16777216 / 256 % 256
+byte-1 n =
+    let a : n / 256 ≡ n % 16777216 / 256 + n / 16777216 * 256 * 256 = omega arith in
+    ap (λ (x : ℕ). x % 256) a ∙ over (n % 16777216 / 256) (n / 16777216 * 256)
+
+byte-2 : (n : ℕ) → n / 65536 % 256 ≡ n % 16777216 / 65536 % 256
+byte-2 n =
+    let a : n / 65536 ≡ n % 16777216 / 65536 + n / 16777216 * 256 = omega arith in
+    ap (λ (x : ℕ). x % 256) a ∙ over (n % 16777216 / 65536) (n / 16777216)
+
+-- A word with other frames is that of the label with these.
+word-at : (t : MtcTime) (w v g : ℕ) → labelIn (t .rate) w ≡ t → v % 16777216 ≡ w % 16777216 → v / 16777216 % 256 ≡ g
+    → labelIn (t .rate) v ≡ label (t .rate) (t .hours) (t .minutes) (t .seconds) g
+unfolding labelIn
+word-at t w v g e below above =
+    let a : v % 256 ≡ w % 256 = byte-0 v ∙ ap (λ (x : ℕ). x % 256) below ∙ sym (byte-0 w) in
+    let b : v / 256 % 256 ≡ w / 256 % 256 = byte-1 v ∙ ap (λ (x : ℕ). x / 256 % 256) below ∙ sym (byte-1 w) in
+    let c : v / 65536 % 256 ≡ w / 65536 % 256 = byte-2 v ∙ ap (λ (x : ℕ). x / 65536 % 256) below ∙ sym (byte-2 w) in
+    rw (a, b, c, above) (ap (λ (u : MtcTime). label (t .rate) (u .hours) (u .minutes) (u .seconds) g) e)
+
+pub word-fits : (t : MtcTime) (w : ℕ) → labelIn (t .rate) w ≡ t → 3 ≤ t .frames → 33554432 ≤ w
 word-fits t w e h = omega (arith, frames-in t w e)
 
-module _ (r : TimeCodeType) (h m s : ℕ) (hh : h ≤ 23) (hm : m ≤ 59) (hs : s ≤ 59) where
-  -- From the third number of a second on none is skipped.
-  kept : (f : ℕ) → 2 ≤ f → f < framesPerSecond r → T (isValid (label r h m s f))
-  kept f l k = in-range-valid r h m s f hh hm hs k (λ d. inr (omega arith))
+pub word-room : (t : MtcTime) (w : ℕ) → labelIn (t .rate) w ≡ t → t .frames ≤ 27 → w < 4294967296 → w + 33554432 < 4294967296
+word-room t w e h k = let f : w / 16777216 % 256 ≡ t .frames = frames-in t w e in omega arith
 
-  -- One frame and two frames before, in the same second.
-  one-before : (f : ℕ) → 2 ≤ f → f + 1 < framesPerSecond r → addFrames (label r h m s (f + 1)) (negsuc 0) ≡ label r h m s f
-  one-before f l k =
-      ap (λ (t : MtcTime). addFrames t (negsuc 0)) (frames-later r h m s f 1 hh hm hs k (kept (f + 1) (omega arith) k))
-      ∙ moved-by-sum (label r h m s f) (pos 1) (negsuc 0)
-      ∙ moved-by-none (label r h m s f) (kept f l (omega arith))
+-- ---- what is told of it
 
-  two-before : (f : ℕ) → 2 ≤ f → f + 2 < framesPerSecond r → addFrames (label r h m s (f + 2)) (negsuc 1) ≡ label r h m s f
-  two-before f l k =
-      ap (λ (t : MtcTime). addFrames t (negsuc 1)) (two-later r h m s f hh hm hs k)
-      ∙ moved-by-sum (label r h m s f) (pos 2) (negsuc 1)
-      ∙ moved-by-none (label r h m s f) (kept f l (omega arith))
+module _ (t : MtcTime) (w m p : ℕ) (e : labelIn (t .rate) w ≡ t) (hh : t .hours ≤ 23) (hm : t .minutes ≤ 59) (hs : t .seconds ≤ 59)
+    (hl : 3 ≤ t .frames) (hf : t .frames + 2 < framesPerSecond (t .rate)) (hw : w < 4294967296) (em : m ≡ 1 + 2 * bitsOf (t .rate)) where
+  abbrev at : ℕ → MtcTime
+  at f = label (t .rate) (t .hours) (t .minutes) (t .seconds) f
 
-module _ (t : MtcTime) (w : ℕ) (e : labelIn (t .rate) w ≡ t) (m p : ℕ) (hh : t .hours ≤ 23) (hm : t .minutes ≤ 59) (hs : t .seconds ≤ 59)
-    (hf : t .frames + 2 < framesPerSecond (t .rate)) (em : m ≡ 1 + 2 * bitsOf (t .rate)) where
-  steady-forward : 2 ≤ t .frames → p ≡ w - 2 → reported t Forward (timeIn m p) ≡ steady Forward t
+  few : framesPerSecond (t .rate) ≤ 30
+  few = two-fit (t .rate) .1
+
+  steady-forward : p ≡ w - 33554432 → reported t Forward (timeIn m p) ≡ steady Forward t
   unfolding steady
-  steady-forward h ep =
-      let u : MtcTime = label (t .rate) (t .hours) (t .minutes) (t .seconds) (t .frames - 2) in
-      let f : w % 256 ≡ t .frames = frames-in t w e in
-      let before : timeIn m p ≡ Time u = rw (em, ep) (marked u (w - 2) (word-at t w (w - 2) (t .frames - 2) e (omega arith) (omega arith))) in
-      let here : addFrames u (pos 2) ≡ t
-      = sym (two-later (t .rate) (t .hours) (t .minutes) (t .seconds) (t .frames - 2) hh hm hs (omega arith)) ∙ rw (back (t .frames) h) in
-      let next : addFrames t (pos 2) ≡ label (t .rate) (t .hours) (t .minutes) (t .seconds) (t .frames + 2)
+  steady-forward ep =
+      let f : w / 16777216 % 256 ≡ t .frames = frames-in t w e in
+      let back : t .frames - 2 + 2 ≡ t .frames = omega arith in
+      let before : timeIn m p ≡ Time (at (t .frames - 2))
+      = marked (at (t .frames - 2)) m p em (rw ep (word-at t w (w - 33554432) (t .frames - 2) e (omega arith) (omega arith))) in
+      let here : addFrames (at (t .frames - 2)) (pos 2) ≡ t
+      = sym (two-later (t .rate) (t .hours) (t .minutes) (t .seconds) (t .frames - 2) hh hm hs (omega arith)) ∙ rw back in
+      let next : addFrames t (pos 2) ≡ at (t .frames + 2)
       = sym (two-later (t .rate) (t .hours) (t .minutes) (t .seconds) (t .frames) hh hm hs hf) in
       rw (before, here, next, same t)
 
-  steady-reverse : 3 ≤ t .frames → p ≡ w + 2 → framesPerSecond (t .rate) ≤ 30 → reported t Reverse (timeIn m p) ≡ steady Reverse t
+  steady-reverse : p ≡ w + 33554432 → reported t Reverse (timeIn m p) ≡ steady Reverse t
   unfolding steady
-  steady-reverse h ep few =
-      let u : MtcTime = label (t .rate) (t .hours) (t .minutes) (t .seconds) (t .frames + 2) in
-      let f : w % 256 ≡ t .frames = frames-in t w e in
-      let before : timeIn m p ≡ Time u = rw (em, ep) (marked u (w + 2) (word-at t w (w + 2) (t .frames + 2) e (omega arith) (omega arith))) in
-      let here : addFrames u (negsuc 1) ≡ t = two-before (t .rate) (t .hours) (t .minutes) (t .seconds) hh hm hs (t .frames) (omega arith) hf in
-      let last : t .frames - 1 + 1 ≡ t .frames = omega arith in
-      let next : addFrames t (negsuc 0) ≡ label (t .rate) (t .hours) (t .minutes) (t .seconds) (t .frames - 1)
-      = ap (λ (k : ℕ). addFrames (label (t .rate) (t .hours) (t .minutes) (t .seconds) k) (negsuc 0)) (sym last)
-      ∙ one-before (t .rate) (t .hours) (t .minutes) (t .seconds) hh hm hs (t .frames - 1) (omega arith) (omega arith) in
+  steady-reverse ep =
+      let f : w / 16777216 % 256 ≡ t .frames = frames-in t w e in
+      let more : t .frames + 2 - 2 ≡ t .frames = omega arith in
+      let before : timeIn m p ≡ Time (at (t .frames + 2))
+      = marked (at (t .frames + 2)) m p em (rw ep (word-at t w (w + 33554432) (t .frames + 2) e (omega arith) (omega (arith, few)))) in
+      let here : addFrames (at (t .frames + 2)) (negsuc 1) ≡ t
+      = two-before (t .rate) (t .hours) (t .minutes) (t .seconds) hh hm hs (t .frames + 2) (omega arith) hf ∙ rw more in
+      let next : addFrames t (negsuc 0) ≡ at (t .frames - 1)
+      = one-before (t .rate) (t .hours) (t .minutes) (t .seconds) hh hm hs (t .frames) hl (omega arith) in
       rw (before, here, next, same t)
 
 -- ---- as the code finds it
@@ -101,36 +115,52 @@ module _ (t : MtcTime) (w : ℕ) (e : labelIn (t .rate) w ≡ t) (m p : ℕ) (hh
 pub never : {P : Type 0} → false ≡ true → P
 never h = let z : _≡_ {A = ℕ} 0 1 = cc in absurd (omega arith)
 
--- The previous label's word, by the direction.
-abbrev pub Follows : Direction → ℕ → ℕ → Type 0
-Follows Forward w p = p ≡ w - 2
-Follows Reverse w p = p ≡ w + 2
+module _ (ws : List ℕ) (t : MtcTime) (w k x : ℕ) (d : Direction) (e : labelIn (t .rate) w ≡ t)
+    (hd : (t .hours ≤ 23) × ((t .minutes ≤ 59) × (t .seconds ≤ 59))) (hl : 3 ≤ t .frames) (ek : k ≡ framesPerSecond (t .rate))
+    (hk : t .frames < k - 2) (hw : w < 4294967296) (em : getD ws 11 0 ≡ x) (ex : x ≡ 1 + 2 * bitsOf (t .rate)) where
+  more : t .frames + 2 < framesPerSecond (t .rate)
+  more = omega (arith, two-fit (t .rate) .0)
 
-pub follows-forward : (d : Direction) (w p : ℕ) → d ≡ Forward → eqb p (w - 2) ≡ true → Follows d w p
-follows-forward d w p e h = rw e (eqb-true p (w - 2) h)
+  pub told-forward : d ≡ Forward → getD ws 12 0 ≡ w - 33554432 → Steady ws t d
+  told-forward ed ep =
+      record {
+        most = omega (arith, two-fit (t .rate) .1);
+        least = omega arith;
+        report = rw ed (steady-forward t w (getD ws 11 0) (getD ws 12 0) e (hd .0) (hd .1 .0) (hd .1 .1) hl more hw (em ∙ ex) ep);
+      }
 
-pub follows-reverse : (d : Direction) (w p : ℕ) → d ≡ Reverse → eqb p (w + 2) ≡ true → Follows d w p
-follows-reverse d w p e h = rw e (eqb-true p (w + 2) h)
+  pub told-reverse : d ≡ Reverse → getD ws 12 0 ≡ w + 33554432 → Steady ws t d
+  told-reverse ed ep =
+      record {
+        most = omega (arith, two-fit (t .rate) .1);
+        least = omega arith;
+        report = rw ed (steady-reverse t w (getD ws 11 0) (getD ws 12 0) e (hd .0) (hd .1 .0) (hd .1 .1) hl more hw (em ∙ ex) ep);
+      }
 
-pub least-two : (d : Direction) (l f : ℕ) → l ≡ leastSteady d → l ≤ f → 2 ≤ f
-least-two Forward l f e h = omega arith
-least-two Reverse l f e h = omega arith
+-- ---- the report of words that hold eight pieces
 
--- The word of an hour of the day has room above it.
-pub word-room : (t : MtcTime) (w : ℕ) → labelIn (t .rate) w ≡ t → t .hours ≤ 23 → w < 4294967296 → w + 2 < 4294967296
-unfolding labelIn
-word-room t w e h k =
-    let f : w / 16777216 % 256 ≡ t .hours = ap (λ (u : MtcTime). u .hours) e in
-    omega arith
+pub reports : (ws : List ℕ) (d : Direction) (raw : MtcTime) (m : MaybeTime) (s : MtcSequence) → readerIn ws .direction ≡ Going d
+    → raw ≡ rawOf (nibblesIn ws) → m ≡ readerIn ws .previous → s ≡ reported raw d m → s ≡ sequenceOf (readerIn ws)
+unfolding readerIn
+reports ws d raw m s ed er em es =
+    es ∙ rw (er, em) (sym (sym (sequence-of (readerIn ws)) ∙ ap (λ (x : MaybeDirection). reported (rawOf (nibblesIn ws)) (directionOf x) (readerIn ws .previous)) ed))
 
-pub told : (d : Direction) (t : MtcTime) (w m p k x l : ℕ) → t .hours ≤ 23 → t .minutes ≤ 59 → t .seconds ≤ 59 → l ≡ leastSteady d
-    → l ≤ t .frames → k ≡ framesPerSecond (t .rate) → t .frames < k - 2 → x ≡ 1 + 2 * bitsOf (t .rate) → m ≡ x
-    → labelIn (t .rate) w ≡ t → Follows d w p → (t .frames ≤ 27) × ((1 ≤ t .frames) × (reported t d (timeIn m p) ≡ steady d t))
-told Forward t w m p k x l hh hm hs el hl ek hk ex em e ep =
-    let fit = two-fit (t .rate) in
-    let more : t .frames + 2 < framesPerSecond (t .rate) = omega (arith, fit .0) in
-    (omega (arith, fit .1), (omega arith, steady-forward t w e m p hh hm hs more (em ∙ ex) (omega arith) ep))
-told Reverse t w m p k x l hh hm hs el hl ek hk ex em e ep =
-    let fit = two-fit (t .rate) in
-    let more : t .frames + 2 < framesPerSecond (t .rate) = omega (arith, fit .0) in
-    (omega (arith, fit .1), (omega arith, steady-reverse t w e m p hh hm hs more (em ∙ ex) (omega arith) ep (fit .1)))
+-- The words with both labels.
+with-labels : (ws : List ℕ) (a b c d : ℕ) (t u : MtcTime) → length ws ≡ 15 → timeIn a b ≡ Time t → timeIn c d ≡ Time u
+    → readerIn (set (set (set (set (set ws 10 1) 11 a) 12 b) 13 c) 14 d)
+    ≡ record { nibbles = readerIn ws .nibbles; count = readerIn ws .count; first = readerIn ws .first; last = readerIn ws .last; direction = readerIn ws .direction; locked = true; running = readerIn ws .running; previous = Time t; time = Time u }
+unfolding readerIn nibblesIn
+with-labels ws a b c d t u e et eu =
+    by-words
+    (λ (l : List ℕ). readerIn (set (set (set (set (set l 10 1) 11 a) 12 b) 13 c) 14 d) ≡ record { nibbles = readerIn l .nibbles; count = readerIn l .count; first = readerIn l .first; last = readerIn l .last; direction = readerIn l .direction; locked = true; running = readerIn l .running; previous = Time t; time = Time u })
+    ws e (rw (et, eu))
+
+pub completes : (ws : List ℕ) (d : Direction) (s : MtcSequence) (x a b c w : ℕ) → length ws ≡ 15
+    → a ≡ 1 + 2 * bitsOf (s .raw .rate) → labelIn (s .raw .rate) b ≡ s .raw → c ≡ 1 + 2 * bitsOf (s .current .rate)
+    → labelIn (s .current .rate) w ≡ s .current → x ≡ flatEvent (eventWith (final d) (Sequence s)) → s ≡ sequenceOf (readerIn ws)
+    → Ended (final d) ws x (set (set (set (set (set ws 10 1) 11 a) 12 b) 13 c) 14 w)
+completes ws d s x a b c w e ea eb ec ew ex es =
+    record {
+      event = ex ∙ ap (λ (q : MtcSequence). flatEvent (eventWith (final d) (Sequence q))) es;
+      reader = with-labels ws a b c w (s .raw) (s .current) e (marked (s .raw) a b ea eb) (marked (s .current) c w ec ew) ∙ rw es;
+    }

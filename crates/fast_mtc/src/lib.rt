@@ -1,5 +1,8 @@
-// The records of numbers in which calls from C and Rust speak of labels, generators and readers, and how they stand for the library's
-// values.
+// Time code for C and Rust: the same answers as the calls of `mtc` and `labels`, in registers, words and records of numbers. A reader is
+// fifteen words, and an event one number. Each call has one law that names the definition of the plain call that it equals.
 pub mod generator;
-pub mod reader;
+pub mod near;
+pub mod receive;
+pub mod report;
 pub mod time;
+pub mod words;

@@ -1,22 +1,21 @@
--- Of a sound reader, for crates above: what its numbers are bounded by, and what it does with a piece that is the next one in its
--- direction. Assumes nothing.
+-- Of a sound reader, for crates above: what its numbers are bounded by, what it does with a piece by how that stands to those before it,
+-- and where it keeps the labels of a report. Assumes nothing.
 use Prim.Native.Nat.{ℕ, zero, suc, _≤_, _<_}
-use mathlib.Core.Bool.{Bool, true, false, _&&_}
+use mathlib.Core.Bool.{Bool, true, false, cond, _&&_}
 use mathlib.Core.List.{List}
 use mathlib.Core.Path.{_≡_, refl, sym, ap, ap₂, _∙_}
-use borrow.Author.Tests.{eq-eqb}
+use native.Mathlib.Omega.{arith}
+use borrow.Author.Tests.{eqb-true}
 use lib.Dec.{T, leb, eqb, le→leb}
 use lib.ListN.{length, getD}
-use Rattle.mtc.specs.Generator.{first, after}
 use Rattle.mtc.specs.QuarterFrame.{pieceOf, valueOf}
 -- A sound reader's bounds.
 pub use Rattle.mtc.specs.Reader.{Bounds}
-use Rattle.mtc.specs.Reader.{Sound, Standing, nibblesFit, pieceFits, control, ordered, orderOf, numberAfter, numberOf, readerBy, reportBy, rawOf, directionOf, reported, sequenceOf, eventWith, afterPiece, reportOf, afterByte, eventOf}
-use Rattle.mtc.specs.declared.generator.Direction.{Direction}
+use Rattle.mtc.specs.Reader.{Sound, Standing, nibblesFit, pieceFits, taken, control, orderAfter, orderOf, starts, numberAfter, numberOf, passed, stored, completed, readerBy, reportBy, rawOf, directionOf, reported, sequenceOf, ReportLabels, eventWith, afterPiece, reportOf, afterByte, eventOf}
 use Rattle.mtc.specs.declared.generator.MaybePiece.{MaybePiece}
 use Rattle.mtc.specs.declared.generator.MaybePiece.the-variants.{NoPiece, Piece}
-use Rattle.mtc.specs.declared.reader.MaybeDirection.the-variants.{Going}
 use Rattle.mtc.specs.declared.reader.MaybeSequence.{MaybeSequence}
+use Rattle.mtc.specs.declared.reader.MaybeSequence.the-variants.{NoSequence, Sequence}
 use Rattle.mtc.specs.declared.reader.MtcReader.{MtcReader}
 use Rattle.mtc.proofs.Readers.{both, nibble-small, sound, sound-count, sound-first, sound-last, sound-nibbles}
 use Rattle.mtc.proofs.Sound.{as-is}
@@ -43,39 +42,61 @@ bounds r h =
       eight = h .eight;
     }
 
--- ---- a piece in order
+-- ---- a piece by its standing and its number
 
-module _ (r : MtcReader) (d : Direction) (l p v n : ℕ) (el : r .last ≡ Piece l) (ed : r .direction ≡ Going d) (ep : after d l ≡ p) (en : numberAfter (r .count) (eqb p (first d)) ≡ n) where
-  in-order : orderOf (control r) p ≡ ordered true (Going d) true
+module _ (r : MtcReader) (o : Standing) (p v n : ℕ) (eo : orderAfter (control r) (r .last) (r .direction) p ≡ o) (en : numberAfter (cond (o .next) (r .count) 0) (starts (o .direction) p) ≡ n) where
+  stands : orderOf (control r) p ≡ o
   unfolding orderOf
-  in-order = rw (el, ed, eq-eqb (after d l) p ep)
+  stands = eo
 
   its-number : numberOf (control r) (orderOf (control r) p) p ≡ n
   unfolding numberOf
-  its-number = ap (λ (o : Standing). numberOf (control r) o p) in-order ∙ en
+  its-number = ap (λ (x : Standing). numberOf (control r) x p) stands ∙ en
 
-  left : afterPiece r p v ≡ readerBy r (ordered true (Going d) true) n p v
+  left : afterPiece r p v ≡ readerBy r o n p v
   unfolding afterPiece
-  left = ap₂ (λ (o : Standing) (k : ℕ). readerBy r o k p v) in-order its-number
+  left = ap₂ (λ (x : Standing) (k : ℕ). readerBy r x k p v) stands its-number
 
-  said : reportOf r p v ≡ reportBy r (ordered true (Going d) true) n p v
+  said : reportOf r p v ≡ reportBy r o n p v
   unfolding reportOf
-  said = ap₂ (λ (o : Standing) (k : ℕ). reportBy r o k p v) in-order its-number
+  said = ap₂ (λ (x : Standing) (k : ℕ). reportBy r x k p v) stands its-number
 
--- The next piece, by its number, leaves this reader and gives this event.
-pub next-piece : (r : MtcReader) → Sound r → (b l n : ℕ) (d : Direction) → r .last ≡ Piece l → r .direction ≡ Going d → after d l ≡ pieceOf b
-    → numberAfter (r .count) (eqb (pieceOf b) (first d)) ≡ n
-    → (afterByte r b ≡ readerBy r (ordered true (Going d) true) n (pieceOf b) (valueOf b))
-    × (eventOf r b ≡ eventWith (pieceOf b) (reportBy r (ordered true (Going d) true) n (pieceOf b) (valueOf b)))
-next-piece r h b l n d el ed ep en =
-    let a : afterPiece r (pieceOf b) (valueOf b) ≡ readerBy r (ordered true (Going d) true) n (pieceOf b) (valueOf b)
-    = left r d l (pieceOf b) (valueOf b) n el ed ep en in
-    let s : reportOf r (pieceOf b) (valueOf b) ≡ reportBy r (ordered true (Going d) true) n (pieceOf b) (valueOf b)
-    = said r d l (pieceOf b) (valueOf b) n el ed ep en in (
+-- A piece, by how it stands to those before it and by its number, leaves this reader and gives this event.
+pub piece-stands : (r : MtcReader) → Sound r → (b n : ℕ) (o : Standing) → orderAfter (control r) (r .last) (r .direction) (pieceOf b) ≡ o
+    → numberAfter (cond (o .next) (r .count) 0) (starts (o .direction) (pieceOf b)) ≡ n
+    → (afterByte r b ≡ readerBy r o n (pieceOf b) (valueOf b))
+    × (eventOf r b ≡ eventWith (pieceOf b) (reportBy r o n (pieceOf b) (valueOf b)))
+piece-stands r h b n o eo en =
+    let a : afterPiece r (pieceOf b) (valueOf b) ≡ readerBy r o n (pieceOf b) (valueOf b)
+    = left r o (pieceOf b) (valueOf b) n eo en in
+    let s : reportOf r (pieceOf b) (valueOf b) ≡ reportBy r o n (pieceOf b) (valueOf b)
+    = said r o (pieceOf b) (valueOf b) n eo en in (
       ap (λ (x : MtcReader). afterPiece x (pieceOf b) (valueOf b)) (as-is r h) ∙ a,
       ap (λ (x : MtcReader). eventWith (pieceOf b) (reportOf x (pieceOf b) (valueOf b))) (as-is r h)
           ∙ ap (λ (x : MaybeSequence). eventWith (pieceOf b) x) s,
     )
+
+-- ---- where a report's labels stay
+
+labels-by : (r : MtcReader) (o : Standing) (n p v : ℕ) → ReportLabels (reportBy r o n p v) r (readerBy r o n p v)
+labels-by r o n p v = go (eqb n 0) (eqb n 8) refl refl
+  where
+    apart : eqb n 0 ≡ true → eqb n 8 ≡ true → ⊥
+    apart x y = let a : n ≡ 0 = eqb-true n 0 x in let b : n ≡ 8 = eqb-true n 8 y in omega arith
+
+    go : (x y : Bool) → eqb n 0 ≡ x → eqb n 8 ≡ y
+        → ReportLabels (cond y (Sequence (sequenceOf (stored r o n p v))) NoSequence) r (cond x (passed r o p) (cond y (completed (stored r o n p v)) (stored r o n p v)))
+    go true true ex ey = absurd (apart ex ey)
+    go true false ex ey = (refl, refl)
+    go false true ex ey = (refl, refl)
+    go false false ex ey = (refl, refl)
+
+-- So after a data byte: a report's labels stand in the reader, and without a report those that it had.
+pub report-labels : (r : MtcReader) (b : ℕ) → ReportLabels (eventOf r b .sequence) (taken r) (afterByte r b)
+unfolding afterPiece reportOf
+report-labels r b =
+    let o = orderOf (control (taken r)) (pieceOf b) in
+    labels-by (taken r) o (numberOf (control (taken r)) o (pieceOf b)) (pieceOf b) (valueOf b)
 
 -- What a reader that holds eight pieces reports.
 pub sequence-of : (r : MtcReader) → reported (rawOf (r .nibbles)) (directionOf (r .direction)) (r .previous) ≡ sequenceOf r

@@ -21,8 +21,9 @@ use Rattle.mtc.specs.Stream.{Call, afterCall, afterCalls, events, sent, 
 use Rattle.mtc.proofs.Generators
 -- A generator's next byte, running and stopped.
 pub use Rattle.mtc.proofs.Generators.{sends, stops}
--- A sound reader's bounds, what keeps it sound, and what it does with the next piece in its direction.
-pub use Rattle.mtc.proofs.InOrder.{sound-by, Bounds, bounds, next-piece, sequence-of}
+-- A sound reader's bounds, what keeps it sound, what it does with a piece by how that stands to those before it, and where the labels of
+-- a report stay.
+pub use Rattle.mtc.proofs.InOrder.{sound-by, Bounds, bounds, piece-stands, sequence-of, report-labels}
 pub use Rattle.mtc.specs.Reader.{Sound}
 pub use Rattle.mtc.proofs.Sound.{as-is, byte-sound}
 -- Full messages and user bits: written bytes are RP-004/008's, or refused; a buffer that fits or is short; the practice's full

@@ -240,6 +240,11 @@ afterByte r byte = afterPiece (taken r) (pieceOf byte) (valueOf byte)
 abbrev pub eventOf : MtcReader → ℕ → MtcEvent
 eventOf r byte = eventWith (pieceOf byte) (reportOf (taken r) (pieceOf byte) (valueOf byte))
 
+-- Where a report's labels stay: the reader that it leaves has both, and without a report those that it had.
+abbrev pub ReportLabels : MaybeSequence → MtcReader → MtcReader → Type 0
+ReportLabels NoSequence before left = (left .previous ≡ before .previous) × (left .time ≡ before .time)
+ReportLabels (Sequence s) before left = (left .previous ≡ Time (s .raw)) × (left .time ≡ Time (s .current))
+
 -- The time is the message's, the reader is stopped, and last piece, count and previous time are forgotten.
 abbrev pub informed : MtcReader → MtcTime → MtcReader
 informed r t =

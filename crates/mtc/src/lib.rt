@@ -26,7 +26,7 @@ pub use reader::MtcReader;
 pub use reader::MtcSequence;
 pub use reader::Stepped;
 pub use reader::event;
-pub use reader::report;
+pub use reader::same;
 pub use user_bits::ReadUserBits;
 pub use user_bits::UserBits;
 pub use user_bits::UserBitsAnswer;

@@ -457,7 +457,7 @@ fn way(direction: MaybeDirection) -> Direction
 }
 
 // What a full sequence reports after a previous label.
-pub fn report(raw: MtcTime, direction: Direction, previous: MaybeTime) -> MtcSequence
+fn report(raw: MtcTime, direction: Direction, previous: MaybeTime) -> MtcSequence
     ensures { λ r. ⌜ r ≡ reported raw direction previous ⌝ }
 {
     MtcSequence {
@@ -489,7 +489,7 @@ fn jumps(previous: MaybeTime, direction: Direction, raw: MtcTime) -> bool
 }
 
 // Two labels are one, rate included.
-fn same(t: MtcTime, u: MtcTime) -> bool
+pub fn same(t: MtcTime, u: MtcTime) -> bool
     ensures { λ r. ⌜ r ≡ sameTime t u ⌝ }
 {
     if t.hours != u.hours {
