@@ -5,6 +5,8 @@ use Rattle.fast_mtc.specs.Refusal.{refusalIn}
 use Rattle.universal.specs.Refusals.{Refusal, gives, refused}
 pub use Rattle.fast_mtc.proofs.Back.{time-back, number-time, generator-back}
 pub use Rattle.fast_mtc.proofs.Words.{sound-in}
+-- Frames earlier in the same second, from the third number on, are a difference.
+pub use Rattle.fast_mtc.proofs.ShortWays.{one-earlier, two-earlier}
 -- Events and reports as numbers, and what is read off them.
 pub use Rattle.fast_mtc.proofs.Events.{report-of, none-reported, some-reported, jump-reported, report-back, reported-back}
 

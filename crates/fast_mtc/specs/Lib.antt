@@ -1,4 +1,5 @@
 pub mod Generator
+pub mod Label
 pub mod Reader
 pub mod Refusal
 pub mod Time

@@ -473,7 +473,7 @@ fn current(raw: MtcTime, direction: Direction) -> MtcTime
     ensures { λ r. ⌜ r ≡ addFrames raw (offset direction) ⌝ }
 {
     match direction {
-        Direction::Forward => raw.two_later(),
+        Direction::Forward => raw.add_frames(2),
         Direction::Reverse => raw.add_frames(-1),
     }
 }

@@ -1,9 +1,9 @@
--- `labels::time::MtcTime::is_in_day` meets its contract. Assumes nothing.
+-- `fast_mtc::label::is_in_day` meets its contract. Assumes nothing.
 use mathlib.Core.Path.{sym}
 use mathlib.Core.Bool.{true≢false}
 use borrow.Author.Needs.{needs}
-use Rattle.labels.proofs.time.MtcTime.is_in_day.Statement.{statement}
-use Rattle.labels.proofs.time.MtcTime.is_in_day.Tie as tie
+use Rattle.fast_mtc.proofs.label.is_in_day.Statement.{statement}
+use Rattle.fast_mtc.proofs.label.is_in_day.Tie as tie
 
 returns : tie.Need-returns
 returns c = λ e. absurd (true≢false (sym e))

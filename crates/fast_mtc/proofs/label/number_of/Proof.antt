@@ -1,8 +1,8 @@
--- `labels::time::number_of` meets its contract. Assumes nothing.
-use Rattle.labels.specs.Time.{labelNumber}
+-- `fast_mtc::label::number_of` meets its contract. Assumes nothing.
+use Rattle.fast_mtc.specs.Label.{labelNumber}
 use borrow.Author.Needs.{needs}
-use Rattle.labels.proofs.time.number_of.Statement.{statement}
-use Rattle.labels.proofs.time.number_of.Tie as tie
+use Rattle.fast_mtc.proofs.label.number_of.Statement.{statement}
+use Rattle.fast_mtc.proofs.label.number_of.Tie as tie
 
 cast-result : tie.Need-cast-result
 cast-result c = search needs

@@ -1,15 +1,16 @@
--- `labels::time::MtcTime::two_later` meets its contract. Assumes nothing.
+-- `fast_mtc::label::two_later` meets its contract. Assumes nothing.
 use native.Mathlib.Omega.{arith}
-use Rattle.labels.proofs.Short.{two-later, two-fit, was-true}
+use Rattle.labels.proofs.Laws.{two-later}
+use Rattle.fast_mtc.proofs.ShortWays.{two-fit, was-true}
 use borrow.Author.Needs.{needs}
-use Rattle.labels.proofs.time.MtcTime.two_later.Statement.{statement}
-use Rattle.labels.proofs.time.MtcTime.two_later.Tie as tie
+use Rattle.fast_mtc.proofs.label.two_later.Statement.{statement}
+use Rattle.fast_mtc.proofs.label.two_later.Tie as tie
 
 frames-per-second-requires : tie.Need-frames-per-second-requires
 frames-per-second-requires c κs = search needs
 
 sub-if1 : tie.Need-sub-if1
-sub-if1 c = rw (c .frames-per-second .ensures) (two-fit (c .before .args .self .rate))
+sub-if1 c = rw (c .frames-per-second .ensures) (two-fit (c .before .args .t .rate))
 
 add-frames-requires : tie.Need-add-frames-requires
 add-frames-requires c κs = search needs
@@ -26,13 +27,12 @@ add-frames-requires-2 c κs = search needs
 returns-2 : tie.Need-returns-2
 returns-2 c = search needs
 
-add-t : tie.Need-add-t
-add-t c = search needs
+add-u : tie.Need-add-u
+add-u c = search needs
 
 returns-3 : tie.Need-returns-3
-returns-3 c =
-    let d = c .before .before .is-in-day .ensures (was-true _ (c .before .if2 .left)) in
-    two-later _ _ _ _ _ (d .0) (d .1 .0) (d .1 .1) (omega (arith, c .before .before .before .if1 .left, c .before .before .before .before .before .frames-per-second .ensures, two-fit (c .before .before .before .before .before .before .args .self .rate)))
+returns-3 c = let d = c .before .before .is-in-day .ensures (was-true _ (c .before .if2 .left)) in
+    two-later _ _ _ _ _ (d .0) (d .1 .0) (d .1 .1) (omega (arith, c .before .before .before .if1 .left, c .before .before .before .before .before .frames-per-second .ensures, two-fit (c .before .before .before .before .before .before .args .t .rate)))
 
 pub two-later-spec : {M : Type 1} → statement M
 two-later-spec =
@@ -45,5 +45,5 @@ two-later-spec =
     is-in-day-requires
     add-frames-requires-2
     returns-2
-    add-t
+    add-u
     returns-3)

@@ -1,8 +1,8 @@
--- `labels::time::number_in` meets its contract. Assumes nothing.
-use Rattle.labels.proofs.Short.{in-number}
+-- `fast_mtc::label::number_in` meets its contract. Assumes nothing.
+use Rattle.fast_mtc.proofs.ShortWays.{in-number}
 use borrow.Author.Needs.{needs}
-use Rattle.labels.proofs.time.number_in.Statement.{statement}
-use Rattle.labels.proofs.time.number_in.Tie as tie
+use Rattle.fast_mtc.proofs.label.number_in.Statement.{statement}
+use Rattle.fast_mtc.proofs.label.number_in.Tie as tie
 
 mul-low : tie.Need-mul-low
 mul-low c = search needs

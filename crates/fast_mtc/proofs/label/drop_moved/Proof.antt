@@ -1,10 +1,9 @@
--- `labels::time::drop_moved` meets its contract. Assumes nothing.
-use native.Mathlib.Omega.{arith}
-use Rattle.labels.proofs.Distance.{passed-mod, mod-below}
-use Rattle.labels.proofs.Short.{moved-once, moved-none, moved-fits}
+-- `fast_mtc::label::drop_moved` meets its contract. Assumes nothing.
+use Rattle.labels.proofs.Laws.{passed-mod}
+use Rattle.fast_mtc.proofs.ShortWays.{moved-once, moved-none, moved-fits}
 use borrow.Author.Needs.{needs}
-use Rattle.labels.proofs.time.drop_moved.Statement.{statement}
-use Rattle.labels.proofs.time.drop_moved.Tie as tie
+use Rattle.fast_mtc.proofs.label.drop_moved.Statement.{statement}
+use Rattle.fast_mtc.proofs.label.drop_moved.Tie as tie
 
 reduced-requires : tie.Need-reduced-requires
 reduced-requires c κs = search needs

@@ -1,9 +1,9 @@
--- `labels::time::within` meets its contract. Assumes nothing.
+-- `fast_mtc::label::within` meets its contract. Assumes nothing.
 use mathlib.Core.Path.{sym}
 use native.Mathlib.Nat.{mod-eq-of-lt}
 use borrow.Author.Needs.{needs}
-use Rattle.labels.proofs.time.within.Statement.{statement}
-use Rattle.labels.proofs.time.within.Tie as tie
+use Rattle.fast_mtc.proofs.label.within.Statement.{statement}
+use Rattle.fast_mtc.proofs.label.within.Tie as tie
 
 returns : tie.Need-returns
 returns c = sym (mod-eq-of-lt (c .if1 .taken))

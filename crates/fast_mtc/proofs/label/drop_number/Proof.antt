@@ -1,10 +1,10 @@
--- `labels::time::drop_number` meets its contract. Assumes nothing.
+-- `fast_mtc::label::drop_number` meets its contract. Assumes nothing.
 use mathlib.Core.Path.{refl, _∙_, ap}
-use Rattle.labels.specs.Time.{labelNumber}
-use Rattle.labels.proofs.Short.{by-quotient}
+use Rattle.fast_mtc.specs.Label.{labelNumber}
+use Rattle.fast_mtc.proofs.ShortWays.{by-quotient}
 use borrow.Author.Needs.{needs}
-use Rattle.labels.proofs.time.drop_number.Statement.{statement}
-use Rattle.labels.proofs.time.drop_number.Tie as tie
+use Rattle.fast_mtc.proofs.label.drop_number.Statement.{statement}
+use Rattle.fast_mtc.proofs.label.drop_number.Tie as tie
 
 mul-minutes : tie.Need-mul-minutes
 mul-minutes c = search needs
@@ -30,14 +30,14 @@ add-place c = search needs
 sub-place : tie.Need-sub-place
 sub-place c = search needs
 
-drop-label-requires : tie.Need-drop-label-requires
-drop-label-requires c κs = search needs
+from-frame-count-requires : tie.Need-from-frame-count-requires
+from-frame-count-requires c κs = search needs
 
 number-of-requires : tie.Need-number-of-requires
 number-of-requires c κs = search needs
 
 returns : tie.Need-returns
-returns c = c .number-of .ensures ∙ ap labelNumber (c .before .drop-label .ensures)
+returns c = c .number-of .ensures ∙ ap labelNumber (c .before .from-frame-count .ensures)
 
 cast-number-in : tie.Need-cast-number-in
 cast-number-in c = search needs
@@ -46,7 +46,7 @@ number-in-requires : tie.Need-number-in-requires
 number-in-requires c κs = search needs
 
 returns-2 : tie.Need-returns-2
-returns-2 c = c .number-in .ensures ∙ ap labelNumber (by-quotient _ _ _ refl refl (c .before .if1 .left))
+returns-2 c = c .number-in .ensures ∙ ap labelNumber (by-quotient _ _ _ (c .before .before .pre) refl refl (c .before .if1 .left))
 
 pub drop-number-spec : {M : Type 1} → statement M
 drop-number-spec =
@@ -60,7 +60,7 @@ drop-number-spec =
     mul-place-2
     add-place
     sub-place
-    drop-label-requires
+    from-frame-count-requires
     number-of-requires
     returns
     cast-number-in
