@@ -1,9 +1,9 @@
--- `mtc::reader::MtcReader::out_of_order` meets its contract. Assumes nothing.
+-- `mtc::order::out_of_order` meets its contract. Assumes nothing.
 use mathlib.Core.Path.{_∙_}
 use borrow.Author.Needs.{needs}
 use Rattle.mtc.proofs.Readers.{no-neighbour, turned, second-alone, second}
-use Rattle.mtc.proofs.reader.MtcReader.out_of_order.Statement.{statement}
-use Rattle.mtc.proofs.reader.MtcReader.out_of_order.Tie as tie
+use Rattle.mtc.proofs.order.out_of_order.Statement.{statement}
+use Rattle.mtc.proofs.order.out_of_order.Tie as tie
 
 enum-known-found : tie.Need-enum-known-found
 enum-known-found c = search needs

@@ -1,8 +1,8 @@
--- `mtc::reader::starts` meets its contract. Assumes nothing.
+-- `mtc::order::starts` meets its contract. Assumes nothing.
 use borrow.Author.Needs.{needs}
 use borrow.Author.Tests.{eq-eqb, ne-eqb}
-use Rattle.mtc.proofs.reader.starts.Statement.{statement}
-use Rattle.mtc.proofs.reader.starts.Tie as tie
+use Rattle.mtc.proofs.order.starts.Statement.{statement}
+use Rattle.mtc.proofs.order.starts.Tie as tie
 
 enum-told : tie.Need-enum-told
 enum-told c = search needs

@@ -1,9 +1,9 @@
--- `mtc::reader::found` meets its contract. Assumes nothing.
+-- `mtc::order::found` meets its contract. Assumes nothing.
 use mathlib.Core.Path.{_∙_, sym}
 use borrow.Author.Needs.{needs}
 use Rattle.mtc.proofs.Readers.{found-forward, found-reverse, found-none}
-use Rattle.mtc.proofs.reader.found.Statement.{statement}
-use Rattle.mtc.proofs.reader.found.Tie as tie
+use Rattle.mtc.proofs.order.found.Statement.{statement}
+use Rattle.mtc.proofs.order.found.Tie as tie
 
 after-requires : tie.Need-after-requires
 after-requires c κs = search needs

@@ -1,9 +1,9 @@
--- `mtc::reader::MtcReader::order` meets its contract. Assumes nothing.
+-- `mtc::order::order_of` meets its contract. Assumes nothing.
 use mathlib.Core.Path.{_∙_, sym}
 use borrow.Author.Needs.{needs}
 use Rattle.mtc.proofs.Readers.{sound-last, order-alone, order-second, order-next, order-turned}
-use Rattle.mtc.proofs.reader.MtcReader.order.Statement.{statement}
-use Rattle.mtc.proofs.reader.MtcReader.order.Tie as tie
+use Rattle.mtc.proofs.order.order_of.Statement.{statement}
+use Rattle.mtc.proofs.order.order_of.Tie as tie
 
 enum-known-last : tie.Need-enum-known-last
 enum-known-last c = search needs
@@ -58,8 +58,8 @@ returns-4 c =
     ∙ order-turned _ _ (c .before .before .before .before .before .before .before .before .last .given .1) (c .before .found2 .ensures) (c .before .before .before .before .before .direction .given .1)
     (λ e. c .before .before .if1 .left (c .before .before .before .after .ensures .0 ∙ e))
 
-pub order-spec : {M : Type 1} → statement M
-order-spec =
+pub order-of-spec : {M : Type 1} → statement M
+order-of-spec =
     tie.close
     (tie.spec
     enum-known-last

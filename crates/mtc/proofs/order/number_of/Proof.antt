@@ -1,9 +1,9 @@
--- `mtc::reader::MtcReader::number` meets its contract. Assumes nothing.
+-- `mtc::order::number_of` meets its contract. Assumes nothing.
 use mathlib.Core.Path.{_∙_, sym}
 use borrow.Author.Needs.{needs}
 use Rattle.mtc.proofs.Readers.{number-next, number-first, number-none}
-use Rattle.mtc.proofs.reader.MtcReader.number.Statement.{statement}
-use Rattle.mtc.proofs.reader.MtcReader.number.Tie as tie
+use Rattle.mtc.proofs.order.number_of.Statement.{statement}
+use Rattle.mtc.proofs.order.number_of.Tie as tie
 
 held-requires : tie.Need-held-requires
 held-requires c κs = search needs
@@ -23,6 +23,6 @@ returns-2 c = (number-first _ _ _ (c .before .before .before .held .ensures .0) 
 returns-3 : tie.Need-returns-3
 returns-3 c = (number-none _ _ _ (c .before .before .before .held .ensures .0) (c .before .before .if1 .left) (sym (c .if2 .left) ∙ c .before .starts .ensures), search needs)
 
-pub number-spec : {M : Type 1} → statement M
-number-spec =
+pub number-of-spec : {M : Type 1} → statement M
+number-of-spec =
     tie.close (tie.spec held-requires add-result returns starts-requires returns-2 returns-3)
