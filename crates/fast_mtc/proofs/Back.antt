@@ -6,8 +6,9 @@ use Rattle.fast_mtc.specs.Generator.{directionAt, flatDirection, pieceAt
 use Rattle.fast_mtc.specs.Time.{timeOf, timeNumbered, flatTime}
 use Rattle.mtc.specs.Reader.{pieceFits}
 use Rattle.labels.specs.St12.{isValid}
-use Rattle.labels.specs.Time.{bitsOf, typeOf, labelNumber}
-use Rattle.labels.proofs.Laws.{number-bytes}
+use Rattle.labels.specs.Time.{bitsOf, typeOf}
+use Rattle.fast_mtc.specs.Label.{labelNumber}
+use Rattle.fast_mtc.proofs.ShortWays.{number-bytes}
 use Rattle.mtc.specs.declared.generator.Direction.{Direction}
 use Rattle.mtc.specs.declared.generator.Direction.the-variants.{Forward, Reverse}
 use Rattle.mtc.specs.declared.generator.MaybePiece.{MaybePiece}

@@ -1,10 +1,11 @@
 mod Back
 mod Bytes
 mod Events
+mod LabelWords
 pub mod Laws
-mod Near
 mod Orders
 mod Passing
 mod Receiving
+mod ShortWays
 mod Spelled
 mod Steady

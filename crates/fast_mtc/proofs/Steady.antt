@@ -12,9 +12,10 @@ use lib.ListN.{length, getD, set}
 use Rattle.fast_mtc.specs.Generator.{isSet}
 use Rattle.fast_mtc.specs.Inner.{Ended, Steady, steady}
 use Rattle.fast_mtc.specs.Reader.{labelIn, timeIn, nibblesIn, readerIn, flatEvent}
-use Rattle.fast_mtc.proofs.Near.{two-fit, one-before, two-before, marked}
+use Rattle.fast_mtc.proofs.LabelWords.{marked}
+use Rattle.fast_mtc.proofs.ShortWays.{two-fit, one-earlier, two-earlier}
 use Rattle.fast_mtc.proofs.Spelled.{by-words}
-use Rattle.labels.proofs.Laws.{two-later}
+use Rattle.labels.proofs.Laws.{fps-small, two-later}
 use Rattle.labels.specs.St12.{label, framesPerSecond}
 use Rattle.labels.specs.Time.{addFrames, bitsOf}
 use Rattle.labels.specs.declared.time.MtcTime.{MtcTime}
@@ -82,7 +83,7 @@ module _ (t : MtcTime) (w m p : ℕ) (e : labelIn (t .rate) w ≡ t) (hh : t .ho
   at f = label (t .rate) (t .hours) (t .minutes) (t .seconds) f
 
   few : framesPerSecond (t .rate) ≤ 30
-  few = two-fit (t .rate) .1
+  few = fps-small (t .rate)
 
   steady-forward : p ≡ w - 33554432 → reported t Forward (timeIn m p) ≡ steady Forward t
   unfolding steady
@@ -105,9 +106,9 @@ module _ (t : MtcTime) (w m p : ℕ) (e : labelIn (t .rate) w ≡ t) (hh : t .ho
       let before : timeIn m p ≡ Time (at (t .frames + 2))
       = marked (at (t .frames + 2)) m p em (rw ep (word-at t w (w + 33554432) (t .frames + 2) e (omega arith) (omega (arith, few)))) in
       let here : addFrames (at (t .frames + 2)) (negsuc 1) ≡ t
-      = two-before (t .rate) (t .hours) (t .minutes) (t .seconds) hh hm hs (t .frames + 2) (omega arith) hf ∙ rw more in
+      = sym (two-earlier (t .rate) (t .hours) (t .minutes) (t .seconds) (t .frames + 2) hh hm hs (omega arith) hf) ∙ rw more in
       let next : addFrames t (negsuc 0) ≡ at (t .frames - 1)
-      = one-before (t .rate) (t .hours) (t .minutes) (t .seconds) hh hm hs (t .frames) hl (omega arith) in
+      = sym (one-earlier (t .rate) (t .hours) (t .minutes) (t .seconds) (t .frames) hh hm hs hl (omega arith)) in
       rw (before, here, next, same t)
 
 -- ---- as the code finds it
@@ -119,12 +120,12 @@ module _ (ws : List ℕ) (t : MtcTime) (w k x : ℕ) (d : Direction) (e : labelI
     (hd : (t .hours ≤ 23) × ((t .minutes ≤ 59) × (t .seconds ≤ 59))) (hl : 3 ≤ t .frames) (ek : k ≡ framesPerSecond (t .rate))
     (hk : t .frames < k - 2) (hw : w < 4294967296) (em : getD ws 11 0 ≡ x) (ex : x ≡ 1 + 2 * bitsOf (t .rate)) where
   more : t .frames + 2 < framesPerSecond (t .rate)
-  more = omega (arith, two-fit (t .rate) .0)
+  more = omega (arith, two-fit (t .rate))
 
   pub told-forward : d ≡ Forward → getD ws 12 0 ≡ w - 33554432 → Steady ws t d
   told-forward ed ep =
       record {
-        most = omega (arith, two-fit (t .rate) .1);
+        most = omega (arith, fps-small (t .rate));
         least = omega arith;
         report = rw ed (steady-forward t w (getD ws 11 0) (getD ws 12 0) e (hd .0) (hd .1 .0) (hd .1 .1) hl more hw (em ∙ ex) ep);
       }
@@ -132,7 +133,7 @@ module _ (ws : List ℕ) (t : MtcTime) (w k x : ℕ) (d : Direction) (e : labelI
   pub told-reverse : d ≡ Reverse → getD ws 12 0 ≡ w + 33554432 → Steady ws t d
   told-reverse ed ep =
       record {
-        most = omega (arith, two-fit (t .rate) .1);
+        most = omega (arith, fps-small (t .rate));
         least = omega arith;
         report = rw ed (steady-reverse t w (getD ws 11 0) (getD ws 12 0) e (hd .0) (hd .1 .0) (hd .1 .1) hl more hw (em ∙ ex) ep);
       }

@@ -1,4 +1,5 @@
 // The quarter frame generator.
+use crate::label::next_time;
 use crate::time::FlatTime;
 use crate::time::flat_time;
 use crate::time::time_of;
@@ -129,7 +130,7 @@ fn move_on(g: &mut [u8; 8], direction: Direction)
     ensures { λ _. ⌜ generatorIn (now (g .exit)) ≡ movedTo (generatorIn (now (g .entry))) (addFrames (generatorIn (now (g .entry)) .time) (move direction)) ⌝ }
 {
     has_eight(*g);
-    let time = flat_time(direction.next_time(time_in(g)));
+    let time = flat_time(next_time(time_in(g), direction));
     g[0] = time.hours;
     g[1] = time.minutes;
     g[2] = time.seconds;

@@ -140,15 +140,16 @@ fn dropped(r: &mut [u32; 15], byte: u8) -> u64
     has_words(*r);
     let p = byte as u32 / 16 % 8;
     let order = r[ORDER];
-    r[LOCKED] = 0;
     if order < IN_REVERSE {
         r[FIRST] = 0;
+        r[LOCKED] = 0;
         if (order + 6) % 8 == p {
             return go_reverse(r, p, byte);
         }
         return go_forward(r, p, byte);
     }
     r[FIRST] = 7;
+    r[LOCKED] = 0;
     if (order + 2) % 8 == p {
         return go_forward(r, p, byte);
     }

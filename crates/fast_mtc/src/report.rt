@@ -1,6 +1,6 @@
 // The end of a sequence, events and reports: an event is one number, and a report's labels stay in the reader's words.
 use crate::generator::flat_direction;
-use crate::near;
+use crate::label;
 use crate::time::FlatTime;
 use crate::time::flat_time;
 use crate::time::no_time;
@@ -182,8 +182,8 @@ fn current(raw: MtcTime, direction: Direction) -> MtcTime
     ensures { λ r. ⌜ r ≡ addFrames raw (offset direction) ⌝ }
 {
     match direction {
-        Direction::Forward => near::two_later(raw),
-        Direction::Reverse => near::one_earlier(raw),
+        Direction::Forward => label::two_later(raw),
+        Direction::Reverse => label::one_earlier(raw),
     }
 }
 
@@ -194,11 +194,7 @@ fn jumps(previous: MaybeTime, direction: Direction, raw: MtcTime) -> bool
     let MaybeTime::Time(t) = previous else {
         return false;
     };
-    let expected = match direction {
-        Direction::Forward => near::two_later(t),
-        Direction::Reverse => near::two_earlier(t),
-    };
-    !same(expected, raw)
+    !same(label::next_time(t, direction), raw)
 }
 
 // ---- a steady label: a sequence after the previous one, with the current one, all in one second and past the skipped numbers
@@ -214,7 +210,7 @@ fn is_steady(words: [u32; 15], raw: MtcTime, direction: Direction) -> bool
     if words[PREVIOUS_MARK] != rate_mark(rate) {
         return false;
     }
-    if !near::is_in_day(raw) {
+    if !label::is_in_day(raw) {
         return false;
     }
     if raw.frames < 3 {

@@ -1,4 +1,7 @@
 // Labels, and the quarter frames of a label.
+use fast_mtc::label::frame_count;
+use fast_mtc::label::number_after;
+use fast_mtc::label::number_at;
 use fast_mtc::time::EightBytes;
 use fast_mtc::time::FlatFrame;
 use fast_mtc::time::FlatTime;
@@ -58,7 +61,7 @@ pub extern "C" fn fimbrast_next_valid(time: FlatTime) -> FlatTime
 pub extern "C" fn fimbrast_to_frame_count(time: &[u8; 5]) -> u32
     ensures { λ r. ⌜ r ≡ frameCount (timeAt (now (time .entry)) 0) ⌝ }
 {
-    time_in(time).to_frame_count()
+    frame_count(time_in(time))
 }
 
 // `MtcTime::from_frame_count`.
@@ -66,7 +69,7 @@ pub extern "C" fn fimbrast_to_frame_count(time: &[u8; 5]) -> u32
 pub extern "C" fn fimbrast_from_frame_count(count: u32, rate: u8) -> FlatTime
     ensures { λ r. ⌜ r ≡ flatTime (labelAt count (typeOf rate)) ⌝ }
 {
-    time_numbered(MtcTime::number_at(count, TimeCodeType::from_bits(rate)))
+    time_numbered(number_at(count, TimeCodeType::from_bits(rate)))
 }
 
 // `MtcTime::add_frames`.
@@ -74,7 +77,7 @@ pub extern "C" fn fimbrast_from_frame_count(count: u32, rate: u8) -> FlatTime
 pub extern "C" fn fimbrast_add_frames(time: FlatTime, delta: i32) -> FlatTime
     ensures { λ r. ⌜ r ≡ flatTime (addFrames (timeOf time) delta) ⌝ }
 {
-    time_numbered(time_of(time).number_after(delta))
+    time_numbered(number_after(time_of(time), delta))
 }
 
 // `QuarterFrame::from_byte`.

@@ -12,7 +12,7 @@ use Rattle.labels.specs.declared.time.TimeCodeType.{TimeCodeType}
 use Rattle.labels.specs.declared.time.TimeCodeType.the-variants.{Fps24, Fps25, Fps30Drop, Fps30}
 use Rattle.labels.specs.St12.{label, framesPerSecond, isSkipped, isValid}
 use Rattle.labels.specs.Time.{dayOf, formula, frameCount, withSkipped, digits, numbered, labelAt}
-use Rattle.labels.proofs.Rates.{fps-positive, day-positive}
+use Rattle.labels.proofs.Rates.{fps-positive, fps-small, day-positive}
 use Rattle.labels.proofs.Validity.{Kept, skipped-kept, kept-skipped, InRange, valid-facts, facts-valid}
 
 -- ---- labels as numbers, none skipped
@@ -203,11 +203,18 @@ hours-below fps n h = omega arith
 drop-below : (n : ℕ) → n < 2589408 → withSkipped Fps30Drop n / 30 < 86400
 drop-below n h = omega arith
 
-seconds-below : (r : TimeCodeType) (n : ℕ) → n < dayOf r → withSkipped r n / framesPerSecond r < 86400
+pub seconds-below : (r : TimeCodeType) (n : ℕ) → n < dayOf r → withSkipped r n / framesPerSecond r < 86400
 seconds-below Fps24 n h = omega arith
 seconds-below Fps25 n h = omega arith
 seconds-below Fps30Drop n h = drop-below n h
 seconds-below Fps30 n h = omega arith
+
+-- Of a count of the day the seconds and frames are a label's.
+pub digits-small : (n k d p : ℕ) (r : TimeCodeType) → d ≡ dayOf r → k ≡ withSkipped r (n % d) → p ≡ framesPerSecond r
+    → (k / p < 86400) × (k % p < 30)
+digits-small n k d p r ed ek ep =
+    rw (ep, ek, ed)
+    (seconds-below r (n % dayOf r) (mod-lt n (day-positive r)), omega (arith, mod-lt (withSkipped r (n % dayOf r)) (fps-positive r), fps-small r))
 
 drop-kept : (n : ℕ) → Parts n → isSkipped (numbered Fps30Drop (withSkipped Fps30Drop n)) ≡ false
 drop-kept n p =

@@ -10,16 +10,19 @@ use Rattle.labels.specs.declared.time.MtcTime.{MtcTime}
 use Rattle.labels.specs.declared.time.TimeCodeType.{TimeCodeType}
 use Rattle.labels.specs.declared.time.TimeCodeType.the-variants.{Fps30Drop}
 use Rattle.labels.specs.St12.{label, framesPerSecond, isDropFrame, isSkipped, isValid, LeastAbove, countBefore, labelsOfDay, labelAfter, labelBefore}
-use Rattle.labels.specs.Time.{bitsOf, dayOf, frameCount, labelAt, addFrames, nextValid, labelNumber}
+use Rattle.labels.specs.Time.{dayOf, formula, frameCount, digits, labelAt, modZ, addFrames, nextValid}
 use Rattle.labels.proofs.After
 use Rattle.labels.proofs.Before
 use Rattle.labels.proofs.Counts
 use Rattle.labels.proofs.DayCount
+-- A signed distance modulo a day, as code has it that tests its sign: -1 - z where it is negative.
+pub use Rattle.labels.proofs.Distance.{back-fits, back-casts, back-mod, ahead-casts, ahead-mod, passed-mod, mod-pred, mod-below}
+use Rattle.labels.proofs.Later
 use Rattle.labels.proofs.Moving
 use Rattle.labels.proofs.Order
--- A rate has at most 30 frames.
-pub use Rattle.labels.proofs.Rates.{fps-small}
-use Rattle.labels.proofs.Short
+use Rattle.labels.proofs.Rates
+-- A rate has at most 30 frames, and a day as many as it has.
+pub use Rattle.labels.proofs.Rates.{fps-small, day-positive, day-small}
 use Rattle.labels.proofs.Skipped
 use Rattle.labels.proofs.Validity
 -- A valid label's numbers are in their ranges, and fit the widths in which they are sent.
@@ -75,12 +78,41 @@ moved-by-none = Moving.moved-by-none
 -- Frames later in the same second, where the label is valid, are a sum.
 pub frames-later : (r : TimeCodeType) (h m s f k : ℕ) → h ≤ 23 → m ≤ 59 → s ≤ 59 → f + k < framesPerSecond r
     → T (isValid (label r h m s (f + k))) → label r h m s (f + k) ≡ addFrames (label r h m s f) (pos k)
-frames-later = Short.frames-later
+frames-later = Later.frames-later
 
 -- So are two frames, where the label is always valid.
 pub two-later : (r : TimeCodeType) (h m s f : ℕ) → h ≤ 23 → m ≤ 59 → s ≤ 59 → f + 2 < framesPerSecond r
     → label r h m s (f + 2) ≡ addFrames (label r h m s f) (pos 2)
-two-later = Short.two-later
+two-later = Later.two-later
+
+-- ---- by numbers: what the faster forms of upper crates rest on
+
+-- A label's count is its rate's formula, reduced by the day, and so is below it.
+pub count-by-formula : (t : MtcTime)
+    → frameCount t ≡ formula (t .rate) (t .hours * 60 + t .minutes) (t .seconds) (t .frames) % dayOf (t .rate)
+unfolding frameCount
+count-by-formula t = refl
+
+pub count-below : (t : MtcTime) → frameCount t < dayOf (t .rate)
+count-below = Rates.count-below
+
+-- The label of a count, at a rate that skips none: whole seconds and the frames.
+pub even-label : (n : ℕ) (r : TimeCodeType) → isDropFrame r ≡ false
+    → labelAt n r ≡ digits r (n % dayOf r / framesPerSecond r) (n % dayOf r % framesPerSecond r)
+even-label = Later.even-label
+
+-- At drop-frame: by tens of minutes, the minute among the ten and the place in it, which is none of the two that are skipped.
+pub drop-split : (n t u x : ℕ) → n % 2589408 ≡ 17982 * t + (1798 * u + x) → u < 10 → x < 1800 → (u ≡ 0) ⊎ (2 ≤ x)
+    → labelAt n Fps30Drop ≡ digits Fps30Drop ((10 * t + u) * 60 + x / 30) (x % 30)
+drop-split = Later.drop-split
+
+-- Counts that a day parts have one label.
+pub label-round : (n : ℕ) (r : TimeCodeType) → labelAt (n % dayOf r) r ≡ labelAt n r
+label-round = Later.label-round
+
+-- A move goes by the count.
+pub moved-by-count : (t : MtcTime) (z : ℤ) → addFrames t z ≡ labelAt (frameCount t + modZ z (dayOf (t .rate))) (t .rate)
+moved-by-count = Later.moved-by-count
 
 -- ---- by ST 12-1
 
@@ -134,10 +166,3 @@ in-range-valid = Validity.in-range-valid
 -- 00:00:00:00 is a label of every rate.
 pub zero-valid : (r : TimeCodeType) → T (isValid (label r 0 0 0 0))
 zero-valid = Validity.zero-valid
-
--- The bytes of a valid label's number are its counts and its rate.
-pub number-bytes : (t : MtcTime) → T (isValid t) → (labelNumber t % 256 ≡ t .hours)
-    × ((labelNumber t / 256 % 256 ≡ t .minutes)
-    × ((labelNumber t / 65536 % 256 ≡ t .seconds)
-    × ((labelNumber t / 16777216 % 256 ≡ t .frames) × (labelNumber t / 4294967296 % 256 ≡ bitsOf (t .rate)))))
-number-bytes = Short.number-bytes

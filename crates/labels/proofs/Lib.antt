@@ -3,11 +3,11 @@ mod Before
 mod Counts
 mod DayCount
 mod Distance
+mod Later
 pub mod Laws
 mod Moving
 mod Order
 mod Rates
-mod Short
 mod Skipped
 mod Sums
 mod Validity

@@ -1,11 +1,11 @@
 -- What each rate's numbers are bounded by, and the answers of the label calls at a rate that a match has told. Assumes nothing.
-use Prim.Native.Nat.{ℕ, _+_, _*_, _/_, _%_, _≤_, _<_}
-use mathlib.Core.Path.{_≡_, refl, sym, ap}
-use mathlib.Core.Bool.{false, not}
-use native.Mathlib.Nat.{mod-lt}
+use Prim.Native.Nat.{ℕ, _+_, _-_, _*_, _/_, _%_, _≤_, _<_}
+use mathlib.Core.Path.{_≡_, refl, sym, ap, subst}
+use mathlib.Core.Bool.{true, false, not}
+use native.Mathlib.Nat.{mod-lt, mul-le-mul-left}
 use native.Mathlib.Omega.{arith}
 use borrow.Author.Tests.{le-leb, le-ltb, lt-ltb}
-use lib.Dec.{lit<, lit≤}
+use lib.Dec.{T, lit<, lit≤}
 use lib.IntN.{ℤ}
 use mir.Syntax.{w32}
 use mir.Val.{Fits}
@@ -51,17 +51,69 @@ pub count-below : (t : MtcTime) → frameCount t < dayOf (t .rate)
 unfolding frameCount
 count-below t = mod-lt _ (day-positive (t .rate))
 
+-- ---- the count, from whole seconds
+
+-- A number of a day and the frames of the label fit.
+whole-small : (a n : ℕ) (r : TimeCodeType) → a ≤ 1000000 → n ≡ framesPerSecond r → a * n ≤ 30000000
+whole-small a n r h e =
+    let k : a * n ≤ a * 30 = mul-le-mul-left a (rw e (fps-small r)) in
+    omega arith
+
+pub whole-fits : (a n : ℕ) (r : TimeCodeType) → a ≤ 1000000 → n ≡ framesPerSecond r → Fits w32 (a * n)
+whole-fits a n r h e = record { fits = omega (arith, whole-small a n r h e) }
+
+pub number-fits : (a n f : ℕ) (r : TimeCodeType) → a ≤ 1000000 → f < 256 → n ≡ framesPerSecond r → Fits w32 (a * n + f)
+number-fits a n f r h l e = record { fits = omega (arith, whole-small a n r h e) }
+
+-- There are more frames than dropped numbers.
+pub dropped-few : (r : TimeCodeType) (m s f n : ℕ) → isDropFrame r ≡ true → n ≡ framesPerSecond r
+    → 2 * (m - m / 10) ≤ (m * 60 + s) * n + f
+dropped-few Fps24 m s f n d e = absurd (subst T (sym d) tt)
+dropped-few Fps25 m s f n d e = absurd (subst T (sym d) tt)
+dropped-few Fps30Drop m s f n d e = rw e (omega arith)
+dropped-few Fps30 m s f n d e = absurd (subst T (sym d) tt)
+
+drop-formula : (r : TimeCodeType) (m s f : ℕ) → isDropFrame r ≡ true
+    → (m * 60 + s) * framesPerSecond r + f - 2 * (m - m / 10) ≡ formula r m s f
+drop-formula Fps24 m s f d = absurd (subst T (sym d) tt)
+drop-formula Fps25 m s f d = absurd (subst T (sym d) tt)
+drop-formula Fps30Drop m s f d = refl
+drop-formula Fps30 m s f d = absurd (subst T (sym d) tt)
+
+even-formula : (r : TimeCodeType) (m s f : ℕ) → isDropFrame r ≡ false → (m * 60 + s) * framesPerSecond r + f ≡ formula r m s f
+even-formula Fps24 m s f d = refl
+even-formula Fps25 m s f d = refl
+even-formula Fps30Drop m s f d = absurd (subst T d tt)
+even-formula Fps30 m s f d = refl
+
+module _ (t : MtcTime) (n d : ℕ) (en : n ≡ framesPerSecond (t .rate)) (ed : d ≡ dayOf (t .rate)) where
+  pub drop-count : isDropFrame (t .rate) ≡ true
+      → (((t .hours * 60 + t .minutes) * 60 + t .seconds) * n + t .frames - 2 * (t .hours * 60 + t .minutes - (t .hours * 60 + t .minutes) / 10)) % d
+      ≡ frameCount t
+  unfolding frameCount
+  drop-count k =
+      rw (en, ed) (ap (λ (x : ℕ). x % dayOf (t .rate)) (drop-formula (t .rate) (t .hours * 60 + t .minutes) (t .seconds) (t .frames) k))
+
+  pub even-count : isDropFrame (t .rate) ≡ false
+      → (((t .hours * 60 + t .minutes) * 60 + t .seconds) * n + t .frames) % d ≡ frameCount t
+  unfolding frameCount
+  even-count k =
+      rw (en, ed) (ap (λ (x : ℕ). x % dayOf (t .rate)) (even-formula (t .rate) (t .hours * 60 + t .minutes) (t .seconds) (t .frames) k))
+
+-- ---- the label of a count
+
+pub day-rest : (n d : ℕ) (r : TimeCodeType) → d ≡ dayOf r → n % d < 2592000
+day-rest n d r e = omega (arith, mod-lt n (day-positive r), day-small r, ap (λ (k : ℕ). n % k) e)
+
+pub label-at : (n k d p : ℕ) (r : TimeCodeType) → d ≡ dayOf r → k ≡ withSkipped r (n % d) → p ≡ framesPerSecond r
+    → digits r (k / p) (k % p) ≡ labelAt n r
+unfolding labelAt
+label-at n k d p r ed ek ep = rw (ek, ep, ed)
+
 -- ---- at a rate that a match has told
 
-pub count-at : (t : MtcTime) (r : TimeCodeType) → t .rate ≡ r
-    → formula r (t .hours * 60 + t .minutes) (t .seconds) (t .frames) % dayOf r ≡ frameCount t
-unfolding frameCount
-count-at t r e = rw e
-
-pub label-at : (n : ℕ) (s r : TimeCodeType) → s ≡ r
-    → digits s (withSkipped r (n % dayOf r) / framesPerSecond r) (withSkipped r (n % dayOf r) % framesPerSecond r) ≡ labelAt n s
-unfolding labelAt
-label-at n s r e = rw e
+pub skipped-at : (n : ℕ) (s r : TimeCodeType) → s ≡ r → withSkipped r n ≡ withSkipped s n
+skipped-at n s r e = ap (λ (x : TimeCodeType). withSkipped x n) (sym e)
 
 pub never-skipped : (t : MtcTime) (r : TimeCodeType) → t .rate ≡ r → isDropFrame r ≡ false → false ≡ isSkipped t
 unfolding isSkipped

@@ -1,4 +1,4 @@
--- What 000 does with labels, on every input: one definition for each public call of src/time.rt. Assumes nothing.
+-- What mtc.rs does with labels, on every input: one definition for each public call of src/time.rt. Assumes nothing.
 use Prim.Native.Nat.{ℕ, _+_, _-_, _*_, _/_, _%_, _≤_, _<_}
 use mathlib.Core.Path.{_≡_}
 use mathlib.Core.Bool.{Bool, true, false, cond}
@@ -96,13 +96,6 @@ modZ (negsuc n) d = d - 1 - n % d
 unfoldable pub addFrames : MtcTime → ℤ → MtcTime
 unfolding frameCount labelAt modZ
 addFrames t d = labelAt (frameCount t + modZ d (dayOf (t .rate))) (t .rate)
-
--- ---- one number
-
--- The hours in the lowest byte, above them the minutes, the seconds, the frames and the rate.
-unfoldable pub labelNumber : MtcTime → ℕ
-labelNumber t =
-    t .hours + t .minutes * 256 + t .seconds * 65536 + t .frames * 16777216 + bitsOf (t .rate) * 4294967296
 
 -- ---- what holds of a valid label
 

@@ -2,11 +2,9 @@
 // drop-frame the frame numbers 00 and 01 are skipped at the start of each minute except 00, 10, 20, 30, 40 and 50.
 use universal::SysexError;
 ghost use mathlib.Core.Path.{_≡_};
-ghost use Prim.Native.Nat.{_<_, _≤_, _+_, _*_, _/_, _%_};
-ghost use mathlib.Core.Bool.{true};
-ghost use lib.IntN.{pos};
-ghost use Rattle.labels.specs.St12.{label, framesPerSecond, isValid, isSkipped};
-ghost use Rattle.labels.specs.Time.{dayOf, bitsOf, typeOf, newTimeOf, newTime, nextValid, frameCount, labelAt, addFrames, rawTime, hoursByte, modZ, digits, numbered, withSkipped, labelNumber};
+ghost use Prim.Native.Nat.{_<_};
+ghost use Rattle.labels.specs.St12.{label, framesPerSecond, isDropFrame, isValid, isSkipped};
+ghost use Rattle.labels.specs.Time.{dayOf, bitsOf, typeOf, newTimeOf, newTime, nextValid, frameCount, labelAt, addFrames, rawTime, hoursByte, modZ, digits, withSkipped};
 
 // The frames of ten minutes at 30 drop-frame: 10 * 1800 - 9 * 2.
 const DROP_10_MINUTES: u32 = 17_982;
@@ -21,9 +19,6 @@ const DAY_25: u32 = 86_400 * 25;
 const DAY_DROP: u32 = 24 * 6 * DROP_10_MINUTES;
 
 const DAY_30: u32 = 86_400 * 30;
-
-// The two bits of 30 drop-frame.
-const DROP_BITS: u8 = 2;
 
 // The rate: the two bits of the hours byte (RP-004/008, p. 2).
 pub enum TimeCodeType {
@@ -75,6 +70,17 @@ impl TimeCodeType {
         }
     }
 
+    fn is_drop_frame(self) -> bool
+        ensures { λ r. ⌜ r ≡ isDropFrame self ⌝ }
+    {
+        match self {
+            TimeCodeType::Fps24 => false,
+            TimeCodeType::Fps25 => false,
+            TimeCodeType::Fps30Drop => true,
+            TimeCodeType::Fps30 => false,
+        }
+    }
+
     // The frames of 24 hours.
     pub fn day(self) -> u32
         ensures { λ r. ⌜ r ≡ dayOf self ⌝ }
@@ -103,39 +109,16 @@ pub enum NewTime {
     Refused(SysexError),
 }
 
-// A number modulo a day: one below it needs no division.
-fn within(n: u32, day: u32) -> u32
-    requires { ⌜ 0 < day ⌝ }
-    ensures { λ r. ⌜ r ≡ n % day ⌝ }
-{
-    if n < day {
-        return n;
-    }
-    n % day
-}
-
-// A signed distance modulo a day.
+// A signed distance modulo a day. `-1 - delta` is in range for every negative distance.
 fn reduced(delta: i32, day: u32) -> u32
     requires { ⌜ 0 < day ⌝ }
     ensures { λ r. ⌜ r ≡ modZ delta day ⌝ }
 {
     if delta < 0 {
         let back = (-1 - delta) as u32;
-        return day - 1 - within(back, day);
+        return day - 1 - back % day;
     }
-    within(delta as u32, day)
-}
-
-// A count of a drop-frame day moved by a signed distance, round midnight.
-fn drop_moved(count: u32, delta: i32) -> u32
-    requires { ⌜ count < 2589408 ⌝ }
-    ensures { λ r. ⌜ r ≡ (count + modZ delta 2589408) % 2589408 ⌝ }
-{
-    let n = count + reduced(delta, DAY_DROP);
-    if n < DAY_DROP {
-        return n;
-    }
-    n - DAY_DROP
+    delta as u32 % day
 }
 
 // Whole seconds and frames of a rate as a label.
@@ -152,9 +135,22 @@ fn label_of(seconds: u32, frames: u32, rate: TimeCodeType) -> MtcTime
     }
 }
 
-// The count `n` of a drop-frame day with the skipped numbers put back in.
-fn with_skipped(n: u32) -> u32
-    requires { ⌜ n < 2589408 ⌝ }
+// A count of the day with the skipped numbers put back in.
+fn with_skipped(n: u32, rate: TimeCodeType) -> u32
+    requires { ⌜ n < 2592000 ⌝ }
+    ensures { λ r. ⌜ r ≡ withSkipped rate n ⌝ }
+{
+    match rate {
+        TimeCodeType::Fps24 => n,
+        TimeCodeType::Fps25 => n,
+        TimeCodeType::Fps30Drop => drop_with_skipped(n),
+        TimeCodeType::Fps30 => n,
+    }
+}
+
+// Eighteen numbers for each ten minutes, then two for each minute but the first of the ten.
+fn drop_with_skipped(n: u32) -> u32
+    requires { ⌜ n < 2592000 ⌝ }
     ensures { λ r. ⌜ r ≡ withSkipped TimeCodeType.Fps30Drop n ⌝ }
 {
     let tens = n / DROP_10_MINUTES;
@@ -163,75 +159,6 @@ fn with_skipped(n: u32) -> u32
         return n + 18 * tens;
     }
     n + 18 * tens + 2 * ((rest - 2) / DROP_MINUTE)
-}
-
-// The label of a drop-frame minute of the day and a place in it.
-fn label_in(minutes: u16, place: u16) -> MtcTime
-    requires { ⌜ (minutes < 1440) × (place < 1800) ⌝ }
-    ensures { λ r. ⌜ r ≡ digits TimeCodeType.Fps30Drop (minutes * 60 + place / 30) (place % 30) ⌝ }
-{
-    let hours = minutes / 60;
-    let seconds = place / 30;
-    MtcTime {
-        hours: hours as u8,
-        minutes: (minutes - hours * 60) as u8,
-        seconds: seconds as u8,
-        frames: (place - seconds * 30) as u8,
-        rate: TimeCodeType::Fps30Drop,
-    }
-}
-
-// The label of a count of a drop-frame day. Ten minutes have 17,982 frames, so a quotient by their tenth is the minute, but for
-// the last frame before each of the minutes 1 to 5 of ten. That frame and the first two of a tenth minute go by the tens.
-fn drop_label(n: u32) -> MtcTime
-    requires { ⌜ n < 2589408 ⌝ }
-    ensures { λ r. ⌜ r ≡ numbered TimeCodeType.Fps30Drop (withSkipped TimeCodeType.Fps30Drop n) ⌝ }
-{
-    let minutes = (n * 5 / 8_991) as u16;
-    let place = n - (minutes as u32 * DROP_MINUTE + (minutes / 10) as u32 * 2);
-    if place < 2 {
-        let m = with_skipped(n);
-        return label_of(m / 30, m % 30, TimeCodeType::Fps30Drop);
-    }
-    label_in(minutes, place as u16)
-}
-
-// A label as one number: hours in its lowest byte, above them minutes, seconds, frames and the rate.
-fn number_of(t: MtcTime) -> u64
-    ensures { λ r. ⌜ r ≡ labelNumber t ⌝ }
-{
-    let rate = t.rate;
-    t.hours as u64
-        + t.minutes as u64 * 0x100
-        + t.seconds as u64 * 0x1_0000
-        + t.frames as u64 * 0x100_0000
-        + rate.into_bits() as u64 * 0x1_0000_0000
-}
-
-// The number of the label of a drop-frame minute of the day and a place in it. An hour takes 60 minutes off and adds itself, a
-// second 30 frames.
-fn number_in(minutes: u16, place: u16) -> u64
-    requires { ⌜ (minutes < 1440) × (place < 1800) ⌝ }
-    ensures { λ r. ⌜ r ≡ labelNumber (digits TimeCodeType.Fps30Drop (minutes * 60 + place / 30) (place % 30)) ⌝ }
-{
-    let hours = minutes / 60;
-    let seconds = place / 30;
-    let low = minutes as u64 * 0x100 - hours as u64 * (60 * 0x100 - 1);
-    let high = place as u64 * 0x100_0000 - seconds as u64 * (30 * 0x100_0000 - 0x1_0000);
-    low + high + 0x2_0000_0000
-}
-
-// The number of `drop_label`.
-fn drop_number(n: u32) -> u64
-    requires { ⌜ n < 2589408 ⌝ }
-    ensures { λ r. ⌜ r ≡ labelNumber (numbered TimeCodeType.Fps30Drop (withSkipped TimeCodeType.Fps30Drop n)) ⌝ }
-{
-    let minutes = (n * 5 / 8_991) as u16;
-    let place = n - (minutes as u32 * DROP_MINUTE + (minutes / 10) as u32 * 2);
-    if place < 2 {
-        return number_of(drop_label(n));
-    }
-    number_in(minutes, place as u16)
 }
 
 // The start of a minute at which drop-frame skips a frame number.
@@ -316,37 +243,21 @@ impl MtcTime {
     {
         let rate = self.rate;
         let minutes = self.hours as u32 * 60 + self.minutes as u32;
-        let frames = self.frames as u32;
-        if rate.into_bits() == DROP_BITS {
-            let n = minutes * DROP_MINUTE + self.seconds as u32 * 30 + frames;
-            return within(n + minutes / 10 * 2, DAY_DROP);
-        }
         let seconds = minutes * 60 + self.seconds as u32;
-        within(
-            seconds * rate.frames_per_second() as u32 + frames,
-            rate.day(),
-        )
+        let n = seconds * rate.frames_per_second() as u32 + self.frames as u32;
+        if rate.is_drop_frame() {
+            return (n - 2 * (minutes - minutes / 10)) % rate.day();
+        }
+        n % rate.day()
     }
 
     // The label of `count` frames from 00:00:00:00, round midnight.
     pub fn from_frame_count(count: u32, rate: TimeCodeType) -> Self
         ensures { λ r. ⌜ r ≡ labelAt count rate ⌝ }
     {
-        match rate {
-            TimeCodeType::Fps24 => {
-                let n = count % DAY_24;
-                label_of(n / 24, n % 24, rate)
-            }
-            TimeCodeType::Fps25 => {
-                let n = count % DAY_25;
-                label_of(n / 25, n % 25, rate)
-            }
-            TimeCodeType::Fps30Drop => drop_label(within(count, DAY_DROP)),
-            TimeCodeType::Fps30 => {
-                let n = count % DAY_30;
-                label_of(n / 30, n % 30, rate)
-            }
-        }
+        let n = with_skipped(count % rate.day(), rate);
+        let fps = rate.frames_per_second() as u32;
+        label_of(n / fps, n % fps, rate)
     }
 
     // The label `delta` frames later, or earlier, round midnight.
@@ -354,71 +265,8 @@ impl MtcTime {
         ensures { λ r. ⌜ r ≡ addFrames self delta ⌝ }
     {
         let rate = self.rate;
-        match rate {
-            TimeCodeType::Fps24 => self.moved(delta),
-            TimeCodeType::Fps25 => self.moved(delta),
-            TimeCodeType::Fps30Drop => drop_label(drop_moved(self.to_frame_count(), delta)),
-            TimeCodeType::Fps30 => self.moved(delta),
-        }
-    }
-
-    // The number of the label of `count` frames from 00:00:00:00, round midnight.
-    pub fn number_at(count: u32, rate: TimeCodeType) -> u64
-        ensures { λ r. ⌜ r ≡ labelNumber (labelAt count rate) ⌝ }
-    {
-        if rate.into_bits() == DROP_BITS {
-            return drop_number(within(count, DAY_DROP));
-        }
-        number_of(MtcTime::from_frame_count(count, rate))
-    }
-
-    // The number of the label `delta` frames later, or earlier, round midnight.
-    pub fn number_after(self, delta: i32) -> u64
-        ensures { λ r. ⌜ r ≡ labelNumber (addFrames self delta) ⌝ }
-    {
-        let rate = self.rate;
-        if rate.into_bits() == DROP_BITS {
-            return drop_number(drop_moved(self.to_frame_count(), delta));
-        }
-        number_of(self.add_frames(delta))
-    }
-
-    // The label `delta` frames later, or earlier, at any rate, by the count and its day.
-    fn moved(self, delta: i32) -> Self
-        ensures { λ r. ⌜ r ≡ addFrames self delta ⌝ }
-    {
-        let rate = self.rate;
         let step = reduced(delta, rate.day());
         MtcTime::from_frame_count(self.to_frame_count() + step, rate)
-    }
-
-    // The label two frames later, most often in the same second.
-    pub fn two_later(self) -> Self
-        ensures { λ r. ⌜ r ≡ addFrames self (pos 2) ⌝ }
-    {
-        let rate = self.rate;
-        if self.frames >= rate.frames_per_second() - 2 {
-            return self.add_frames(2);
-        }
-        if !self.is_in_day() {
-            return self.add_frames(2);
-        }
-        let mut t = self;
-        t.frames = self.frames + 2;
-        t
-    }
-
-    // True only where hours, minutes and seconds are in their ranges.
-    fn is_in_day(self) -> bool
-        ensures { λ r. ⌜ (r ≡ true → (self .hours ≤ 23) × ((self .minutes ≤ 59) × (self .seconds ≤ 59))) ⌝ }
-    {
-        if self.hours > 23 {
-            return false;
-        }
-        if self.minutes > 59 {
-            return false;
-        }
-        self.seconds <= 59
     }
 
     // A label of raw counts, masked to their widths.

@@ -1,4 +1,4 @@
--- Commands with their names and data as bytes, and how 001 reads them. Assumes nothing.
+-- Commands with their names and data as bytes, and how mmc.rs reads them. Assumes nothing.
 use Prim.Native.Nat.{ℕ}
 use mathlib.Core.Bool.{cond}
 use mathlib.Core.List.{List}
@@ -12,6 +12,7 @@ use Rattle.mmc.specs.declared.command.NextCommand.{NextCommand}
 use Rattle.mmc.specs.declared.length.Kind.the-variants.{Commands}
 use Rattle.mmc.specs.declared.part.Part.{Part}
 use Rattle.codes.specs.declared.time_code.StandardTimeCode.{StandardTimeCode}
+use Rattle.mmc.specs.Rp013Commands as P
 use Rattle.mmc.specs.Split.{Next, next, nextAs, partsAs}
 use Rattle.codes.specs.TimeCode.{readStandard}
 use Rattle.universal.specs.Refusals.{Answer, gives, refused, refusalOf}
@@ -41,16 +42,16 @@ readMove d =
 -- A name of one byte, with its data.
 unfoldable pub readByte : ℕ → List ℕ → CommandCase
 readByte n d =
-    cond (eqb n 1) stop
-    (cond (eqb n 2) play
-    (cond (eqb n 3) deferredPlay
-    (cond (eqb n 4) fastForward
-    (cond (eqb n 5) rewind
-    (cond (eqb n 6) recordStrobe
-    (cond (eqb n 7) recordExit
-    (cond (eqb n 9) pause
-    (cond (eqb n 13) reset
-    (cond (eqb n 64) write (cond (eqb n 68) (readLocate d) (cond (eqb n 76) (readMove d) other)))))))))))
+    cond (eqb n (P.byteOf P.Stop)) stop
+    (cond (eqb n (P.byteOf P.Play)) play
+    (cond (eqb n (P.byteOf P.DeferredPlay)) deferredPlay
+    (cond (eqb n (P.byteOf P.FastForward)) fastForward
+    (cond (eqb n (P.byteOf P.Rewind)) rewind
+    (cond (eqb n (P.byteOf P.RecordStrobe)) recordStrobe
+    (cond (eqb n (P.byteOf P.RecordExit)) recordExit
+    (cond (eqb n (P.byteOf P.Pause)) pause
+    (cond (eqb n (P.byteOf P.MmcReset)) reset
+    (cond (eqb n (P.byteOf P.Write)) write (cond (eqb n (P.byteOf P.Locate)) (readLocate d) (cond (eqb n (P.byteOf P.Move)) (readMove d) other)))))))))))
 
 -- What a name and data are read as: a name with prefixes is no known command.
 unfoldable pub readCommand : List ℕ → List ℕ → CommandCase

@@ -1,4 +1,4 @@
--- Information fields, and how 001 reads them. Assumes nothing.
+-- Information fields, and how mmc.rs reads them. Assumes nothing.
 use Prim.Native.Nat.{ℕ, _-_}
 use mathlib.Core.Bool.{cond}
 use mathlib.Core.List.{List}

@@ -1,4 +1,4 @@
--- What 001 emits of a command or a field before the refusing check. 6 comes first, for a part that is not inside the lent
+-- What mmc.rs emits of a command or a field before the refusing check. 6 comes first, for a part that is not inside the lent
 -- source. Assumes nothing.
 use Prim.Native.Nat.{ℕ, _+_}
 use mathlib.Core.Bool.{Bool, true, false, not, cond, _&&_}
@@ -20,6 +20,7 @@ use Rattle.codes.specs.declared.time_code.StandardTimeCode.{StandardTimeCode}
 use Rattle.codes.specs.declared.time_code.ShortTimeCode.{ShortTimeCode}
 use Rattle.mmc.specs.Length.{within}
 use Rattle.mmc.specs.Named.{namedItem}
+use Rattle.mmc.specs.Rp013Commands as P
 use Rattle.mmc.specs.Part.{isInside, partOf}
 use Rattle.codes.specs.TimeCode.{standardFits, standardList, shortFits, shortList}
 use Rattle.universal.specs.Refusals.{refusalOf}
@@ -45,11 +46,11 @@ otherItem kind source n d =
 -- ---- commands
 
 unfoldable pub writeItem : List ℕ → Part → Emission
-writeItem source d = check (isInside source d) 6 then namedItem Commands (64 ∷ []) (partOf source d)
+writeItem source d = check (isInside source d) 6 then namedItem Commands (P.byteOf P.Write ∷ []) (partOf source d)
 
 -- A register from 08H to 0FH.
 unfoldable pub locateFieldItem : ℕ → Emission
-locateFieldItem r = check (within 8 16 r) 3 then sent (68 ∷ 2 ∷ 0 ∷ r ∷ [])
+locateFieldItem r = check (within 8 16 r) 3 then sent (P.byteOf P.Locate ∷ 2 ∷ 0 ∷ r ∷ [])
 
 abbrev pub isSubframes : FinalByte → Bool
 isSubframes (Subframes s) = true
@@ -57,22 +58,22 @@ isSubframes (Status st) = false
 
 -- A target in the form with subframes.
 unfoldable pub locateTargetItem : StandardTimeCode → Emission
-locateTargetItem c = check (isSubframes (c .«final_byte»)) 3 then sent (68 ∷ 6 ∷ 1 ∷ []) then standardItem c
+locateTargetItem c = check (isSubframes (c .«final_byte»)) 3 then sent (P.byteOf P.Locate ∷ 6 ∷ 1 ∷ []) then standardItem c
 
 -- Two fields from 01H to 1FH.
 unfoldable pub moveItem : ℕ → ℕ → Emission
-moveItem d s = check (within 1 32 d && within 1 32 s) 3 then sent (76 ∷ 2 ∷ d ∷ s ∷ [])
+moveItem d s = check (within 1 32 d && within 1 32 s) 3 then sent (P.byteOf P.Move ∷ 2 ∷ d ∷ s ∷ [])
 
 unfoldable pub commandItem : List ℕ → MmcCommand → Emission
-commandItem source C.Stop = sent (1 ∷ [])
-commandItem source C.Play = sent (2 ∷ [])
-commandItem source C.DeferredPlay = sent (3 ∷ [])
-commandItem source C.FastForward = sent (4 ∷ [])
-commandItem source C.Rewind = sent (5 ∷ [])
-commandItem source C.RecordStrobe = sent (6 ∷ [])
-commandItem source C.RecordExit = sent (7 ∷ [])
-commandItem source C.Pause = sent (9 ∷ [])
-commandItem source C.Reset = sent (13 ∷ [])
+commandItem source C.Stop = sent (P.byteOf P.Stop ∷ [])
+commandItem source C.Play = sent (P.byteOf P.Play ∷ [])
+commandItem source C.DeferredPlay = sent (P.byteOf P.DeferredPlay ∷ [])
+commandItem source C.FastForward = sent (P.byteOf P.FastForward ∷ [])
+commandItem source C.Rewind = sent (P.byteOf P.Rewind ∷ [])
+commandItem source C.RecordStrobe = sent (P.byteOf P.RecordStrobe ∷ [])
+commandItem source C.RecordExit = sent (P.byteOf P.RecordExit ∷ [])
+commandItem source C.Pause = sent (P.byteOf P.Pause ∷ [])
+commandItem source C.Reset = sent (P.byteOf P.MmcReset ∷ [])
 commandItem source (C.Write d) = writeItem source d
 commandItem source (C.LocateField r) = locateFieldItem r
 commandItem source (C.LocateTarget c) = locateTargetItem c

@@ -1,4 +1,4 @@
--- Machine control messages, as 001 reads them from the five split parts of a Universal message. Assumes nothing.
+-- Machine control messages, as mmc.rs reads them from the five split parts of a Universal message. Assumes nothing.
 use Prim.Native.Nat.{ℕ}
 use mathlib.Core.Bool.{Bool, true, false, cond}
 use mathlib.Core.List.{List}

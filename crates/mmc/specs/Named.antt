@@ -1,4 +1,4 @@
--- A name and its data written by the length rule, as 001 does it: the bytes emitted before the refusing check. Assumes nothing.
+-- A name and its data written by the length rule, as mmc.rs does it: the bytes emitted before the refusing check. Assumes nothing.
 use Prim.Native.Nat.{ℕ, _-_}
 use mathlib.Core.Bool.{Bool, false, not, _&&_}
 use mathlib.Core.List.{List, [], _∷_}

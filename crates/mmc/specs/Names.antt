@@ -5,32 +5,33 @@ use mathlib.Core.List.{List, [], _∷_}
 use Rattle.mmc.specs.declared.command.MmcCommand.the-variants as C
 use Rattle.mmc.specs.Command as K
 use Rattle.mmc.specs.Command.{readByte, readLocate, readMove}
+use Rattle.mmc.specs.Rp013Commands as P
 use Rattle.mmc.specs.Item.{commandItem}
 use Rattle.universal.specs.Emission.{sent}
 
 -- What each known name of one byte is read as, with its data.
 pub record NamesRead (d : List ℕ) : Type 0 where
-  pub stop : readByte 1 d ≡ K.stop
-  pub play : readByte 2 d ≡ K.play
-  pub deferred-play : readByte 3 d ≡ K.deferredPlay
-  pub fast-forward : readByte 4 d ≡ K.fastForward
-  pub rewind : readByte 5 d ≡ K.rewind
-  pub record-strobe : readByte 6 d ≡ K.recordStrobe
-  pub record-exit : readByte 7 d ≡ K.recordExit
-  pub pause : readByte 9 d ≡ K.pause
-  pub reset : readByte 13 d ≡ K.reset
-  pub write : readByte 64 d ≡ K.write
-  pub locate : readByte 68 d ≡ readLocate d
-  pub move : readByte 76 d ≡ readMove d
+  pub stop : readByte (P.byteOf P.Stop) d ≡ K.stop
+  pub play : readByte (P.byteOf P.Play) d ≡ K.play
+  pub deferred-play : readByte (P.byteOf P.DeferredPlay) d ≡ K.deferredPlay
+  pub fast-forward : readByte (P.byteOf P.FastForward) d ≡ K.fastForward
+  pub rewind : readByte (P.byteOf P.Rewind) d ≡ K.rewind
+  pub record-strobe : readByte (P.byteOf P.RecordStrobe) d ≡ K.recordStrobe
+  pub record-exit : readByte (P.byteOf P.RecordExit) d ≡ K.recordExit
+  pub pause : readByte (P.byteOf P.Pause) d ≡ K.pause
+  pub reset : readByte (P.byteOf P.MmcReset) d ≡ K.reset
+  pub write : readByte (P.byteOf P.Write) d ≡ K.write
+  pub locate : readByte (P.byteOf P.Locate) d ≡ readLocate d
+  pub move : readByte (P.byteOf P.Move) d ≡ readMove d
 
 -- The commands that are a name alone go out as this name.
 pub record NamesSent (source : List ℕ) : Type 0 where
-  pub stop : commandItem source C.Stop ≡ sent (1 ∷ [])
-  pub play : commandItem source C.Play ≡ sent (2 ∷ [])
-  pub deferred-play : commandItem source C.DeferredPlay ≡ sent (3 ∷ [])
-  pub fast-forward : commandItem source C.FastForward ≡ sent (4 ∷ [])
-  pub rewind : commandItem source C.Rewind ≡ sent (5 ∷ [])
-  pub record-strobe : commandItem source C.RecordStrobe ≡ sent (6 ∷ [])
-  pub record-exit : commandItem source C.RecordExit ≡ sent (7 ∷ [])
-  pub pause : commandItem source C.Pause ≡ sent (9 ∷ [])
-  pub reset : commandItem source C.Reset ≡ sent (13 ∷ [])
+  pub stop : commandItem source C.Stop ≡ sent (P.byteOf P.Stop ∷ [])
+  pub play : commandItem source C.Play ≡ sent (P.byteOf P.Play ∷ [])
+  pub deferred-play : commandItem source C.DeferredPlay ≡ sent (P.byteOf P.DeferredPlay ∷ [])
+  pub fast-forward : commandItem source C.FastForward ≡ sent (P.byteOf P.FastForward ∷ [])
+  pub rewind : commandItem source C.Rewind ≡ sent (P.byteOf P.Rewind ∷ [])
+  pub record-strobe : commandItem source C.RecordStrobe ≡ sent (P.byteOf P.RecordStrobe ∷ [])
+  pub record-exit : commandItem source C.RecordExit ≡ sent (P.byteOf P.RecordExit ∷ [])
+  pub pause : commandItem source C.Pause ≡ sent (P.byteOf P.Pause ∷ [])
+  pub reset : commandItem source C.Reset ≡ sent (P.byteOf P.MmcReset ∷ [])

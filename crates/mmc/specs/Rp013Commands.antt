@@ -15,6 +15,25 @@ use Rattle.codes.specs.declared.time_code.ShortTimeCode.{ShortTimeCode}
 use Rattle.codes.specs.declared.time_code.StandardTimeCode.{StandardTimeCode}
 use Rattle.labels.specs.declared.time.TimeCodeType.{TimeCodeType}
 
+-- ---- the commands' names (p. 14)
+
+pub data CommandName : Type 0 where
+  Stop Play DeferredPlay FastForward Rewind RecordStrobe RecordExit Pause MmcReset Write Locate Move : CommandName
+
+abbrev pub byteOf : CommandName → ℕ
+byteOf Stop = 0x01
+byteOf Play = 0x02
+byteOf DeferredPlay = 0x03
+byteOf FastForward = 0x04
+byteOf Rewind = 0x05
+byteOf RecordStrobe = 0x06
+byteOf RecordExit = 0x07
+byteOf Pause = 0x09
+byteOf MmcReset = 0x0D
+byteOf Write = 0x40
+byteOf Locate = 0x44
+byteOf Move = 0x4C
+
 -- ---- commands
 
 -- WRITE has the names and data of fields, LOCATE [I/F] a register's name, LOCATE [TARGET] a time code, MOVE a destination and a
@@ -28,26 +47,26 @@ pub data Command : Type 0 where
 
 -- The bytes of a command: its name, and from 40H to 77H a count byte and so many data.
 abbrev pub commandBytes : Command → List ℕ
-commandBytes STOP = 0x01 ∷ []
-commandBytes PLAY = 0x02 ∷ []
-commandBytes DEFERRED-PLAY = 0x03 ∷ []
-commandBytes FAST-FORWARD = 0x04 ∷ []
-commandBytes REWIND = 0x05 ∷ []
-commandBytes RECORD-STROBE = 0x06 ∷ []
-commandBytes RECORD-EXIT = 0x07 ∷ []
-commandBytes PAUSE = 0x09 ∷ []
-commandBytes MMC-RESET = 0x0D ∷ []
-commandBytes (WRITE fields) = 0x40 ∷ length fields ∷ fields
-commandBytes (LOCATE-FIELD register) = 0x44 ∷ 0x02 ∷ 0x00 ∷ register ∷ []
-commandBytes (LOCATE-TARGET c) = 0x44 ∷ 0x06 ∷ 0x01 ∷ written c
-commandBytes (MOVE destination source) = 0x4C ∷ 0x02 ∷ destination ∷ source ∷ []
+commandBytes STOP = byteOf Stop ∷ []
+commandBytes PLAY = byteOf Play ∷ []
+commandBytes DEFERRED-PLAY = byteOf DeferredPlay ∷ []
+commandBytes FAST-FORWARD = byteOf FastForward ∷ []
+commandBytes REWIND = byteOf Rewind ∷ []
+commandBytes RECORD-STROBE = byteOf RecordStrobe ∷ []
+commandBytes RECORD-EXIT = byteOf RecordExit ∷ []
+commandBytes PAUSE = byteOf Pause ∷ []
+commandBytes MMC-RESET = byteOf MmcReset ∷ []
+commandBytes (WRITE fields) = byteOf Write ∷ length fields ∷ fields
+commandBytes (LOCATE-FIELD register) = byteOf Locate ∷ 0x02 ∷ 0x00 ∷ register ∷ []
+commandBytes (LOCATE-TARGET c) = byteOf Locate ∷ 0x06 ∷ 0x01 ∷ written c
+commandBytes (MOVE destination source) = byteOf Move ∷ 0x02 ∷ destination ∷ source ∷ []
 
 -- Received, a count above the defined length has the defined bytes first, and the rest is skipped (p. 5): a LOCATE or a MOVE with
 -- data past its own. The others have no defined length to pass.
 abbrev pub receivedBytes : Command → List ℕ → List ℕ
-receivedBytes (LOCATE-FIELD register) past = 0x44 ∷ (0x02 + length past) ∷ 0x00 ∷ register ∷ past
-receivedBytes (LOCATE-TARGET c) past = 0x44 ∷ (0x06 + length past) ∷ 0x01 ∷ (written c ++ past)
-receivedBytes (MOVE destination source) past = 0x4C ∷ (0x02 + length past) ∷ destination ∷ source ∷ past
+receivedBytes (LOCATE-FIELD register) past = byteOf Locate ∷ (0x02 + length past) ∷ 0x00 ∷ register ∷ past
+receivedBytes (LOCATE-TARGET c) past = byteOf Locate ∷ (0x06 + length past) ∷ 0x01 ∷ (written c ++ past)
+receivedBytes (MOVE destination source) past = byteOf Move ∷ (0x02 + length past) ∷ destination ∷ source ∷ past
 receivedBytes STOP past = commandBytes STOP
 receivedBytes PLAY past = commandBytes PLAY
 receivedBytes DEFERRED-PLAY past = commandBytes DEFERRED-PLAY

@@ -1,4 +1,4 @@
--- The splitter of 001: the item at a place of a string, by the length rule of its kind. Assumes nothing.
+-- The splitter of mmc.rs: the item at a place of a string, by the length rule of its kind. Assumes nothing.
 use Prim.Native.Nat.{ℕ, _+_, _-_, _≤_}
 use mathlib.Core.Path.{_≡_}
 use mathlib.Core.Bool.{cond, _&&_}

@@ -67,7 +67,7 @@ unfoldable pub allFit : Kind → List Item → Bool
 allFit kind [] = true
 allFit kind (x ∷ xs) = itemFits kind x && allFit kind xs
 
--- The item named 00 00 00, which 001 takes and RP-013 does not have.
+-- The item named 00 00 00, which mmc.rs takes and RP-013 does not have.
 abbrev pub zerosItem : Item
 zerosItem = item (0 ∷ 0 ∷ 0 ∷ []) []
 

@@ -1,4 +1,4 @@
--- Writing a string, as 001 does it on a whole list: opened, given items one at a time, closed. Document 01 adds refusals 5, 6
+-- Writing a string, as mmc.rs does it on a whole list: opened, given items one at a time, closed. Document 01 adds refusals 5, 6
 -- and 10 and their order. Assumes nothing.
 use Prim.Native.Nat.{ℕ, _+_}
 use mathlib.Core.Bool.{true, not, cond, _&&_}

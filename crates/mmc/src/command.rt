@@ -11,33 +11,49 @@ ghost use Prim.Native.Nat.{_<_, _≤_};
 ghost use lib.ListN.{length};
 ghost use Rattle.mmc.specs.Command.{readCommand, readLocate, readMove, located, nextCommand, nextCommandOf};
 
+// The names of the transport tier's commands (p. 14).
+pub const STOP: u8 = 0x01;
+
+pub const PLAY: u8 = 0x02;
+
+pub const DEFERRED_PLAY: u8 = 0x03;
+
+pub const FAST_FORWARD: u8 = 0x04;
+
+pub const REWIND: u8 = 0x05;
+
+pub const RECORD_STROBE: u8 = 0x06;
+
+pub const RECORD_EXIT: u8 = 0x07;
+
+pub const PAUSE: u8 = 0x09;
+
+pub const MMC_RESET: u8 = 0x0D;
+
+pub const WRITE: u8 = 0x40;
+
+pub const LOCATE: u8 = 0x44;
+
+pub const MOVE: u8 = 0x4C;
+
 // One command. Bytes of its own stand as a part of the bytes that it was read from, or is written from.
 pub enum MmcCommand {
-    // 01H
     Stop,
-    // 02H
     Play,
-    // 03H
     DeferredPlay,
-    // 04H
     FastForward,
-    // 05H
     Rewind,
-    // 06H
     RecordStrobe,
-    // 07H
     RecordExit,
-    // 09H
     Pause,
-    // 0DH
     Reset,
-    // 40H: names and data of information fields.
+    // Names and data of information fields.
     Write(Part),
-    // 44H, sub-command 00H: a register's name.
+    // Sub-command 00H: a register's name.
     LocateField { register: u8 },
-    // 44H, sub-command 01H: a time with subframes.
+    // Sub-command 01H: a time with subframes.
     LocateTarget(StandardTimeCode),
-    // 4CH: two fields' names.
+    // Two fields' names.
     Move { destination: u8, source: u8 },
     // Any other command, or one whose data does not fit it: the name with its prefixes, and the data after the count byte.
     Other { name: Part, data: Part },
@@ -55,18 +71,18 @@ fn read(name: &[u8], data: &[u8], name_at: Part, data_at: Part) -> MmcCommand
     }
     let byte = name[0];
     match byte {
-        0x01 => MmcCommand::Stop,
-        0x02 => MmcCommand::Play,
-        0x03 => MmcCommand::DeferredPlay,
-        0x04 => MmcCommand::FastForward,
-        0x05 => MmcCommand::Rewind,
-        0x06 => MmcCommand::RecordStrobe,
-        0x07 => MmcCommand::RecordExit,
-        0x09 => MmcCommand::Pause,
-        0x0D => MmcCommand::Reset,
-        0x40 => MmcCommand::Write(data_at),
-        0x44 => read_locate(data, name_at, data_at),
-        0x4C => read_move(data, name_at, data_at),
+        STOP => MmcCommand::Stop,
+        PLAY => MmcCommand::Play,
+        DEFERRED_PLAY => MmcCommand::DeferredPlay,
+        FAST_FORWARD => MmcCommand::FastForward,
+        REWIND => MmcCommand::Rewind,
+        RECORD_STROBE => MmcCommand::RecordStrobe,
+        RECORD_EXIT => MmcCommand::RecordExit,
+        PAUSE => MmcCommand::Pause,
+        MMC_RESET => MmcCommand::Reset,
+        WRITE => MmcCommand::Write(data_at),
+        LOCATE => read_locate(data, name_at, data_at),
+        MOVE => read_move(data, name_at, data_at),
         _ => MmcCommand::Other {
             name: name_at,
             data: data_at,

@@ -1,5 +1,17 @@
 // Commands and fields put into a buffer: each check in the source's order, and before it the bytes that it lets go out.
+use crate::command::DEFERRED_PLAY;
+use crate::command::FAST_FORWARD;
+use crate::command::LOCATE;
+use crate::command::MMC_RESET;
+use crate::command::MOVE;
 use crate::command::MmcCommand;
+use crate::command::PAUSE;
+use crate::command::PLAY;
+use crate::command::RECORD_EXIT;
+use crate::command::RECORD_STROBE;
+use crate::command::REWIND;
+use crate::command::STOP;
+use crate::command::WRITE;
 use crate::field::InfoField;
 use crate::length::Kind;
 use crate::named::Put;
@@ -93,7 +105,7 @@ fn put_write(out: &mut [u8], at: usize, source: &[u8], data: Part) -> Put
             checked: Checked::Refused(SysexError::Source),
         };
     }
-    let name = [0x40u8];
+    let name = [WRITE];
     put_named(out, at, &name, data.of(source), Kind::Commands)
 }
 
@@ -114,7 +126,7 @@ fn put_locate_field(out: &mut [u8], at: usize, register: u8) -> Put
             checked: Checked::Refused(SysexError::OutOfRange),
         };
     }
-    let bytes = [0x44, 2, 0, register];
+    let bytes = [LOCATE, 2, 0, register];
     put_part(out, at, &bytes);
     Put {
         len: 4,
@@ -135,7 +147,7 @@ fn put_locate_target(out: &mut [u8], at: usize, target: StandardTimeCode) -> Put
             checked: Checked::Refused(SysexError::OutOfRange),
         };
     }
-    let start = [0x44u8, 6, 1];
+    let start = [LOCATE, 6, 1];
     put_part(out, at, &start);
     let rest = put_standard(out, at + 3, target);
     let checked = rest.checked;
@@ -162,7 +174,7 @@ fn put_move(out: &mut [u8], at: usize, destination: u8, source: u8) -> Put
             checked: Checked::Refused(SysexError::OutOfRange),
         };
     }
-    let bytes = [0x4C, 2, destination, source];
+    let bytes = [MOVE, 2, destination, source];
     put_part(out, at, &bytes);
     Put {
         len: 4,
@@ -187,15 +199,15 @@ pub(crate) fn put_command(out: &mut [u8], at: usize, source: &[u8], command: Mmc
     ensures { λ _. ⌜ now (out .exit) ≡ overlay (now (out .entry)) at (commandItem (now (source .entry)) command .bytes) ⌝ }
 {
     match command {
-        MmcCommand::Stop => put_byte(out, at, 0x01),
-        MmcCommand::Play => put_byte(out, at, 0x02),
-        MmcCommand::DeferredPlay => put_byte(out, at, 0x03),
-        MmcCommand::FastForward => put_byte(out, at, 0x04),
-        MmcCommand::Rewind => put_byte(out, at, 0x05),
-        MmcCommand::RecordStrobe => put_byte(out, at, 0x06),
-        MmcCommand::RecordExit => put_byte(out, at, 0x07),
-        MmcCommand::Pause => put_byte(out, at, 0x09),
-        MmcCommand::Reset => put_byte(out, at, 0x0D),
+        MmcCommand::Stop => put_byte(out, at, STOP),
+        MmcCommand::Play => put_byte(out, at, PLAY),
+        MmcCommand::DeferredPlay => put_byte(out, at, DEFERRED_PLAY),
+        MmcCommand::FastForward => put_byte(out, at, FAST_FORWARD),
+        MmcCommand::Rewind => put_byte(out, at, REWIND),
+        MmcCommand::RecordStrobe => put_byte(out, at, RECORD_STROBE),
+        MmcCommand::RecordExit => put_byte(out, at, RECORD_EXIT),
+        MmcCommand::Pause => put_byte(out, at, PAUSE),
+        MmcCommand::Reset => put_byte(out, at, MMC_RESET),
         MmcCommand::Write(data) => put_write(out, at, source, data),
         MmcCommand::LocateField { register } => put_locate_field(out, at, register),
         MmcCommand::LocateTarget(target) => put_locate_target(out, at, target),

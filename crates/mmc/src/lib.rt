@@ -1,5 +1,5 @@
 // MIDI Machine Control (RP-013): command and field strings, read and written, over the time code fields of `codes`.
-mod command;
+pub mod command;
 mod field;
 mod item;
 mod length;

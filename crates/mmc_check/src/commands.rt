@@ -22,6 +22,18 @@ use crate::writing::end_message;
 use mmc::MmcCommand;
 use mmc::Part;
 use mmc::StandardTimeCode;
+use mmc::command::DEFERRED_PLAY;
+use mmc::command::FAST_FORWARD;
+use mmc::command::LOCATE;
+use mmc::command::MMC_RESET;
+use mmc::command::MOVE;
+use mmc::command::PAUSE;
+use mmc::command::PLAY;
+use mmc::command::RECORD_EXIT;
+use mmc::command::RECORD_STROBE;
+use mmc::command::REWIND;
+use mmc::command::STOP;
+use mmc::command::WRITE;
 use mtc::Direction;
 use mtc::MtcGenerator;
 use mtc::MtcTime;
@@ -67,22 +79,22 @@ fn effect_of(command: MmcCommand) -> u8 {
 // The name of one byte that a command is written with; 0 where it has its own bytes.
 fn name_of(command: MmcCommand) -> u8 {
     match command {
-        MmcCommand::Stop => 0x01,
-        MmcCommand::Play => 0x02,
-        MmcCommand::DeferredPlay => 0x03,
-        MmcCommand::FastForward => 0x04,
-        MmcCommand::Rewind => 0x05,
-        MmcCommand::RecordStrobe => 0x06,
-        MmcCommand::RecordExit => 0x07,
-        MmcCommand::Pause => 0x09,
-        MmcCommand::Reset => 0x0D,
-        MmcCommand::Write(_) => 0x40,
-        MmcCommand::LocateField { register: _ } => 0x44,
-        MmcCommand::LocateTarget(_) => 0x44,
+        MmcCommand::Stop => STOP,
+        MmcCommand::Play => PLAY,
+        MmcCommand::DeferredPlay => DEFERRED_PLAY,
+        MmcCommand::FastForward => FAST_FORWARD,
+        MmcCommand::Rewind => REWIND,
+        MmcCommand::RecordStrobe => RECORD_STROBE,
+        MmcCommand::RecordExit => RECORD_EXIT,
+        MmcCommand::Pause => PAUSE,
+        MmcCommand::Reset => MMC_RESET,
+        MmcCommand::Write(_) => WRITE,
+        MmcCommand::LocateField { register: _ } => LOCATE,
+        MmcCommand::LocateTarget(_) => LOCATE,
         MmcCommand::Move {
             destination: _,
             source: _,
-        } => 0x4C,
+        } => MOVE,
         MmcCommand::Other { name: _, data: _ } => 0,
     }
 }

@@ -1,4 +1,4 @@
--- What 000 does with full messages, on every input: one definition for each public call of src/full_message.rt.
+-- What mtc.rs does with full messages, on every input: one definition for each public call of src/full_message.rt.
 -- Assumes nothing.
 use Prim.Native.Nat.{ℕ}
 use mathlib.Core.List.{List, [], _∷_}

@@ -1,4 +1,4 @@
--- What 000's generator does, on every record: one definition for each public call of src/generator.rt. Assumes nothing.
+-- What mtc.rs's generator does, on every record: one definition for each public call of src/generator.rt. Assumes nothing.
 use Prim.Native.Nat.{ℕ, _+_, _%_}
 use mathlib.Core.Bool.{Bool, true, cond}
 use mathlib.Core.List.{List, [], _∷_}

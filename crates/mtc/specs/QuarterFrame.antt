@@ -1,4 +1,4 @@
--- What 000 does with quarter frames, on every input: one definition for each public call of src/quarter_frame.rt. Assumes
+-- What mtc.rs does with quarter frames, on every input: one definition for each public call of src/quarter_frame.rt. Assumes
 -- nothing.
 use Prim.Native.Nat.{ℕ, _+_, _*_, _/_, _%_}
 use mathlib.Core.List.{List, [], _∷_}

@@ -1,4 +1,4 @@
--- What 000's reader does, on every record: one definition for each public call of src/reader.rt. The count, the first and
+-- What mtc.rs's reader does, on every record: one definition for each public call of src/reader.rt. The count, the first and
 -- last piece and the direction decide what becomes of a piece; nibbles, times and marks are carried along. Assumes nothing.
 use Prim.Native.Nat.{ℕ, zero, suc, _+_, _*_, _%_, _≤_, _<_}
 use mathlib.Core.Bool.{Bool, true, false, not, cond, _&&_, _||_}

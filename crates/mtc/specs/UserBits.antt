@@ -1,4 +1,4 @@
--- What 000 does with user bits, on every input: one definition for each public call of src/user_bits.rt. Assumes nothing.
+-- What mtc.rs does with user bits, on every input: one definition for each public call of src/user_bits.rt. Assumes nothing.
 use Prim.Native.Nat.{ℕ, _+_, _*_, _/_, _%_}
 use mathlib.Core.Bool.{Bool, true, _&&_}
 use mathlib.Core.List.{List, [], _∷_, _++_}

@@ -55,7 +55,7 @@ impl Direction {
         ensures { λ r. ⌜ r ≡ addFrames time (move self) ⌝ }
     {
         match self {
-            Direction::Forward => time.two_later(),
+            Direction::Forward => time.add_frames(2),
             Direction::Reverse => time.add_frames(-2),
         }
     }

@@ -3,6 +3,7 @@
 mod full_message;
 mod generator;
 mod kind;
+mod order;
 mod quarter_frame;
 mod reader;
 mod user_bits;

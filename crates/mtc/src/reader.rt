@@ -3,6 +3,9 @@
 use crate::full_message::FullMessage;
 use crate::generator::Direction;
 use crate::generator::MaybePiece;
+use crate::order::Order;
+use crate::order::number_of;
+use crate::order::order_of;
 use crate::quarter_frame::QuarterFrame;
 use labels::MtcTime;
 ghost use mathlib.Core.Path.{_≡_};
@@ -10,7 +13,7 @@ ghost use Prim.Native.Nat.{_≤_};
 ghost use mathlib.Core.Bool.{cond};
 ghost use lib.Dec.{T, eqb};
 ghost use Rattle.labels.specs.Time.{addFrames};
-ghost use Rattle.mtc.specs.Reader.{fresh, nibblesFit, pieceFits, isSound, taken, control, ordered, found, outOfOrder, orderOf, starts, numberOf, rawOf, offset, directionOf, sameTime, jumps, reported, sequenceOf, completed, taking, passed, stored, eventWith, afterByte, eventOf, afterFullMessage};
+ghost use Rattle.mtc.specs.Reader.{fresh, nibblesFit, pieceFits, isSound, taken, ordered, rawOf, offset, directionOf, sameTime, jumps, reported, sequenceOf, completed, taking, passed, stored, eventWith, afterByte, eventOf, afterFullMessage};
 
 // A direction, or none yet.
 pub enum MaybeDirection {
@@ -66,14 +69,6 @@ pub struct Stepped {
     pub event: MtcEvent,
 }
 
-// How a piece stands to those before it: whether it is the next one, the direction that it leaves, and whether it keeps the
-// lock.
-struct Order {
-    next: bool,
-    direction: MaybeDirection,
-    keeps: bool,
-}
-
 impl MtcReader {
     // A reader that is not locked and is stopped.
     pub fn new() -> Self
@@ -117,8 +112,8 @@ impl MtcReader {
         let r = self.taken();
         let q = QuarterFrame::from_byte(byte);
         let p = q.piece;
-        let o = r.order(p);
-        let n = r.number(o, p);
+        let o = order_of(r, p);
+        let n = number_of(r, o, p);
         if n == 0 {
             return Stepped {
                 reader: r.passed(o, p),
@@ -217,60 +212,6 @@ impl MtcReader {
         nibbles_fit(nibbles)
     }
 
-    // How a piece stands to those before it.
-    fn order(self, p: u8) -> Order
-        requires { ⌜ T (isSound self) ⌝ }
-        ensures { λ r. ⌜ ordered (r .next) (r .direction) (r .keeps) ≡ orderOf (control self) p ⌝ }
-    {
-        let last = self.last;
-        let direction = self.direction;
-        let MaybePiece::Piece(l) = last else {
-            return ordered(false, direction, true);
-        };
-        match direction {
-            MaybeDirection::NoDirection => self.out_of_order(direction, found(l, p)),
-            MaybeDirection::Going(d) => {
-                if d.after(l) == p {
-                    return ordered(true, direction, true);
-                }
-                self.out_of_order(direction, found(l, p))
-            }
-        }
-    }
-
-    // The second piece gives the direction, and goes on where the sequence began at its first piece. A piece beside the last
-    // one turns a direction and drops the lock; any other only drops the lock.
-    fn out_of_order(self, direction: MaybeDirection, found: MaybeDirection) -> Order
-        ensures { λ r. ⌜ ordered (r .next) (r .direction) (r .keeps) ≡ outOfOrder (control self) direction found ⌝ }
-    {
-        let MaybeDirection::Going(f) = found else {
-            return ordered(false, direction, false);
-        };
-        let MaybeDirection::Going(_) = direction else {
-            if self.count == 0 {
-                return ordered(false, found, true);
-            }
-            return ordered(self.first == f.first(), found, true);
-        };
-        ordered(false, found, false)
-    }
-
-    // The number of a piece in its sequence, 1 to 8; 0 where it belongs to none.
-    fn number(self, o: Order, p: u8) -> u8
-        requires { ⌜ self .count ≤ 7 ⌝ }
-        ensures { λ r. ⌜ (r ≡ numberOf (control self) (ordered (o .next) (o .direction) (o .keeps)) p) × (r ≤ 8) ⌝ }
-    {
-        let direction = o.direction;
-        let held = held(o.next, self.count);
-        if held > 0 {
-            return held + 1;
-        }
-        if starts(direction, p) {
-            return 1;
-        }
-        0
-    }
-
     // The reader after a piece, with these nibbles, count and first piece.
     fn taking(self, o: Order, p: u8, nibbles: [u8; 8], count: u8, first: u8) -> Self
         ensures { λ r. ⌜ r ≡ taking self (ordered (o .next) (o .direction) (o .keeps)) p nibbles count first ⌝ }
@@ -362,56 +303,6 @@ fn nibbles_fit(nibbles: [u8; 8]) -> bool
     true
 }
 
-// How a piece stands to those before it, put together.
-fn ordered(next: bool, direction: MaybeDirection, keeps: bool) -> Order
-    ensures { λ r. ⌜ ordered (r .next) (r .direction) (r .keeps) ≡ ordered next direction keeps ⌝ }
-{
-    Order {
-        next,
-        direction,
-        keeps,
-    }
-}
-
-// The direction in which `p` comes right after `last`.
-fn found(last: u8, p: u8) -> MaybeDirection
-    requires { ⌜ last ≤ 7 ⌝ }
-    ensures { λ r. ⌜ r ≡ found last p ⌝ }
-{
-    if Direction::Forward.after(last) == p {
-        return MaybeDirection::Going(Direction::Forward);
-    }
-    if Direction::Reverse.after(last) == p {
-        return MaybeDirection::Going(Direction::Reverse);
-    }
-    MaybeDirection::NoDirection
-}
-
-// The pieces of a sequence that the next one, or one that is not the next, finds held.
-fn held(next: bool, count: u8) -> u8
-    ensures { λ r. ⌜ (r ≡ cond next count 0) × (r ≤ count) ⌝ }
-{
-    if next {
-        return count;
-    }
-    0
-}
-
-// A piece starts a sequence: the first one of the direction, and without a direction 0 or 7.
-fn starts(direction: MaybeDirection, p: u8) -> bool
-    ensures { λ r. ⌜ r ≡ starts direction p ⌝ }
-{
-    match direction {
-        MaybeDirection::NoDirection => {
-            if p == 0 {
-                return true;
-            }
-            p == 7
-        }
-        MaybeDirection::Going(d) => p == d.first(),
-    }
-}
-
 // The first piece of the sequence that the n-th piece belongs to.
 fn began(n: u8, p: u8, first: u8) -> u8
     ensures { λ r. ⌜ r ≡ cond (eqb n 1) p first ⌝ }
@@ -473,7 +364,7 @@ fn current(raw: MtcTime, direction: Direction) -> MtcTime
     ensures { λ r. ⌜ r ≡ addFrames raw (offset direction) ⌝ }
 {
     match direction {
-        Direction::Forward => raw.two_later(),
+        Direction::Forward => raw.add_frames(2),
         Direction::Reverse => raw.add_frames(-1),
     }
 }

@@ -7,13 +7,13 @@ use Rattle.fimbrast.proofs.time.fimbrast_to_frame_count.Tie as tie
 time-in-requires : tie.Need-time-in-requires
 time-in-requires c κs = search needs
 
-to-frame-count-requires : tie.Need-to-frame-count-requires
-to-frame-count-requires c κs = search needs
+frame-count-requires : tie.Need-frame-count-requires
+frame-count-requires c κs = search needs
 
 returns : tie.Need-returns
 returns c =
-    c .to-frame-count .ensures ∙ rw (c .before .time-in .ensures)
+    c .frame-count .ensures ∙ rw (c .before .time-in .ensures)
 
 pub fimbrast-to-frame-count-spec : {M : Type 1} → statement M
 fimbrast-to-frame-count-spec =
-    tie.close (tie.spec time-in-requires to-frame-count-requires returns)
+    tie.close (tie.spec time-in-requires frame-count-requires returns)

@@ -1,7 +1,5 @@
 -- `labels::time::reduced` meets its contract. Assumes nothing.
 use Rattle.labels.proofs.Distance.{back-fits, back-casts, back-mod, ahead-casts, ahead-mod, mod-pred}
-use mathlib.Core.Path.{_∙_, ap}
-use Prim.Native.Nat.{ℕ, _-_}
 use borrow.Author.Needs.{needs}
 use Rattle.labels.proofs.time.reduced.Statement.{statement}
 use Rattle.labels.proofs.time.reduced.Tie as tie
@@ -15,23 +13,23 @@ cast-back c = back-casts _ (c .before .fits .delta) (c .if1 .taken)
 sub-result : tie.Need-sub-result
 sub-result c = search needs
 
-within-requires : tie.Need-within-requires
-within-requires c κs = search needs
+rem-result : tie.Need-rem-result
+rem-result c = search needs
 
 sub-result-2 : tie.Need-sub-result-2
-sub-result-2 c = rw (c .within .ensures) (mod-pred _ _ (c .before .before .pre))
+sub-result-2 c = mod-pred _ _ (c .before .pre)
 
 returns : tie.Need-returns
-returns c = ap (λ (n : ℕ). c .before .before .args .day - 1 - n) (c .within .ensures) ∙ back-mod _ _ (c .before .before .fits .delta) (c .before .if1 .taken)
+returns c = back-mod _ _ (c .before .fits .delta) (c .if1 .taken)
 
-cast-within : tie.Need-cast-within
-cast-within c = ahead-casts _ (c .before .fits .delta) (c .if1 .left)
+cast-result : tie.Need-cast-result
+cast-result c = ahead-casts _ (c .before .fits .delta) (c .if1 .left)
 
-within-requires-2 : tie.Need-within-requires-2
-within-requires-2 c κs = search needs
+rem-result-2 : tie.Need-rem-result-2
+rem-result-2 c = search needs
 
 returns-2 : tie.Need-returns-2
-returns-2 c = c .within2 .ensures ∙ ahead-mod _ _ (c .before .before .fits .delta) (c .before .if1 .left)
+returns-2 c = ahead-mod _ _ (c .before .fits .delta) (c .if1 .left)
 
 pub reduced-spec : {M : Type 1} → statement M
 reduced-spec =
@@ -40,9 +38,9 @@ reduced-spec =
     sub-back
     cast-back
     sub-result
-    within-requires
+    rem-result
     sub-result-2
     returns
-    cast-within
-    within-requires-2
+    cast-result
+    rem-result-2
     returns-2)

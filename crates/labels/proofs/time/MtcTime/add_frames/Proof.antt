@@ -1,69 +1,38 @@
 -- `labels::time::MtcTime::add_frames` meets its contract. Assumes nothing.
+use Rattle.labels.proofs.Rates.{day-positive, sum-fits, moved-at}
 use mathlib.Core.Path.{_∙_}
-use mir.Syntax.{w32}
-use mir.ValLaws.{toZ-ofZ}
-use Rattle.labels.proofs.Short.{drop-below, drop-added}
+use Rattle.labels.proofs.Distance.{passed-mod}
 use borrow.Author.Needs.{needs}
 use Rattle.labels.proofs.time.MtcTime.add_frames.Statement.{statement}
 use Rattle.labels.proofs.time.MtcTime.add_frames.Tie as tie
 
-enum-told : tie.Need-enum-told
-enum-told c = search needs
+day-requires : tie.Need-day-requires
+day-requires c κs = search needs
 
-moved-requires : tie.Need-moved-requires
-moved-requires c κs = search needs
-
-enum-told-2 : tie.Need-enum-told-2
-enum-told-2 c = search needs
-
-moved-requires-2 : tie.Need-moved-requires-2
-moved-requires-2 c κs = search needs
-
-enum-told-3 : tie.Need-enum-told-3
-enum-told-3 c = search needs
+reduced-requires : tie.Need-reduced-requires
+reduced-requires c κs = rw (c .day .ensures) (day-positive (c .before .args .self .rate))
 
 to-frame-count-requires : tie.Need-to-frame-count-requires
 to-frame-count-requires c κs = search needs
 
-drop-moved-requires : tie.Need-drop-moved-requires
-drop-moved-requires c κs = drop-below _ _ (c .before .enum-told3 .given .1) (c .to-frame-count .ensures)
+add-from-frame-count : tie.Need-add-from-frame-count
+add-from-frame-count c =
+    sum-fits (c .before .before .before .args .self) (c .before .before .before .args .delta) _ _ _ (c .to-frame-count .ensures) (c .before .before .day .ensures) (passed-mod _ _ _ (c .before .before .before .fits .delta) (c .before .reduced .ensures))
 
-drop-label-requires : tie.Need-drop-label-requires
-drop-label-requires c κs = search needs
-
-enum-told-4 : tie.Need-enum-told-4
-enum-told-4 c = search needs
-
-moved-requires-3 : tie.Need-moved-requires-3
-moved-requires-3 c κs = search needs
+from-frame-count-requires : tie.Need-from-frame-count-requires
+from-frame-count-requires c κs = search needs
 
 returns : tie.Need-returns
-returns c = c .moved .ensures ∙ rw (toZ-ofZ w32 _ (c .before .before .before .fits .delta))
-
-returns-2 : tie.Need-returns-2
-returns-2 c = c .moved2 .ensures ∙ rw (toZ-ofZ w32 _ (c .before .before .before .fits .delta))
-
-returns-3 : tie.Need-returns-3
-returns-3 c = c .drop-label .ensures ∙ drop-added _ _ _ _ (c .before .before .before .enum-told3 .given .1) (c .before .before .to-frame-count .ensures) (c .before .drop-moved .ensures ∙ rw (toZ-ofZ w32 _ (c .before .before .before .before .before .fits .delta)))
-
-returns-4 : tie.Need-returns-4
-returns-4 c = c .moved3 .ensures ∙ rw (toZ-ofZ w32 _ (c .before .before .before .fits .delta))
+returns c =
+    c .from-frame-count .ensures ∙ moved-at _ _ _ _ _ (c .before .to-frame-count .ensures) (c .before .before .before .day .ensures) (passed-mod _ _ _ (c .before .before .before .before .fits .delta) (c .before .before .reduced .ensures))
 
 pub add-frames-spec : {M : Type 1} → statement M
 add-frames-spec =
     tie.close
     (tie.spec
-    enum-told
-    moved-requires
-    enum-told-2
-    moved-requires-2
-    enum-told-3
+    day-requires
+    reduced-requires
     to-frame-count-requires
-    drop-moved-requires
-    drop-label-requires
-    enum-told-4
-    moved-requires-3
-    returns
-    returns-2
-    returns-3
-    returns-4)
+    add-from-frame-count
+    from-frame-count-requires
+    returns)

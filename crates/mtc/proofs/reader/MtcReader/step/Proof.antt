@@ -10,11 +10,11 @@ taken-requires c κs = search needs
 from-byte-requires : tie.Need-from-byte-requires
 from-byte-requires c κs = search needs
 
-order-requires : tie.Need-order-requires
-order-requires c κs = search needs
+order-of-requires : tie.Need-order-of-requires
+order-of-requires c κs = search needs
 
-number-requires : tie.Need-number-requires
-number-requires c κs = sound-count _ (c .before .before .taken .ensures .1)
+number-of-requires : tie.Need-number-of-requires
+number-of-requires c κs = sound-count _ (c .before .before .taken .ensures .1)
 
 passed-requires : tie.Need-passed-requires
 passed-requires c κs = search needs
@@ -24,7 +24,7 @@ event-requires c κs = search needs
 
 returns : tie.Need-returns
 returns c =
-    passes _ _ (c .before .before .before .before .before .before .taken .ensures .0) (c .before .before .before .before .before .from-byte .ensures) (c .before .before .before .before .order .ensures) (c .before .before .before .number .ensures .0)
+    passes _ _ (c .before .before .before .before .before .before .taken .ensures .0) (c .before .before .before .before .before .from-byte .ensures) (c .before .before .before .before .order-of .ensures) (c .before .before .before .number-of .ensures .0)
     (c .before .before .if1 .taken) (c .before .passed .ensures) (c .event .ensures)
 
 stored-requires : tie.Need-stored-requires
@@ -37,7 +37,7 @@ complete-requires c κs =
 
 returns-2 : tie.Need-returns-2
 returns-2 c =
-    completes _ _ (c .before .before .before .before .before .before .before .taken .ensures .0) (c .before .before .before .before .before .before .from-byte .ensures) (c .before .before .before .before .before .order .ensures) (c .before .before .before .before .number .ensures .0)
+    completes _ _ (c .before .before .before .before .before .before .before .taken .ensures .0) (c .before .before .before .before .before .before .from-byte .ensures) (c .before .before .before .before .before .order-of .ensures) (c .before .before .before .before .number-of .ensures .0)
     (c .before .if2 .taken) (c .before .before .stored .ensures) (c .complete .ensures)
 
 event-requires-2 : tie.Need-event-requires-2
@@ -45,7 +45,7 @@ event-requires-2 c κs = search needs
 
 returns-3 : tie.Need-returns-3
 returns-3 c =
-    keeps _ _ (c .before .before .before .before .before .before .before .taken .ensures .0) (c .before .before .before .before .before .before .from-byte .ensures) (c .before .before .before .before .before .order .ensures) (c .before .before .before .before .number .ensures .0)
+    keeps _ _ (c .before .before .before .before .before .before .before .taken .ensures .0) (c .before .before .before .before .before .before .from-byte .ensures) (c .before .before .before .before .before .order-of .ensures) (c .before .before .before .before .number-of .ensures .0)
     (c .before .before .before .if1 .left) (c .before .if2 .left) (c .before .before .stored .ensures) (c .event2 .ensures)
 
 pub step-spec : {M : Type 1} → statement M
@@ -54,8 +54,8 @@ step-spec =
     (tie.spec
     taken-requires
     from-byte-requires
-    order-requires
-    number-requires
+    order-of-requires
+    number-of-requires
     passed-requires
     event-requires
     returns

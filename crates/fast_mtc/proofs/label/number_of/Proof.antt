@@ -1,0 +1,71 @@
+-- `fast_mtc::label::number_of` meets its contract. Assumes nothing.
+use Rattle.fast_mtc.specs.Label.{labelNumber}
+use borrow.Author.Needs.{needs}
+use Rattle.fast_mtc.proofs.label.number_of.Statement.{statement}
+use Rattle.fast_mtc.proofs.label.number_of.Tie as tie
+
+cast-result : tie.Need-cast-result
+cast-result c = search needs
+
+cast-result-2 : tie.Need-cast-result-2
+cast-result-2 c = search needs
+
+mul-result : tie.Need-mul-result
+mul-result c = search needs
+
+add-result : tie.Need-add-result
+add-result c = search needs
+
+cast-result-3 : tie.Need-cast-result-3
+cast-result-3 c = search needs
+
+mul-result-2 : tie.Need-mul-result-2
+mul-result-2 c = search needs
+
+add-result-2 : tie.Need-add-result-2
+add-result-2 c = search needs
+
+cast-result-4 : tie.Need-cast-result-4
+cast-result-4 c = search needs
+
+mul-result-3 : tie.Need-mul-result-3
+mul-result-3 c = search needs
+
+add-result-3 : tie.Need-add-result-3
+add-result-3 c = search needs
+
+into-bits-requires : tie.Need-into-bits-requires
+into-bits-requires c κs = search needs
+
+cast-result-5 : tie.Need-cast-result-5
+cast-result-5 c = search needs
+
+mul-result-4 : tie.Need-mul-result-4
+mul-result-4 c = search needs
+
+add-result-4 : tie.Need-add-result-4
+add-result-4 c = search needs
+
+returns : tie.Need-returns
+unfolding labelNumber
+returns c = rw (c .into-bits .ensures)
+
+pub number-of-spec : {M : Type 1} → statement M
+number-of-spec =
+    tie.close
+    (tie.spec
+    cast-result
+    cast-result-2
+    mul-result
+    add-result
+    cast-result-3
+    mul-result-2
+    add-result-2
+    cast-result-4
+    mul-result-3
+    add-result-3
+    into-bits-requires
+    cast-result-5
+    mul-result-4
+    add-result-4
+    returns)
