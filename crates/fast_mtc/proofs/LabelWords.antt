@@ -1,12 +1,12 @@
 -- A label in a word, and its mark. Assumes nothing.
 use Prim.Native.Nat.{ℕ, _+_, _*_, _/_, _%_, _≤_}
 use mathlib.Core.Bool.{true}
-use mathlib.Core.Path.{_≡_, refl}
+use mathlib.Core.Path.{_≡_, refl, ap}
 use native.Mathlib.Omega.{arith}
 use lib.Dec.{lit≤}
 use Rattle.fast_mtc.specs.Generator.{isSet}
 use Rattle.fast_mtc.specs.Reader.{labelIn, timeIn}
-use Rattle.labels.specs.Time.{bitsOf, typeOf}
+use Rattle.labels.specs.Time.{bitsOf, rateAt, typeOf}
 use Rattle.labels.specs.declared.time.MtcTime.{MtcTime}
 use Rattle.labels.specs.declared.time.TimeCodeType.{TimeCodeType}
 use Rattle.labels.specs.declared.time.TimeCodeType.the-variants.{Fps24, Fps25, Fps30Drop, Fps30}
@@ -52,3 +52,7 @@ mark-rate Fps30 = refl
 pub marked : (t : MtcTime) (m w : ℕ) → m ≡ 1 + 2 * bitsOf (t .rate) → labelIn (t .rate) w ≡ t → timeIn m w ≡ Time t
 unfolding timeIn
 marked t m w em e = rw (em, mark-set (t .rate), mark-rate (t .rate), e)
+
+-- Two bits of a mark are its rate.
+pub rate-in : (m : ℕ) → typeOf (m / 2 % 4) ≡ typeOf (m / 2)
+rate-in m = let e : m / 2 % 4 % 4 ≡ m / 2 % 4 = omega arith in ap rateAt e

@@ -1,6 +1,6 @@
 -- A piece that is not the next one of a sequence, by the words: what the stores of each way through `receive` leave is the plain
 -- reader's. Assumes nothing.
-use Prim.Native.Nat.{ℕ, _+_, _%_, _≤_, _<_}
+use Prim.Native.Nat.{ℕ, _+_, _*_, _%_, _≤_, _<_}
 use mathlib.Core.Bool.{Bool, true, false, cond, _&&_}
 use mathlib.Core.List.{List}
 use mathlib.Core.Path.{_≡_, refl, sym, subst, ap, _∙_}
@@ -8,18 +8,23 @@ use native.Mathlib.Omega.{arith}
 use borrow.Author.Tests.{eq-eqb, ne-eqb, lt-ltb, le-ltb}
 use lib.Dec.{ltb, eqb, lit≤}
 use lib.ListN.{length, getD, set, length-set}
+use Rattle.mtc.proofs.Laws.{as-is}
 use Rattle.mtc.specs.QuarterFrame.{pieceOf, valueOf}
-use Rattle.mtc.specs.Reader.{control, ordered, orderAfter, starts, numberAfter, stored, readerBy, eventWith}
+use Rattle.mtc.specs.Reader.{control, ordered, orderAfter, starts, numberAfter, stored, readerBy, eventWith, informed, afterFullMessage}
 use Rattle.mtc.specs.declared.generator.Direction.the-variants.{Forward, Reverse}
 use Rattle.mtc.specs.declared.reader.MaybeDirection.{MaybeDirection}
 use Rattle.mtc.specs.declared.reader.MaybeDirection.the-variants.{NoDirection, Going}
 use Rattle.mtc.specs.declared.reader.MaybeSequence.the-variants.{NoSequence}
+use Rattle.mtc.specs.declared.reader.MaybeTime.the-variants.{Time}
 use Rattle.mtc.specs.declared.reader.MtcReader.{MtcReader}
+use Rattle.labels.specs.Time.{bitsOf}
+use Rattle.labels.specs.declared.time.MtcTime.{MtcTime}
 use Rattle.fast_mtc.specs.Generator.{isSet}
-use Rattle.fast_mtc.specs.Inner.{FirstKept, Passed}
-use Rattle.fast_mtc.specs.Reader.{wayIn, lastIn, countIn, firstIn, nibblesIn, readerIn, flatEvent, Received}
-use Rattle.fast_mtc.proofs.Orders.{standingIn, standing-none}
-use Rattle.fast_mtc.proofs.Receiving.{Alike, passes, kept, stand-in, count-at, own-order}
+use Rattle.fast_mtc.specs.Inner.{FirstKept, Passed, Stopped}
+use Rattle.fast_mtc.specs.Reader.{wayIn, lastIn, countIn, firstIn, nibblesIn, labelIn, timeIn, readerIn, flatEvent, Received}
+use Rattle.fast_mtc.proofs.LabelWords.{marked}
+use Rattle.fast_mtc.proofs.Orders.{standingIn, standing-none, first-small}
+use Rattle.fast_mtc.proofs.Receiving.{Alike, passes, kept, stand-in, count-at, own-order, sound-in}
 use Rattle.fast_mtc.proofs.Spelled.{spelled, by-words, by-piece}
 
 -- ---- a piece in the direction that it leaves
@@ -71,6 +76,36 @@ none-begins-0 ws v e = by-words (λ (l : List ℕ). Begins NoDirection 40 0 l v)
 pub none-begins-7 : (ws : List ℕ) (v : ℕ) → length ws ≡ 15 → Begins NoDirection 41 7 ws v
 unfolding readerIn nibblesIn wayIn lastIn countIn firstIn
 none-begins-7 ws v e = by-words (λ (l : List ℕ). Begins NoDirection 41 7 l v) ws e refl
+
+-- As the code leaves it.
+module _ (ws : List ℕ) (b p x : ℕ) where
+  pub forward-passed : p ≤ 7 → FirstKept ws → (p ≡ 0 → ⊥) → x ≡ flatEvent (eventWith p NoSequence)
+      → Passed (Going Forward) ws p (valueOf b) x (set ws 8 (16 + (p + 1) % 8))
+  forward-passed h k z ex = record { event = ex; reader = forward-passes ws b p (k .words) h z (k .first) }
+
+  pub reverse-passed : p ≤ 7 → FirstKept ws → (p ≡ 7 → ⊥) → x ≡ flatEvent (eventWith p NoSequence)
+      → Passed (Going Reverse) ws p (valueOf b) x (set ws 8 (24 + (p + 7) % 8))
+  reverse-passed h k z ex = record { event = ex; reader = reverse-passes ws b p (k .words) h z (k .first) }
+
+  pub none-passed : p ≤ 7 → FirstKept ws → (p ≡ 0 → ⊥) → (p ≡ 7 → ⊥) → x ≡ flatEvent (eventWith p NoSequence)
+      → Passed NoDirection ws p (valueOf b) x (set ws 8 (32 + p))
+  none-passed h k y z ex = record { event = ex; reader = none-passes ws b p (k .words) h y z (k .first) }
+
+  pub forward-begun : FirstKept ws → p ≡ 0 → x ≡ flatEvent (eventWith 0 NoSequence)
+      → Passed (Going Forward) ws p (valueOf b) x (set (set ws 0 b) 8 1)
+  forward-begun k z ex = rw z (record { event = ex; reader = forward-begins ws b (k .words) })
+
+  pub reverse-begun : FirstKept ws → p ≡ 7 → x ≡ flatEvent (eventWith 7 NoSequence)
+      → Passed (Going Reverse) ws p (valueOf b) x (set (set ws 7 b) 8 14)
+  reverse-begun k z ex = rw z (record { event = ex; reader = reverse-begins ws b (k .words) })
+
+  pub none-begun-0 : FirstKept ws → p ≡ 0 → x ≡ flatEvent (eventWith 0 NoSequence)
+      → Passed NoDirection ws p (valueOf b) x (set (set ws 0 b) 8 40)
+  none-begun-0 k z ex = rw z (record { event = ex; reader = none-begins-0 ws b (k .words) })
+
+  pub none-begun-7 : FirstKept ws → p ≡ 7 → x ≡ flatEvent (eventWith 7 NoSequence)
+      → Passed NoDirection ws p (valueOf b) x (set (set ws 7 b) 8 41)
+  none-begun-7 k z ex = rw z (record { event = ex; reader = none-begins-7 ws b (k .words) })
 
 -- ---- what the stores before it leave
 
@@ -132,6 +167,18 @@ module _ (ws : List ℕ) (e : length ws ≡ 15) where
         words = length-set ws 10 0 ∙ e;
       }
 
+  pub kept-forward-out : 16 ≤ getD ws 8 0 → getD ws 8 0 < 24 → FirstKept ws
+  kept-forward-out h l = kept-as-is h (λ x. let y : getD ws 8 0 ≡ 40 = x in omega arith) (λ x. let y : getD ws 8 0 ≡ 41 = x in omega arith)
+
+  pub kept-reverse-out : 24 ≤ getD ws 8 0 → getD ws 8 0 < 32 → FirstKept ws
+  kept-reverse-out h l = kept-as-is (omega arith) (λ x. let y : getD ws 8 0 ≡ 40 = x in omega arith) (λ x. let y : getD ws 8 0 ≡ 41 = x in omega arith)
+
+  pub kept-undirected : 32 ≤ getD ws 8 0 → getD ws 8 0 < 40 → FirstKept ws
+  kept-undirected h l = kept-as-is (omega arith) (λ x. let y : getD ws 8 0 ≡ 40 = x in omega arith) (λ x. let y : getD ws 8 0 ≡ 41 = x in omega arith)
+
+  pub kept-none : 42 ≤ getD ws 8 0 → FirstKept ws
+  kept-none h = kept-as-is (omega arith) (λ x. let y : getD ws 8 0 ≡ 40 = x in omega arith) (λ x. let y : getD ws 8 0 ≡ 41 = x in omega arith)
+
   kept-first : (f : ℕ) → firstIn (getD ws 8 0) f ≡ f % 8 → FirstKept (set ws 9 f)
   kept-first f h =
       record {
@@ -157,6 +204,9 @@ module _ (ws : List ℕ) (e : length ws ≡ 15) where
 
   pub kept-7 : getD ws 8 0 ≡ 41 → FirstKept (set ws 9 7) × FirstKept (set (set ws 9 7) 10 0)
   kept-7 h = let x : firstIn (getD ws 8 0) 7 ≡ 7 = first-begun-7 (getD ws 8 0) 7 h in (kept-first 7 x, kept-both 7 x)
+
+pub below-40 : (k : ℕ) → k < 42 → (k ≡ 40 → ⊥) → (k ≡ 41 → ⊥) → k < 40
+below-40 k h y z = omega (arith, y, z)
 
 -- ---- the ways through `receive`
 
@@ -337,3 +387,37 @@ begun-7-on ws b x e h t ex =
     (subst (λ (l : List ℕ). readerIn (set (set l 6 b) 8 13) ≡ stored (readerIn l) (ordered true (Going Reverse) true) 2 6 (valueOf b)) (own-order ws 41 e h) (on-7 ws b e)
     ∙ ap (λ (q : ℕ). stored (readerIn ws) (ordered true (Going Reverse) true) 2 q (valueOf b)) (sym t))
     (ex ∙ ap (λ (q : ℕ). flatEvent (eventWith q NoSequence)) (sym t))
+
+-- ---- a full message
+
+module _ (k : ℕ) where
+  pub stopped-none : wayIn k ≡ NoDirection → Stopped k 44
+  unfolding wayIn lastIn countIn firstIn
+  stopped-none h = record { direction = sym h; last = refl; count = refl; first = λ f. refl; running = refl }
+
+  pub stopped-forward : wayIn k ≡ Going Forward → Stopped k 42
+  unfolding wayIn lastIn countIn firstIn
+  stopped-forward h = record { direction = sym h; last = refl; count = refl; first = λ f. refl; running = refl }
+
+  pub stopped-reverse : wayIn k ≡ Going Reverse → Stopped k 43
+  unfolding wayIn lastIn countIn firstIn
+  stopped-reverse h = record { direction = sym h; last = refl; count = refl; first = λ f. refl; running = refl }
+
+low : (n : ℕ) → n ≤ 7 → n % 8 ≡ n
+low n h = omega arith
+
+informs-in : (ws : List ℕ) (t : MtcTime) (o f m w : ℕ) → length ws ≡ 15 → Stopped (getD ws 8 0) o
+    → f ≡ firstIn (getD ws 8 0) (getD (set ws 8 o) 9 0) → timeIn m w ≡ Time t
+    → readerIn (set (set (set (set (set (set ws 8 o) 9 f) 10 0) 11 0) 13 m) 14 w) ≡ informed (readerIn ws) t
+unfolding readerIn nibblesIn timeIn
+informs-in ws t o f m w e =
+    by-words
+    (λ (l : List ℕ). Stopped (getD l 8 0) o → f ≡ firstIn (getD l 8 0) (getD (set l 8 o) 9 0) → timeIn m w ≡ Time t → readerIn (set (set (set (set (set (set l 8 o) 9 f) 10 0) 11 0) 13 m) 14 w) ≡ informed (readerIn l) t)
+    ws e
+    (λ s ef et. rw (s .direction, s .last, s .count, s .first f, s .running, et, ef) (rw (low (firstIn (getD (spelled 15 ws) 8 0) (getD (spelled 15 ws) 9 0)) (first-small (getD (spelled 15 ws) 8 0) (getD (spelled 15 ws) 9 0)))))
+
+pub informs : (ws : List ℕ) (t : MtcTime) (o f m w : ℕ) → length ws ≡ 15 → Stopped (getD ws 8 0) o
+    → f ≡ firstIn (getD ws 8 0) (getD (set ws 8 o) 9 0) → m ≡ 1 + 2 * bitsOf (t .rate) → labelIn (t .rate) w ≡ t
+    → readerIn (set (set (set (set (set (set ws 8 o) 9 f) 10 0) 11 0) 13 m) 14 w) ≡ afterFullMessage (readerIn ws) t
+informs ws t o f m w e s ef em ew =
+    informs-in ws t o f m w e s ef (marked t m w em ew) ∙ sym (ap (λ (r : MtcReader). informed r t) (as-is (readerIn ws) (sound-in ws)))

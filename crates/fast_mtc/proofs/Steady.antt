@@ -1,34 +1,37 @@
 -- A label that comes a sequence after the previous one, with the current one, all in one second; and the words with both labels of a
 -- report. Assumes nothing.
 use Prim.Native.Nat.{ℕ, _+_, _-_, _*_, _/_, _%_, _≤_, _<_}
-use mathlib.Core.Bool.{true, false}
+use mathlib.Core.Bool.{Bool, true, false, not}
 use mathlib.Core.List.{List}
 use mathlib.Core.Path.{_≡_, refl, sym, ap, _∙_}
 use native.Mathlib.Omega.{arith}
-use borrow.Author.Tests.{eq-eqb, eqb-true}
+use borrow.Author.Tests.{eq-eqb, ne-eqb, eqb-true}
 use lib.Dec.{T, eqb, lit≤}
 use lib.IntN.{pos, negsuc}
 use lib.ListN.{length, getD, set}
 use Rattle.fast_mtc.specs.Generator.{isSet}
 use Rattle.fast_mtc.specs.Inner.{Ended, Steady, steady}
-use Rattle.fast_mtc.specs.Reader.{labelIn, timeIn, nibblesIn, readerIn, flatEvent}
+use Rattle.fast_mtc.specs.Reader.{labelIn, timeIn, nibblesIn, readerIn, flatEvent, labelOr, reportIn, flatSequence, flatMaybeSequence}
+use Rattle.fast_mtc.specs.Time.{flatTime, noTime}
+use Rattle.fast_mtc.specs.declared.time.FlatTime.{FlatTime}
+use Rattle.fast_mtc.proofs.Events.{direction-low}
 use Rattle.fast_mtc.proofs.LabelWords.{marked}
 use Rattle.fast_mtc.proofs.ShortWays.{two-fit, one-earlier, two-earlier}
 use Rattle.fast_mtc.proofs.Spelled.{by-words}
 use Rattle.labels.proofs.Laws.{fps-small, two-later}
 use Rattle.labels.specs.St12.{label, framesPerSecond}
-use Rattle.labels.specs.Time.{addFrames, bitsOf}
+use Rattle.labels.specs.Time.{addFrames, bitsOf, rawTime}
 use Rattle.labels.specs.declared.time.MtcTime.{MtcTime}
 use Rattle.mtc.proofs.Laws.{sequence-of}
-use Rattle.mtc.specs.Generator.{final}
-use Rattle.mtc.specs.Reader.{rawOf, directionOf, reported, sameTime, sequenceOf, completed, eventWith}
+use Rattle.mtc.specs.Generator.{final, move}
+use Rattle.mtc.specs.Reader.{rawOf, directionOf, reported, sameTime, jumps, sequenceOf, completed, eventWith}
 use Rattle.mtc.specs.declared.generator.Direction.{Direction}
 use Rattle.mtc.specs.declared.generator.Direction.the-variants.{Forward, Reverse}
 use Rattle.mtc.specs.declared.reader.MaybeDirection.{MaybeDirection}
 use Rattle.mtc.specs.declared.reader.MaybeDirection.the-variants.{Going}
 use Rattle.mtc.specs.declared.reader.MaybeSequence.the-variants.{Sequence}
 use Rattle.mtc.specs.declared.reader.MaybeTime.{MaybeTime}
-use Rattle.mtc.specs.declared.reader.MaybeTime.the-variants.{Time}
+use Rattle.mtc.specs.declared.reader.MaybeTime.the-variants.{NoTime, Time}
 use Rattle.mtc.specs.declared.reader.MtcReader.{MtcReader}
 use Rattle.mtc.specs.declared.reader.MtcSequence.{MtcSequence}
 
@@ -165,3 +168,40 @@ completes ws d s x a b c w e ea eb ec ew ex es =
       event = ex ∙ ap (λ (q : MtcSequence). flatEvent (eventWith (final d) (Sequence q))) es;
       reader = with-labels ws a b c w (s .raw) (s .current) e (marked (s .raw) a b ea eb) (marked (s .current) c w ec ew) ∙ rw es;
     }
+
+-- There is a previous label, moved on by a sequence.
+pub jumps-from : (m : MaybeTime) (t u raw : MtcTime) (d : Direction) (b : Bool) → m ≡ Time t → u ≡ addFrames t (move d) → b ≡ sameTime u raw
+    → not b ≡ jumps m d raw
+jumps-from m t u raw d b em eu eb = rw (em, eb, eu)
+
+-- ---- what the words hold
+
+pub previous-at : (ws : List ℕ) → timeIn (getD ws 11 0) (getD ws 12 0) ≡ readerIn ws .previous
+unfolding readerIn
+previous-at ws = refl
+
+pub raw-is : (ws : List ℕ)
+    → rawTime (getD ws 6 0 % 16 + getD ws 7 0 % 16 * 16) (getD ws 4 0 % 16 + getD ws 5 0 % 16 * 16) (getD ws 2 0 % 16 + getD ws 3 0 % 16 * 16) (getD ws 0 0 % 16 + getD ws 1 0 % 16 * 16)
+    ≡ rawOf (nibblesIn ws)
+unfolding nibblesIn
+raw-is ws = refl
+
+-- ---- a report as a record
+
+pub no-label : (m : MaybeTime) (r : FlatTime) → m ≡ NoTime → r ≡ noTime → r ≡ flatTime (labelOr m)
+unfolding flatTime
+no-label m r em er = rw (em, er)
+
+pub some-label : (m : MaybeTime) (t : MtcTime) (r : FlatTime) → m ≡ Time t → r ≡ flatTime t → r ≡ flatTime (labelOr m)
+some-label m t r em er = rw (em, er)
+
+pub not-reported : (ws : List ℕ) (n : ℕ) (a b : FlatTime) → n % 2 ≡ 0 → a ≡ noTime → b ≡ noTime
+    → record { present = false; sequence = record { raw = a; current = b; direction = 0; discontinuity = false } } ≡ flatMaybeSequence (reportIn (readerIn ws) n)
+unfolding flatMaybeSequence reportIn
+not-reported ws n a b h ea eb = rw (ea, eb, eq-eqb (n % 2) 0 h)
+
+pub is-reported : (ws : List ℕ) (n : ℕ) (m u : MaybeTime) (a b : FlatTime) → (n % 2 ≡ 0 → ⊥) → m ≡ readerIn ws .previous → a ≡ flatTime (labelOr m)
+    → u ≡ readerIn ws .time → b ≡ flatTime (labelOr u)
+    → record { present = true; sequence = record { raw = a; current = b; direction = n / 2 % 2; discontinuity = isSet (n / 4 % 2) } } ≡ flatMaybeSequence (reportIn (readerIn ws) n)
+unfolding flatMaybeSequence flatSequence reportIn
+is-reported ws n m u a b h em ea eu eb = rw (ea, eb, em, eu, ne-eqb (n % 2) 0 h, direction-low n)

@@ -1,34 +1,28 @@
+-- `fast_mtc::words::flat_maybe_time` meets its contract. Assumes nothing.
+use Rattle.fast_mtc.specs.Reader.{flatMaybeTime}
 use borrow.Author.Needs.{needs}
 use Rattle.fast_mtc.proofs.words.flat_maybe_time.Statement.{statement}
 use Rattle.fast_mtc.proofs.words.flat_maybe_time.Tie as tie
-use Rattle.fast_mtc.proofs.words.flat_maybe_time.Reads as reads
-use Rattle.fast_mtc.proofs.words.flat_maybe_time.Lts as lts
-use Rattle.fast_mtc.proofs.time.flat_time.Reads as flat-time-reads
-use Rattle.fast_mtc.proofs.time.no_time.Reads as no-time-reads
 
--- src/words.rt:210:19
 enum-told : tie.Need-enum-told
 enum-told c = search needs
 
--- src/words.rt:210:19
 no-time-requires : tie.Need-no-time-requires
 no-time-requires c κs = search needs
 
--- src/words.rt:212:25
 enum-known-t : tie.Need-enum-known-t
 enum-known-t c = search needs
 
--- src/words.rt:214:19
 flat-time-requires : tie.Need-flat-time-requires
 flat-time-requires c κs = search needs
 
--- src/words.rt:204:1
 returns : tie.Need-returns
-returns c = ?
+unfolding flatMaybeTime
+returns c = cc
 
--- src/words.rt:204:1
 returns-2 : tie.Need-returns-2
-returns-2 c = ?
+unfolding flatMaybeTime
+returns-2 c = cc
 
 pub flat-maybe-time-spec : {M : Type 1} → statement M
 flat-maybe-time-spec =
