@@ -7,7 +7,9 @@ use super::lib::mmc::{FinalByte, InfoFields, MmcCommand, StandardTimeCode};
 use super::lib::mtc::{Direction, MtcGenerator, MtcReader, MtcTime, TimeCodeType};
 use super::lib::universal::Universal;
 use crate::case::Case;
-use crate::inputs::{self, BODIES, BODY, GP0, LIST, LOCATE_PLAY, ROOM, ROUND};
+use crate::inputs::{
+    self, BODIES, BODY, DROP_FRAME, FPS_24, FPS_25, GP0, LIST, LOCATE_PLAY, ROOM, ROUND,
+};
 
 /// Every case, in the order of the tables.
 pub fn all() -> Vec<Case> {
@@ -15,10 +17,31 @@ pub fn all() -> Vec<Case> {
         receive("receive", inputs::stream(ROUND)),
         receive("receive_back", inputs::stream_back(ROUND)),
         receive_list(),
-        next_byte(),
-        to_frame_count(),
-        from_frame_count(),
-        add_frames(),
+        next_byte(
+            "next_byte",
+            MtcGenerator::new(start(DROP_FRAME), Direction::Forward),
+        ),
+        next_byte(
+            "next_byte_back",
+            MtcGenerator::new(start(DROP_FRAME), Direction::Reverse),
+        ),
+        next_byte(
+            "next_byte_24",
+            MtcGenerator::new(start(FPS_24), Direction::Forward),
+        ),
+        next_byte(
+            "next_byte_25",
+            MtcGenerator::new(start(FPS_25), Direction::Forward),
+        ),
+        to_frame_count("to_frame_count", DROP_FRAME),
+        to_frame_count("to_frame_count_24", FPS_24),
+        to_frame_count("to_frame_count_25", FPS_25),
+        from_frame_count("from_frame_count", DROP_FRAME),
+        from_frame_count("from_frame_count_24", FPS_24),
+        from_frame_count("from_frame_count_25", FPS_25),
+        add_frames("add_frames", DROP_FRAME),
+        add_frames("add_frames_24", FPS_24),
+        add_frames("add_frames_25", FPS_25),
         write(),
         write_mixed(),
         read_back(),
@@ -38,13 +61,13 @@ pub const fn commands(data: &[u8]) -> Universal<'_> {
     }
 }
 
-fn drop_frame([hours, minutes, seconds, frames]: [u8; 4]) -> MtcTime {
+fn label(rate: u8, [hours, minutes, seconds, frames]: [u8; 4]) -> MtcTime {
     MtcTime {
         hours,
         minutes,
         seconds,
         frames,
-        rate: TimeCodeType::Fps30Drop,
+        rate: TimeCodeType::from_bits(rate),
     }
 }
 
@@ -72,35 +95,39 @@ fn receive_list() -> Case {
     })
 }
 
-fn next_byte() -> Case {
-    let mut generator = MtcGenerator::new(drop_frame([0, 59, 30, 0]), Direction::Forward);
-    Case::new("next_byte", move |_| {
+/// Where the generators start.
+fn start(rate: u8) -> MtcTime {
+    label(rate, [0, 59, 30, 0])
+}
+
+fn next_byte(name: &'static str, mut generator: MtcGenerator) -> Case {
+    Case::new(name, move |_| {
         let byte = black_box(boundary::next_byte(black_box(&mut generator)));
         byte.map_or(1000, u64::from)
     })
 }
 
-fn to_frame_count() -> Case {
-    let labels = Box::new(inputs::labels().map(drop_frame));
-    Case::new("to_frame_count", move |turn| {
+fn to_frame_count(name: &'static str, rate: u8) -> Case {
+    let labels = Box::new(inputs::labels(rate).map(|counts| label(rate, counts)));
+    Case::new(name, move |turn| {
         let time = black_box(&labels[turn % ROUND]);
         u64::from(black_box(boundary::to_frame_count(time)))
     })
 }
 
-fn from_frame_count() -> Case {
-    let counts = inputs::counts();
-    Case::new("from_frame_count", move |turn| {
+fn from_frame_count(name: &'static str, rate: u8) -> Case {
+    let counts = inputs::counts(rate);
+    Case::new(name, move |turn| {
         let count = black_box(counts[turn % ROUND]);
-        let rate = black_box(TimeCodeType::Fps30Drop);
+        let rate = black_box(TimeCodeType::from_bits(rate));
         number(black_box(boundary::from_frame_count(count, rate)))
     })
 }
 
-fn add_frames() -> Case {
-    let labels = Box::new(inputs::labels().map(drop_frame));
-    let deltas = inputs::deltas();
-    Case::new("add_frames", move |turn| {
+fn add_frames(name: &'static str, rate: u8) -> Case {
+    let labels = Box::new(inputs::labels(rate).map(|counts| label(rate, counts)));
+    let deltas = inputs::deltas(rate);
+    Case::new(name, move |turn| {
         let time = black_box(labels[turn % ROUND]);
         let delta = black_box(deltas[turn % ROUND]);
         number(black_box(boundary::add_frames(time, delta)))
@@ -109,7 +136,7 @@ fn add_frames() -> Case {
 
 fn write() -> Case {
     let target = StandardTimeCode {
-        time: drop_frame([1, 37, 52, 16]),
+        time: label(DROP_FRAME, [1, 37, 52, 16]),
         color_frame: false,
         blank: false,
         negative: false,

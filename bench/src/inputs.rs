@@ -17,8 +17,17 @@ pub const GP0: [u8; 6] = [0x08, 0x21, 2, 3, 4, 5];
 /// Room for a whole message.
 pub const ROOM: usize = 64;
 
-/// The frames of a day at 30 drop-frame.
-const DAY: u64 = 2_589_408;
+/// The rates whose labels are measured, by their two bits.
+pub const FPS_24: u8 = 0;
+pub const FPS_25: u8 = 1;
+pub const DROP_FRAME: u8 = 2;
+
+/// The frames of a day at each rate.
+const DAYS: [u64; 4] = [2_073_600, 2_160_000, 2_589_408, 2_592_000];
+
+const fn day(rate: u8) -> u64 {
+    DAYS[rate as usize]
+}
 
 /// Pseudo-random numbers from a fixed seed (splitmix64).
 struct Rng(u64);
@@ -54,25 +63,25 @@ fn running(length: usize, direction: Direction) -> Vec<u8> {
     (0..length).filter_map(|_| generator.next_byte()).collect()
 }
 
-/// Counts of the whole day at 30 drop-frame.
-pub fn counts() -> Box<[u32; ROUND]> {
+/// Counts of the whole day at a rate.
+pub fn counts(rate: u8) -> Box<[u32; ROUND]> {
     let mut rng = Rng(1);
-    Box::new(std::array::from_fn(|_| rng.below(DAY) as u32))
+    Box::new(std::array::from_fn(|_| rng.below(day(rate)) as u32))
 }
 
 /// The labels of the counts: hours, minutes, seconds, frames.
-pub fn labels() -> Box<[[u8; 4]; ROUND]> {
-    Box::new(counts().map(|count| {
-        let t = MtcTime::from_frame_count(count, TimeCodeType::Fps30Drop);
+pub fn labels(rate: u8) -> Box<[[u8; 4]; ROUND]> {
+    Box::new(counts(rate).map(|count| {
+        let t = MtcTime::from_frame_count(count, TimeCodeType::from_bits(rate));
         [t.hours, t.minutes, t.seconds, t.frames]
     }))
 }
 
 /// Distances of up to a day either way.
-pub fn deltas() -> Box<[i32; ROUND]> {
+pub fn deltas(rate: u8) -> Box<[i32; ROUND]> {
     let mut rng = Rng(2);
     Box::new(std::array::from_fn(|_| {
-        rng.below(2 * DAY) as i32 - DAY as i32
+        rng.below(2 * day(rate)) as i32 - day(rate) as i32
     }))
 }
 

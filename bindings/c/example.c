@@ -89,7 +89,7 @@ int main(void)
     printf("ended by %u\n", (unsigned)print_commands(body, length));
 
     const fimbrast_time idle = {.rate = 1};
-    fimbrast_generator generator = fimbrast_generator_new(idle, FIMBRAST_REVERSE);
+    fimbrast_generator generator = fimbrast_generator_reverse(idle);
     const fimbrast_run run = fimbrast_obey(generator, message.device_id, RECORDER, body, length);
     printf("obeyed: %zu commands, %zu refused, ended by %u\n", run.commands, run.refused, (unsigned)run.stop);
     generator = run.generator;

@@ -85,11 +85,14 @@ typedef struct {
     uint8_t byte;
 } fimbrast_next;
 
-fimbrast_generator fimbrast_generator_new(fimbrast_time time, uint8_t direction);
+/* A running generator, whose first sequence encodes the time. */
+fimbrast_generator fimbrast_generator_forward(fimbrast_time time);
+fimbrast_generator fimbrast_generator_reverse(fimbrast_time time);
 /* The next data byte; refusal 8 while stopped, with byte 0. */
 fimbrast_next fimbrast_next_byte(fimbrast_generator *generator);
 fimbrast_generator fimbrast_set_running(fimbrast_generator generator, bool running);
-fimbrast_generator fimbrast_set_direction(fimbrast_generator generator, uint8_t direction);
+fimbrast_generator fimbrast_set_forward(fimbrast_generator generator);
+fimbrast_generator fimbrast_set_reverse(fimbrast_generator generator);
 fimbrast_generator fimbrast_locate(fimbrast_generator generator, fimbrast_time time);
 fimbrast_time fimbrast_generator_time(fimbrast_generator generator);
 

@@ -7,7 +7,7 @@ use super::ffi::{
     fimbrast_mmc_kind, fimbrast_next_byte, fimbrast_next_word, fimbrast_open_commands,
     fimbrast_put_command, fimbrast_receive, fimbrast_to_frame_count, fimbrast_write_words,
 };
-pub use super::ffi::{fimbrast_generator_new, fimbrast_reader_new};
+pub use super::ffi::{fimbrast_generator_forward, fimbrast_generator_reverse, fimbrast_reader_new};
 pub use super::ffi::{Command, Event, Generator, Part, Reader, Time, Universal, Written};
 
 /// The lowest byte of `next_word`'s number at the end: the refusal 9.

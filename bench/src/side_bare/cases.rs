@@ -4,10 +4,10 @@ use std::hint::black_box;
 
 use super::boundary::{self, Command, Part, Time, Universal, Written};
 use crate::case::Case;
-use crate::inputs::{self, BODIES, BODY, GP0, LIST, LOCATE_PLAY, ROOM, ROUND};
+use crate::inputs::{
+    self, BODIES, BODY, DROP_FRAME, FPS_24, FPS_25, GP0, LIST, LOCATE_PLAY, ROOM, ROUND,
+};
 
-const FORWARD: u8 = 0;
-const DROP_FRAME: u8 = 2;
 const PLAY: u64 = 1;
 const WRITE: u8 = 9;
 const LOCATE_FIELD: u8 = 10;
@@ -29,10 +29,31 @@ pub fn all() -> Vec<Case> {
         receive("receive", inputs::stream(ROUND)),
         receive("receive_back", inputs::stream_back(ROUND)),
         receive_list(),
-        next_byte(),
-        to_frame_count(),
-        from_frame_count(),
-        add_frames(),
+        next_byte(
+            "next_byte",
+            boundary::fimbrast_generator_forward(start(DROP_FRAME)),
+        ),
+        next_byte(
+            "next_byte_back",
+            boundary::fimbrast_generator_reverse(start(DROP_FRAME)),
+        ),
+        next_byte(
+            "next_byte_24",
+            boundary::fimbrast_generator_forward(start(FPS_24)),
+        ),
+        next_byte(
+            "next_byte_25",
+            boundary::fimbrast_generator_forward(start(FPS_25)),
+        ),
+        to_frame_count("to_frame_count", DROP_FRAME),
+        to_frame_count("to_frame_count_24", FPS_24),
+        to_frame_count("to_frame_count_25", FPS_25),
+        from_frame_count("from_frame_count", DROP_FRAME),
+        from_frame_count("from_frame_count_24", FPS_24),
+        from_frame_count("from_frame_count_25", FPS_25),
+        add_frames("add_frames", DROP_FRAME),
+        add_frames("add_frames_24", FPS_24),
+        add_frames("add_frames_25", FPS_25),
         write(),
         write_mixed(),
         read_back(),
@@ -41,13 +62,13 @@ pub fn all() -> Vec<Case> {
     ]
 }
 
-fn drop_frame([hours, minutes, seconds, frames]: [u8; 4]) -> Time {
+fn label(rate: u8, [hours, minutes, seconds, frames]: [u8; 4]) -> Time {
     Time {
         hours,
         minutes,
         seconds,
         frames,
-        rate: DROP_FRAME,
+        rate,
     }
 }
 
@@ -80,35 +101,39 @@ fn receive_list() -> Case {
     })
 }
 
-fn next_byte() -> Case {
-    let mut generator = boundary::fimbrast_generator_new(drop_frame([0, 59, 30, 0]), FORWARD);
-    Case::new("next_byte", move |_| {
+/// Where the generators start.
+fn start(rate: u8) -> Time {
+    label(rate, [0, 59, 30, 0])
+}
+
+fn next_byte(name: &'static str, mut generator: boundary::Generator) -> Case {
+    Case::new(name, move |_| {
         let byte = black_box(boundary::next_byte(black_box(&mut generator)));
         byte.map_or(1000, u64::from)
     })
 }
 
-fn to_frame_count() -> Case {
-    let labels = Box::new(inputs::labels().map(drop_frame));
-    Case::new("to_frame_count", move |turn| {
+fn to_frame_count(name: &'static str, rate: u8) -> Case {
+    let labels = Box::new(inputs::labels(rate).map(|counts| label(rate, counts)));
+    Case::new(name, move |turn| {
         let time = black_box(&labels[turn % ROUND]);
         u64::from(black_box(boundary::to_frame_count(time)))
     })
 }
 
-fn from_frame_count() -> Case {
-    let counts = inputs::counts();
-    Case::new("from_frame_count", move |turn| {
+fn from_frame_count(name: &'static str, rate: u8) -> Case {
+    let counts = inputs::counts(rate);
+    Case::new(name, move |turn| {
         let count = black_box(counts[turn % ROUND]);
-        let rate = black_box(DROP_FRAME);
+        let rate = black_box(rate);
         number(black_box(boundary::from_frame_count(count, rate)))
     })
 }
 
-fn add_frames() -> Case {
-    let labels = Box::new(inputs::labels().map(drop_frame));
-    let deltas = inputs::deltas();
-    Case::new("add_frames", move |turn| {
+fn add_frames(name: &'static str, rate: u8) -> Case {
+    let labels = Box::new(inputs::labels(rate).map(|counts| label(rate, counts)));
+    let deltas = inputs::deltas(rate);
+    Case::new(name, move |turn| {
         let time = black_box(labels[turn % ROUND]);
         let delta = black_box(deltas[turn % ROUND]);
         number(black_box(boundary::add_frames(time, delta)))

@@ -34,7 +34,8 @@ unsafe extern "C" {
     pub safe fn fimbrast_to_frame_count(time: &Time) -> u32;
     pub safe fn fimbrast_from_frame_count(count: u32, rate: u8) -> Time;
     pub safe fn fimbrast_add_frames(time: Time, delta: i32) -> Time;
-    pub safe fn fimbrast_generator_new(time: Time, direction: u8) -> Generator;
+    pub safe fn fimbrast_generator_forward(time: Time) -> Generator;
+    pub safe fn fimbrast_generator_reverse(time: Time) -> Generator;
     pub safe fn fimbrast_next_byte(generator: &mut Generator) -> Next;
     pub safe fn fimbrast_reader_new() -> Reader;
     pub safe fn fimbrast_receive(reader: &mut Reader, byte: u8) -> Event;

@@ -192,10 +192,12 @@ unsafe extern "C" {
     pub(crate) safe fn fimbrast_quarter_frame_byte(frame: QuarterFrame) -> u8;
     pub(crate) safe fn fimbrast_pieces(time: Time) -> EightBytes;
 
-    pub(crate) safe fn fimbrast_generator_new(time: Time, direction: u8) -> Generator;
+    pub(crate) safe fn fimbrast_generator_forward(time: Time) -> Generator;
+    pub(crate) safe fn fimbrast_generator_reverse(time: Time) -> Generator;
     pub(crate) safe fn fimbrast_next_byte(generator: &mut Generator) -> Next;
     pub(crate) safe fn fimbrast_set_running(generator: Generator, running: bool) -> Generator;
-    pub(crate) safe fn fimbrast_set_direction(generator: Generator, direction: u8) -> Generator;
+    pub(crate) safe fn fimbrast_set_forward(generator: Generator) -> Generator;
+    pub(crate) safe fn fimbrast_set_reverse(generator: Generator) -> Generator;
     pub(crate) safe fn fimbrast_locate(generator: Generator, time: Time) -> Generator;
     pub(crate) safe fn fimbrast_generator_time(generator: Generator) -> Time;
 

@@ -243,10 +243,6 @@ impl Hash for Direction {
 }
 
 impl Direction {
-    const fn flat(self) -> u8 {
-        self as u8
-    }
-
     /// The direction of a record that always has one.
     const fn of(direction: u8) -> Self {
         match direction {
@@ -350,9 +346,11 @@ by_view!(MtcGenerator);
 impl MtcGenerator {
     /// A running generator. Its first sequence encodes `time`, from piece 0 forward or piece 7 in reverse.
     pub fn new(time: MtcTime, direction: Direction) -> Self {
-        Self {
-            record: ffi::fimbrast_generator_new(time.flat(), direction.flat()),
-        }
+        let record = match direction {
+            Direction::Forward => ffi::fimbrast_generator_forward(time.flat()),
+            Direction::Reverse => ffi::fimbrast_generator_reverse(time.flat()),
+        };
+        Self { record }
     }
 
     /// The data byte of the next piece, or `None` while stopped. The time moves 2 frames as a sequence follows another
@@ -374,7 +372,10 @@ impl MtcGenerator {
 
     /// Changes the direction. The next piece is the one beside the last in that direction.
     pub fn set_direction(&mut self, direction: Direction) {
-        self.record = ffi::fimbrast_set_direction(self.record, direction.flat());
+        self.record = match direction {
+            Direction::Forward => ffi::fimbrast_set_forward(self.record),
+            Direction::Reverse => ffi::fimbrast_set_reverse(self.record),
+        };
     }
 
     /// Moves to `time`. The next piece is the first of the direction.

@@ -8,14 +8,14 @@ use native.Mathlib.Nat.{mod-eq-of-lt, mul-le-mul-left}
 use native.Mathlib.Omega.{arith}
 use lib.Dec.{T, lit<, lit≤}
 use lib.IntN.{ℤ, pos, negsuc}
-use mir.Syntax.{w32}
+use mir.Syntax.{w32, w64}
 use mir.Val.{Fits}
 use Rattle.labels.specs.declared.time.MtcTime.{MtcTime}
 use Rattle.labels.specs.declared.time.TimeCodeType.{TimeCodeType}
 use Rattle.labels.specs.declared.time.TimeCodeType.the-variants.{Fps24, Fps25, Fps30Drop, Fps30}
 use Rattle.labels.specs.St12.{label, framesPerSecond, isDropFrame, isValid}
-use Rattle.labels.specs.Time.{bitsOf, dayOf, formula, frameCount, digits, labelAt, modZ, addFrames}
-use Rattle.labels.proofs.Laws.{count-by-formula, count-below, even-label, drop-split, label-round, moved-by-count, moved-by-sum, moved-by-none, moved-valid, moved-rate, two-later, frames-later, in-range-valid, mod-below, valid-widths, fps-small, day-positive, day-small}
+use Rattle.labels.specs.Time.{bitsOf, typeOf, dayOf, formula, frameCount, digits, labelAt, modZ, addFrames}
+use Rattle.labels.proofs.Laws.{count-by-formula, count-below, even-label, drop-split, label-round, moved-by-count, moved-by-sum, moved-by-none, moved-valid, two-later, frames-later, in-range-valid, mod-below, valid-widths, fps-small, day-positive, day-small}
 use Rattle.fast_mtc.specs.Label.{labelNumber}
 
 -- ---- rates by their bits
@@ -116,11 +116,9 @@ by-quotient n m x k em ex h =
 pub drop-at : (n k : ℕ) (s : TimeCodeType) → bitsOf s ≡ 2 → k ≡ n % 2589408 → labelAt k Fps30Drop ≡ labelAt n s
 drop-at n k s e h = rw (h, is-drop s e) (label-round n Fps30Drop)
 
--- At a rate that skips none.
-pub even-at : (n k : ℕ) (s r : TimeCodeType) → s ≡ r → isDropFrame r ≡ false → k ≡ n % dayOf r
-    → digits s (k / framesPerSecond r) (k % framesPerSecond r) ≡ labelAt n s
-even-at n k s r e d h =
-    subst (λ (s : TimeCodeType). digits s (k / framesPerSecond r) (k % framesPerSecond r) ≡ labelAt n s) (sym e) (rw h (sym (even-label n r d)))
+-- At a rate that skips none, from a count below the day.
+pub even-at : (n k : ℕ) (s r : TimeCodeType) → s ≡ r → k ≡ n % dayOf r → labelAt k r ≡ labelAt n s
+even-at n k s r e h = rw (h, e) (label-round n r)
 
 -- ---- one number
 
@@ -146,6 +144,53 @@ in-number m x hm hx =
         → m * 256 - h * 15359 + (x * 16777216 - s * 503250944) + 8589934592
         ≡ h + u * 256 + s * 65536 + f * 16777216 + 2 * 4294967296
     numbers h u s f m x em ex = omega arith
+
+-- The sums of such a number fit.
+pub parts-fit : (a b y z : ℕ) → a ≤ 400000 → y ≤ 40000000000 → Fits w64 (a - b + (y - z))
+parts-fit a b y z ha hy = record { fits = omega arith }
+
+pub number-fits : (a b y z k : ℕ) → a ≤ 400000 → y ≤ 40000000000 → k ≤ 20000000000 → Fits w64 (a - b + (y - z) + k)
+number-fits a b y z k ha hy hk = record { fits = omega arith }
+
+-- The numbers of the labels of counts of the day at the other rates.
+pub number-24 : (n : ℕ) → n < 2073600
+    → n / 1440 * 256 - n / 1440 / 60 * 15359 + ((n - n / 1440 * 1440) * 16777216 - (n - n / 1440 * 1440) / 24 * 402587648)
+    ≡ labelNumber (labelAt n Fps24)
+unfolding labelNumber
+number-24 n k =
+    numbers (n / 1440) (n - n / 1440 * 1440) (n / 1440 / 60) ((n - n / 1440 * 1440) / 24) (n / 24 / 3600) (n / 24 / 60 % 60)
+    (n / 24 % 60) (n % 24) (omega arith) (omega arith) (omega arith) (omega arith)
+    ∙ sym (ap labelNumber (even-label n Fps24 refl ∙ ap (λ (x : ℕ). digits Fps24 (x / 24) (x % 24)) (mod-eq-of-lt k)))
+  where
+    numbers : (m x p q h u s f : ℕ) → p ≡ h → q ≡ s → m ≡ h * 60 + u → x ≡ s * 24 + f
+        → m * 256 - p * 15359 + (x * 16777216 - q * 402587648) ≡ h + u * 256 + s * 65536 + f * 16777216 + 0 * 4294967296
+    numbers m x p q h u s f ep eq em ex = omega arith
+
+pub number-25 : (n : ℕ) → n < 2160000
+    → n / 1500 * 256 - n / 1500 / 60 * 15359 + ((n - n / 1500 * 1500) * 16777216 - (n - n / 1500 * 1500) / 25 * 419364864) + 4294967296
+    ≡ labelNumber (labelAt n Fps25)
+unfolding labelNumber
+number-25 n k =
+    numbers (n / 1500) (n - n / 1500 * 1500) (n / 1500 / 60) ((n - n / 1500 * 1500) / 25) (n / 25 / 3600) (n / 25 / 60 % 60)
+    (n / 25 % 60) (n % 25) (omega arith) (omega arith) (omega arith) (omega arith)
+    ∙ sym (ap labelNumber (even-label n Fps25 refl ∙ ap (λ (x : ℕ). digits Fps25 (x / 25) (x % 25)) (mod-eq-of-lt k)))
+  where
+    numbers : (m x p q h u s f : ℕ) → p ≡ h → q ≡ s → m ≡ h * 60 + u → x ≡ s * 25 + f
+        → m * 256 - p * 15359 + (x * 16777216 - q * 419364864) + 4294967296 ≡ h + u * 256 + s * 65536 + f * 16777216 + 1 * 4294967296
+    numbers m x p q h u s f ep eq em ex = omega arith
+
+pub number-30 : (n : ℕ) → n < 2592000
+    → n / 1800 * 256 - n / 1800 / 60 * 15359 + ((n - n / 1800 * 1800) * 16777216 - (n - n / 1800 * 1800) / 30 * 503250944) + 12884901888
+    ≡ labelNumber (labelAt n Fps30)
+unfolding labelNumber
+number-30 n k =
+    numbers (n / 1800) (n - n / 1800 * 1800) (n / 1800 / 60) ((n - n / 1800 * 1800) / 30) (n / 30 / 3600) (n / 30 / 60 % 60)
+    (n / 30 % 60) (n % 30) (omega arith) (omega arith) (omega arith) (omega arith)
+    ∙ sym (ap labelNumber (even-label n Fps30 refl ∙ ap (λ (x : ℕ). digits Fps30 (x / 30) (x % 30)) (mod-eq-of-lt k)))
+  where
+    numbers : (m x p q h u s f : ℕ) → p ≡ h → q ≡ s → m ≡ h * 60 + u → x ≡ s * 30 + f
+        → m * 256 - p * 15359 + (x * 16777216 - q * 503250944) + 12884901888 ≡ h + u * 256 + s * 65536 + f * 16777216 + 3 * 4294967296
+    numbers m x p q h u s f ep eq em ex = omega arith
 
 -- Its bytes are the counts and the rate.
 pub number-bytes : (t : MtcTime) → T (isValid t) → (labelNumber t % 256 ≡ t .hours)
@@ -213,12 +258,19 @@ pub added : (t : MtcTime) (z : ℤ) (d k s : ℕ) → k ≡ frameCount t → d �
 added t z d k s ek ed es = rw (ek, es, ed) (sym (moved-by-count t z))
 
 -- The label of a move's number.
-pub moved-numbered : (t : MtcTime) (z : ℤ) (n : ℕ) → n ≡ labelNumber (addFrames t z)
-    → label (t .rate) (n % 256) (n / 256 % 256) (n / 65536 % 256) (n / 16777216 % 256) ≡ addFrames t z
-moved-numbered t z n e =
+rate-back : (r : TimeCodeType) → typeOf (bitsOf r) ≡ r
+rate-back Fps24 = refl
+rate-back Fps25 = refl
+rate-back Fps30Drop = refl
+rate-back Fps30 = refl
+
+pub moved-numbered : (t : MtcTime) (z : ℤ) (n : ℕ) (r : TimeCodeType) → n ≡ labelNumber (addFrames t z) → r ≡ typeOf (n / 4294967296 % 256)
+    → label r (n % 256) (n / 256 % 256) (n / 65536 % 256) (n / 16777216 % 256) ≡ addFrames t z
+moved-numbered t z n r e er =
     let b = number-bytes (addFrames t z) (moved-valid t z) in
-    ap (λ (r : TimeCodeType). label r (n % 256) (n / 256 % 256) (n / 65536 % 256) (n / 16777216 % 256)) (sym (moved-rate t z))
-    ∙ rw (e, b .0, b .1 .0, b .1 .1 .0, b .1 .1 .1 .0)
+    let rate : r ≡ addFrames t z .rate
+    = er ∙ ap (λ (k : ℕ). typeOf (k / 4294967296 % 256)) e ∙ ap typeOf (b .1 .1 .1 .1) ∙ rate-back (addFrames t z .rate) in
+    rw (rate, e, b .0, b .1 .0, b .1 .1 .0, b .1 .1 .1 .0)
 
 -- ---- a few frames away in the same second
 

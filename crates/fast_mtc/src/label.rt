@@ -8,7 +8,7 @@ ghost use mathlib.Core.Path.{_≡_};
 ghost use mathlib.Core.Bool.{true};
 ghost use Prim.Native.Nat.{_<_, _≤_, _+_, _*_, _/_, _%_};
 ghost use lib.IntN.{pos, negsuc};
-ghost use Rattle.labels.specs.Time.{frameCount, labelAt, addFrames, modZ, digits};
+ghost use Rattle.labels.specs.Time.{bitsOf, frameCount, labelAt, addFrames, modZ, digits};
 ghost use Rattle.mtc.specs.Generator.{move};
 ghost use Rattle.fast_mtc.specs.Label.{labelNumber};
 
@@ -66,20 +66,6 @@ fn drop_moved(count: u32, delta: i32) -> u32
     n - DAY_DROP
 }
 
-// Whole seconds and frames of a rate as a label.
-fn label_of(seconds: u32, frames: u32, rate: TimeCodeType) -> MtcTime
-    requires { ⌜ (seconds < 86400) × (frames < 30) ⌝ }
-    ensures { λ r. ⌜ r ≡ digits rate seconds frames ⌝ }
-{
-    MtcTime {
-        hours: (seconds / 3600) as u8,
-        minutes: (seconds / 60 % 60) as u8,
-        seconds: (seconds % 60) as u8,
-        frames: frames as u8,
-        rate,
-    }
-}
-
 // A label as one number: hours in its lowest byte, above them minutes, seconds, frames and the rate.
 fn number_of(t: MtcTime) -> u64
     ensures { λ r. ⌜ r ≡ labelNumber t ⌝ }
@@ -119,6 +105,61 @@ fn drop_number(n: u32) -> u64
     number_in(minutes, place as u16)
 }
 
+// The number of the label of a count of the day, likewise by its minute and the place in it.
+fn number_24(n: u32) -> u64
+    requires { ⌜ n < 2073600 ⌝ }
+    ensures { λ r. ⌜ r ≡ labelNumber (labelAt n TimeCodeType.Fps24) ⌝ }
+{
+    let minutes = n / 1_440;
+    let place = n - minutes * 1_440;
+    let hours = minutes / 60;
+    let seconds = place / 24;
+    let low = minutes as u64 * 0x100 - hours as u64 * (60 * 0x100 - 1);
+    let high = place as u64 * 0x100_0000 - seconds as u64 * (24 * 0x100_0000 - 0x1_0000);
+    low + high
+}
+
+fn number_25(n: u32) -> u64
+    requires { ⌜ n < 2160000 ⌝ }
+    ensures { λ r. ⌜ r ≡ labelNumber (labelAt n TimeCodeType.Fps25) ⌝ }
+{
+    let minutes = n / 1_500;
+    let place = n - minutes * 1_500;
+    let hours = minutes / 60;
+    let seconds = place / 25;
+    let low = minutes as u64 * 0x100 - hours as u64 * (60 * 0x100 - 1);
+    let high = place as u64 * 0x100_0000 - seconds as u64 * (25 * 0x100_0000 - 0x1_0000);
+    low + high + 0x1_0000_0000
+}
+
+fn number_30(n: u32) -> u64
+    requires { ⌜ n < 2592000 ⌝ }
+    ensures { λ r. ⌜ r ≡ labelNumber (labelAt n TimeCodeType.Fps30) ⌝ }
+{
+    let minutes = n / 1_800;
+    let place = n - minutes * 1_800;
+    let hours = minutes / 60;
+    let seconds = place / 30;
+    let low = minutes as u64 * 0x100 - hours as u64 * (60 * 0x100 - 1);
+    let high = place as u64 * 0x100_0000 - seconds as u64 * (30 * 0x100_0000 - 0x1_0000);
+    low + high + 0x3_0000_0000
+}
+
+// The number of the label of a count at a rate that skips none.
+fn even_number(count: u32, rate: TimeCodeType) -> u64
+    requires { ⌜ (bitsOf rate ≡ 2 → ⊥) ⌝ }
+    ensures { λ r. ⌜ r ≡ labelNumber (labelAt count rate) ⌝ }
+{
+    let bits = rate.into_bits();
+    if bits == BITS_24 {
+        return number_24(within(count, DAY_24));
+    }
+    if bits == BITS_25 {
+        return number_25(within(count, DAY_25));
+    }
+    number_30(within(count, DAY_30))
+}
+
 // `MtcTime::to_frame_count`.
 pub fn frame_count(t: MtcTime) -> u32
     ensures { λ r. ⌜ r ≡ frameCount t ⌝ }
@@ -141,20 +182,10 @@ pub fn frame_count(t: MtcTime) -> u32
 pub fn number_at(count: u32, rate: TimeCodeType) -> u64
     ensures { λ r. ⌜ r ≡ labelNumber (labelAt count rate) ⌝ }
 {
-    let bits = rate.into_bits();
-    if bits == BITS_DROP {
+    if rate.into_bits() == BITS_DROP {
         return drop_number(within(count, DAY_DROP));
     }
-    if bits == BITS_24 {
-        let n = within(count, DAY_24);
-        return number_of(label_of(n / 24, n % 24, rate));
-    }
-    if bits == BITS_25 {
-        let n = within(count, DAY_25);
-        return number_of(label_of(n / 25, n % 25, rate));
-    }
-    let n = within(count, DAY_30);
-    number_of(label_of(n / 30, n % 30, rate))
+    even_number(count, rate)
 }
 
 // The number of `MtcTime::add_frames`.
@@ -166,21 +197,20 @@ pub fn number_after(t: MtcTime, delta: i32) -> u64
         return drop_number(drop_moved(frame_count(t), delta));
     }
     let step = reduced(delta, rate.day());
-    number_at(frame_count(t) + step, rate)
+    even_number(frame_count(t) + step, rate)
 }
 
-// `MtcTime::add_frames`.
+// `MtcTime::add_frames`. The rate, too, is read off the number: its caller then keeps nothing of `t`.
 pub fn add_frames(t: MtcTime, delta: i32) -> MtcTime
     ensures { λ r. ⌜ r ≡ addFrames t delta ⌝ }
 {
     let n = number_after(t, delta);
-    let rate = t.rate;
     MtcTime {
         hours: (n % 256) as u8,
         minutes: (n / 0x100 % 256) as u8,
         seconds: (n / 0x1_0000 % 256) as u8,
         frames: (n / 0x100_0000 % 256) as u8,
-        rate,
+        rate: TimeCodeType::from_bits((n / 0x1_0000_0000 % 256) as u8),
     }
 }
 

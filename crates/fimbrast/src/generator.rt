@@ -1,25 +1,32 @@
 // The quarter frame generator.
 use fast_mtc::generator::FlatByte;
 use fast_mtc::generator::FlatGenerator;
-use fast_mtc::generator::direction_at;
 use fast_mtc::generator::flat_generator;
 use fast_mtc::generator::generator_of;
 use fast_mtc::generator::next_byte;
 use fast_mtc::time::FlatTime;
 use fast_mtc::time::flat_time;
 use fast_mtc::time::time_of;
+use mtc::Direction;
 use mtc::MtcGenerator;
 ghost use mathlib.Core.Path.{_≡_};
 ghost use Rattle.mtc.specs.Generator.{nextByte, afterNextByte, started, withRunning, withDirection, located};
 ghost use Rattle.fast_mtc.specs.Time.{timeOf, flatTime};
-ghost use Rattle.fast_mtc.specs.Generator.{directionAt, generatorOf, flatGenerator, generatorIn, flatByte};
+ghost use Rattle.fast_mtc.specs.Generator.{generatorOf, flatGenerator, generatorIn, flatByte};
 
-// `MtcGenerator::new`.
+// `MtcGenerator::new`, for each direction: no number can stand for none.
 #[no_mangle]
-pub extern "C" fn fimbrast_generator_new(time: FlatTime, direction: u8) -> FlatGenerator
-    ensures { λ r. ⌜ r ≡ flatGenerator (started (timeOf time) (directionAt direction)) ⌝ }
+pub extern "C" fn fimbrast_generator_forward(time: FlatTime) -> FlatGenerator
+    ensures { λ r. ⌜ r ≡ flatGenerator (started (timeOf time) Direction.Forward) ⌝ }
 {
-    flat_generator(MtcGenerator::new(time_of(time), direction_at(direction)))
+    flat_generator(MtcGenerator::new(time_of(time), Direction::Forward))
+}
+
+#[no_mangle]
+pub extern "C" fn fimbrast_generator_reverse(time: FlatTime) -> FlatGenerator
+    ensures { λ r. ⌜ r ≡ flatGenerator (started (timeOf time) Direction.Reverse) ⌝ }
+{
+    flat_generator(MtcGenerator::new(time_of(time), Direction::Reverse))
 }
 
 // `MtcGenerator::next_byte`, on the record's bytes.
@@ -38,12 +45,19 @@ pub extern "C" fn fimbrast_set_running(generator: FlatGenerator, running: bool) 
     flat_generator(generator_of(generator).set_running(running))
 }
 
-// `MtcGenerator::set_direction`.
+// `MtcGenerator::set_direction`, for each direction.
 #[no_mangle]
-pub extern "C" fn fimbrast_set_direction(generator: FlatGenerator, direction: u8) -> FlatGenerator
-    ensures { λ r. ⌜ r ≡ flatGenerator (withDirection (generatorOf generator) (directionAt direction)) ⌝ }
+pub extern "C" fn fimbrast_set_forward(generator: FlatGenerator) -> FlatGenerator
+    ensures { λ r. ⌜ r ≡ flatGenerator (withDirection (generatorOf generator) Direction.Forward) ⌝ }
 {
-    flat_generator(generator_of(generator).set_direction(direction_at(direction)))
+    flat_generator(generator_of(generator).set_direction(Direction::Forward))
+}
+
+#[no_mangle]
+pub extern "C" fn fimbrast_set_reverse(generator: FlatGenerator) -> FlatGenerator
+    ensures { λ r. ⌜ r ≡ flatGenerator (withDirection (generatorOf generator) Direction.Reverse) ⌝ }
+{
+    flat_generator(generator_of(generator).set_direction(Direction::Reverse))
 }
 
 // `MtcGenerator::locate`.

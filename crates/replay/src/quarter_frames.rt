@@ -16,11 +16,13 @@ use fast_mtc::reader::way_at;
 use fast_mtc::reader::words_of;
 use fast_mtc::time::FlatFrame;
 use fast_mtc::time::time_of;
-use fimbrast::generator::fimbrast_generator_new;
+use fimbrast::generator::fimbrast_generator_forward;
+use fimbrast::generator::fimbrast_generator_reverse;
 use fimbrast::generator::fimbrast_generator_time;
 use fimbrast::generator::fimbrast_locate;
 use fimbrast::generator::fimbrast_next_byte;
-use fimbrast::generator::fimbrast_set_direction;
+use fimbrast::generator::fimbrast_set_forward;
+use fimbrast::generator::fimbrast_set_reverse;
 use fimbrast::generator::fimbrast_set_running;
 use fimbrast::reader::fimbrast_is_locked;
 use fimbrast::reader::fimbrast_is_running;
@@ -99,18 +101,29 @@ fn next_byte(input: &[u8], answer: &[u8]) -> usize {
     two_are(next.refusal, next.byte, answer, same_at(&left, answer, 0))
 }
 
+// A stored direction is 0 for forward, 1 for reverse.
+fn started(input: &[u8]) -> FlatGenerator {
+    let time = time_at(input, 0);
+    if byte_at(input, 5) == 0 {
+        return fimbrast_generator_forward(time);
+    }
+    fimbrast_generator_reverse(time)
+}
+
+fn turned(generator: FlatGenerator, direction: u8) -> FlatGenerator {
+    if direction == 0 {
+        return fimbrast_set_forward(generator);
+    }
+    fimbrast_set_reverse(generator)
+}
+
 pub(crate) fn generated(call: u8, input: &[u8], answer: &[u8]) -> usize {
     let generator = generator_at(input);
     match call {
-        0x20 => {
-            generator_is(
-                fimbrast_generator_new(time_at(input, 0), byte_at(input, 5)),
-                answer,
-            )
-        }
+        0x20 => generator_is(started(input), answer),
         0x21 => next_byte(input, answer),
         0x22 => generator_is(fimbrast_set_running(generator, flag_at(input, 8)), answer),
-        0x23 => generator_is(fimbrast_set_direction(generator, byte_at(input, 8)), answer),
+        0x23 => generator_is(turned(generator, byte_at(input, 8)), answer),
         0x24 => generator_is(fimbrast_locate(generator, time_at(input, 8)), answer),
         0x25 => time_is(fimbrast_generator_time(generator), answer, 0),
         _ => WRONG,

@@ -33,14 +33,14 @@ reduced-requires c κs = rw (c .day .ensures) (day-positive (c .before .before .
 frame-count-requires-2 : tie.Need-frame-count-requires-2
 frame-count-requires-2 c κs = search needs
 
-add-number-at : tie.Need-add-number-at
-add-number-at c = sum-fits (c .before .before .before .before .before .args .t) (c .before .before .before .before .before .args .delta) _ _ _ (c .frame-count2 .ensures) (c .before .before .day .ensures) (passed-mod _ _ _ (c .before .before .before .before .before .fits .delta) (c .before .reduced .ensures))
+add-even-number : tie.Need-add-even-number
+add-even-number c = sum-fits (c .before .before .before .before .before .args .t) (c .before .before .before .before .before .args .delta) _ _ _ (c .frame-count2 .ensures) (c .before .before .day .ensures) (passed-mod _ _ _ (c .before .before .before .before .before .fits .delta) (c .before .reduced .ensures))
 
-number-at-requires : tie.Need-number-at-requires
-number-at-requires c κs = search needs
+even-number-requires : tie.Need-even-number-requires
+even-number-requires c κs = search needs
 
 returns-2 : tie.Need-returns-2
-returns-2 c = c .number-at .ensures ∙ ap labelNumber (added _ _ _ _ _ (c .before .frame-count2 .ensures) (c .before .before .before .day .ensures) (passed-mod _ _ _ (c .before .before .before .before .before .before .fits .delta) (c .before .before .reduced .ensures)))
+returns-2 c = c .even-number .ensures ∙ ap labelNumber (added _ _ _ _ _ (c .before .frame-count2 .ensures) (c .before .before .before .day .ensures) (passed-mod _ _ _ (c .before .before .before .before .before .before .fits .delta) (c .before .before .reduced .ensures)))
 
 pub number-after-spec : {M : Type 1} → statement M
 number-after-spec =
@@ -54,6 +54,6 @@ number-after-spec =
     day-requires
     reduced-requires
     frame-count-requires-2
-    add-number-at
-    number-at-requires
+    add-even-number
+    even-number-requires
     returns-2)
