@@ -2,9 +2,13 @@
 
 use std::hint::black_box;
 
-use super::boundary::{self, Command, Part, Time, Universal, Written};
+use super::boundary::{
+    self, Code, Command, Field, Part, ShortCode, Time, Universal, Written,
+};
 use crate::case::Case;
-use crate::inputs::{self, BODIES, BODY, GP0, LIST, LOCATE_PLAY, ROOM, ROUND};
+use crate::inputs::{
+    self, BODIES, BODY, GP0, LIST, LOCATE_PLAY, OTHER, PREFIXED, RESPONSE, ROOM, ROUND,
+};
 
 const FORWARD: u8 = 0;
 const DROP_FRAME: u8 = 2;
@@ -13,6 +17,10 @@ const WRITE: u8 = 9;
 const LOCATE_FIELD: u8 = 10;
 const LOCATE_TARGET: u8 = 11;
 const MOVE: u8 = 12;
+const OTHER_COMMAND: u8 = 13;
+const TIME_CODE: u8 = 0;
+const SHORT: u8 = 1;
+const OTHER_FIELD: u8 = 2;
 
 /// The header of a message of commands, for all devices.
 pub const COMMANDS: Universal = Universal {
@@ -34,10 +42,14 @@ pub fn all() -> Vec<Case> {
         from_frame_count(),
         add_frames(),
         write(),
+        write_blank(),
         write_mixed(),
+        write_others(),
+        write_fields(),
         read_back(),
         read_stops(),
         read_random(),
+        read_fields(),
     ]
 }
 
@@ -115,15 +127,29 @@ fn add_frames() -> Case {
     })
 }
 
-fn write() -> Case {
-    let locate = u64::from_le_bytes([LOCATE_TARGET, 1, 37, 52, 16, 0, DROP_FRAME, 0]);
-    let list = [locate, PLAY];
+/// The word of a Locate to 01:37:52:16 at 30 drop-frame.
+const LOCATE: [u8; 8] = [LOCATE_TARGET, 1, 37, 52, 16, 0, DROP_FRAME, 0];
+/// A blank code's mark, beside the rate.
+const BLANK: u8 = 8;
+
+/// A message of these words, into a buffer.
+fn writing<const N: usize>(name: &'static str, list: [u64; N]) -> Case {
     let mut out = [0; ROOM];
-    Case::new("write", move |_| {
+    Case::new(name, move |_| {
         let room = black_box(&mut out);
         let written = black_box(boundary::write(room, black_box(0x7F), black_box(&list)));
         length_of(written) + u64::from(out[8])
     })
+}
+
+fn write() -> Case {
+    writing("write", [u64::from_le_bytes(LOCATE), PLAY])
+}
+
+fn write_blank() -> Case {
+    let mut blank = LOCATE;
+    blank[6] |= BLANK;
+    writing("write_blank", [u64::from_le_bytes(blank)])
 }
 
 /// A command of a kind and two names.
@@ -160,6 +186,94 @@ fn write_mixed() -> Case {
             black_box(&list),
         ));
         length_of(written) + u64::from(out[8])
+    })
+}
+
+/// Another command, whose name and data stand side by side in its source.
+fn other(start: usize, name: usize, data: usize) -> Command {
+    let name = Part {
+        start,
+        length: name,
+    };
+    let data = Part {
+        start: start + name.length,
+        length: data,
+    };
+    Command {
+        name,
+        data,
+        ..command(OTHER_COMMAND, 0, 0)
+    }
+}
+
+fn write_others() -> Case {
+    let source = [&OTHER.0[..], &OTHER.1, &PREFIXED].concat();
+    let list = [other(0, 1, 3), other(4, 2, 0)];
+    let mut out = [0; ROOM];
+    Case::new("write_others", move |_| {
+        let room = black_box(&mut out);
+        let list = black_box(&list);
+        let written = black_box(boundary::write_each(room, black_box(0x7F), &source, list));
+        length_of(written) + u64::from(out[8])
+    })
+}
+
+fn write_fields() -> Case {
+    let code = Code {
+        time: Time {
+            hours: 1,
+            minutes: 37,
+            seconds: 52,
+            frames: 16,
+            rate: DROP_FRAME,
+        },
+        status: true,
+        last: 0x08,
+        ..Code::default()
+    };
+    let short_code = ShortCode {
+        frames: 16,
+        last: 5,
+        ..ShortCode::default()
+    };
+    let part = |start, length| Part { start, length };
+    let list = [
+        Field {
+            kind: TIME_CODE,
+            field: 0x01,
+            code,
+            ..Field::default()
+        },
+        Field {
+            kind: SHORT,
+            field: 0x08,
+            short_code,
+            ..Field::default()
+        },
+        Field {
+            kind: OTHER_FIELD,
+            name: part(0, 1),
+            data: part(1, 3),
+            ..Field::default()
+        },
+    ];
+    let source = [0x48, 1, 2, 3];
+    let mut out = [0; ROOM];
+    Case::new("write_fields", move |_| {
+        let room = black_box(&mut out);
+        let list = black_box(&list);
+        let written = black_box(boundary::write_fields(room, black_box(5), &source, list));
+        length_of(written) + u64::from(out[8])
+    })
+}
+
+fn read_fields() -> Case {
+    let header = Universal {
+        sub_id1: 0x07,
+        ..COMMANDS
+    };
+    Case::new("read_fields", move |_| {
+        black_box(boundary::read_fields(black_box(&header), black_box(&RESPONSE))) as u64
     })
 }
 

@@ -28,6 +28,9 @@ records! {
     Part { start: usize, length: usize }
     Command { kind: u8, first: u8, second: u8, code: Code, name: Part, data: Part }
     NextWord { word: u64, place: usize }
+    ShortCode { frames: u8, negative: bool, status: bool, last: u8 }
+    Field { kind: u8, field: u8, code: Code, short_code: ShortCode, name: Part, data: Part }
+    NextField { refusal: u8, field: Field, place: usize }
 }
 
 unsafe extern "C" {
@@ -49,6 +52,16 @@ unsafe extern "C" {
         source: *const u8,
         source_length: usize,
         command: Command,
+    ) -> u64;
+    pub fn fimbrast_next_field(body: *const u8, length: usize, place: usize) -> NextField;
+    pub fn fimbrast_open_responses(out: *mut u8, out_length: usize, device_id: u8) -> u64;
+    pub fn fimbrast_put_field(
+        writer: u64,
+        out: *mut u8,
+        out_length: usize,
+        source: *const u8,
+        source_length: usize,
+        field: Field,
     ) -> u64;
     pub fn fimbrast_close_message(writer: u64, out: *mut u8, out_length: usize) -> Written;
     pub fn fimbrast_write_words(

@@ -116,6 +116,14 @@ impl TimeCodeStatus {
         }
     }
 
+    /// The status byte, for a word.
+    const fn bits(self) -> u8 {
+        (self.estimated as u8) << 6
+            | (self.invalid as u8) << 5
+            | (self.video_field1 as u8) << 4
+            | (self.no_time_code as u8) << 3
+    }
+
     /// The status byte, with the reserved bits as 000 (p. 9).
     pub fn to_byte(self) -> u8 {
         ffi::fimbrast_status_byte(ffi::Status {
@@ -218,8 +226,7 @@ impl StandardTimeCode {
         }
     }
 
-    /// The word of a Locate to it: above the case its counts, its subframes and its rate. A code with a mark or a status goes by
-    /// the writer.
+    /// The word of a Locate to it: above the case its counts, its last byte, its rate and its marks.
     #[inline]
     fn word(&self) -> u64 {
         let marks = u32::from_le_bytes([
@@ -228,23 +235,39 @@ impl StandardTimeCode {
             self.negative.into(),
             matches!(self.final_byte, FinalByte::Status(_)).into(),
         ]);
-        let (0, FinalByte::Subframes(last)) = (marks, self.final_byte) else {
-            return ffi::NO_WORD;
-        };
+        match (marks, self.final_byte) {
+            (0, FinalByte::Subframes(last)) => self.with_last(last),
+            _ => self.marked_word(marks),
+        }
+    }
+
+    /// The word without the marks.
+    #[inline]
+    fn with_last(&self, last: u8) -> u64 {
         let time = &self.time;
         let counts = u32::from_le_bytes([time.hours, time.minutes, time.seconds, time.frames]);
         let rate = u64::from(time.rate.into_bits());
         u64::from(counts) << 8 | u64::from(last) << 40 | rate << 48 | u64::from(ffi::LOCATE_TARGET)
     }
 
-    /// The time code of a Locate that was read: its five bytes above the case (pp. 8, 9). It is not inlined: a caller's loop would
-    /// move an item byte by byte.
+    /// The word with its marks, given as 0 or 1 in four bytes: one product brings them together.
+    #[inline(never)]
+    fn marked_word(&self, marks: u32) -> u64 {
+        let last = match self.final_byte {
+            FinalByte::Subframes(subframes) => subframes,
+            FinalByte::Status(status) => status.bits(),
+        };
+        let together = u64::from(marks) * 0x0102_0408 >> 24 & 0x0F;
+        self.with_last(last) | together << 50
+    }
+
+    /// The time code of a Locate's word. It is not inlined: a caller's loop would move an item byte by byte.
     #[inline(never)]
     fn of_word(next: ffi::NextWord) -> Self {
-        let bytes = (next.word >> 8) as u32;
-        // The counts in their bytes, and each mark, bit 6 of a byte, at the start of the byte before.
-        let [hours, minutes, seconds, frames] = (bytes & 0x1F3F_3F1F).to_le_bytes();
-        let [color_frame, blank, negative, _] = (bytes >> 14 & 0x01_0101).to_le_bytes();
+        let [hours, minutes, seconds, frames] = ((next.word >> 8) as u32).to_le_bytes();
+        // Each of the four marks at the start of its byte, by one product.
+        let marks = (next.word >> 50) as u32 & 0x0F;
+        let marks = (marks * 0x0020_4081 & 0x0101_0101).to_le_bytes();
         let last = next.byte(4);
         Self {
             time: MtcTime::of(ffi::Time {
@@ -252,12 +275,12 @@ impl StandardTimeCode {
                 minutes,
                 seconds,
                 frames,
-                rate: next.byte(0) >> 5 & 0x03,
+                rate: next.byte(5) & 0x03,
             }),
-            color_frame: color_frame != 0,
-            blank: blank != 0,
-            negative: negative != 0,
-            final_byte: if next.byte(3) & 0x20 == 0 {
+            color_frame: marks[0] != 0,
+            blank: marks[1] != 0,
+            negative: marks[2] != 0,
+            final_byte: if marks[3] == 0 {
                 FinalByte::Subframes(last)
             } else {
                 FinalByte::Status(TimeCodeStatus::of_bits(last))
@@ -453,12 +476,20 @@ impl<'a> MmcCommand<'a> {
         })
     }
 
-    /// The command as one number: the case of a name alone, or a Locate's time above it.
+    /// The command as one number: its case, and above it a Locate's register or time, or a Move's names. Write and `Other` have none.
     #[inline]
     fn word(&self) -> u64 {
         match (self.kind(), self) {
             (kind @ ffi::STOP..=ffi::RESET, _) => u64::from(kind),
             (_, Self::LocateTarget(target)) => target.word(),
+            (kind, &Self::LocateField { register }) => u64::from(kind) | u64::from(register) << 8,
+            (
+                kind,
+                &Self::Move {
+                    destination,
+                    source,
+                },
+            ) => u64::from(kind) | u64::from(destination) << 8 | u64::from(source) << 16,
             _ => ffi::NO_WORD,
         }
     }

@@ -1,7 +1,7 @@
 mod Back
 mod Checks
+mod CommandWords
 pub mod Laws
-mod WordAnswers
 mod WordPuts
 mod WordRanges
-mod Words
+mod WordReading

@@ -7,27 +7,25 @@ use mathlib.Core.Logic.{_⊎_}
 use mathlib.Core.Option.{Option, none, some}
 use native.Mathlib.Numerals.{add-one}
 use native.Mathlib.Omega.{arith}
-use borrow.Author.Tests.{le-leb, lt-leb, eq-eqb, ne-eqb}
+use borrow.Author.Tests.{le-leb, lt-leb}
 use lib.Dec.{T, lit≤}
 use lib.ListN.{length, drop, getD, drop-of-length-le}
 use lib.Seq.{drop-cons}
 use Rattle.mmc.specs.declared.command.MmcCommand.{MmcCommand}
-use Rattle.mmc.specs.declared.command.MmcCommand.the-variants.{LocateTarget}
-use Rattle.mmc.specs.declared.length.Kind.the-variants.{Commands}
+use Rattle.mmc.specs.declared.command.MmcCommand.the-variants.{LocateField, LocateTarget, Move}
 use Rattle.fast_mmc.specs.declared.numbers.WrittenNumbers.{WrittenNumbers}
 use Rattle.codes.specs.declared.time_code.StandardTimeCode.{StandardTimeCode}
-use Rattle.mmc.specs.Item.{commandItem, isSubframes}
+use Rattle.mmc.specs.Item.{commandItem}
 use Rattle.fast_mmc.specs.Numbers.{neededOf, writtenNumbers}
-use Rattle.codes.specs.TimeCode.{bit, standardFits, standardList}
 use Rattle.codes.proofs.Laws.{fits-parts, list-parts}
-use Rattle.fast_mmc.specs.Word.{plainCommand}
-use Rattle.fast_mmc.specs.Contracts.{plainName, afterWords, closedOut, going, PutWhole, nothing, whole}
-use Rattle.fast_mmc.specs.Words.{markedCode, byteAt, wordCode, wordCommand, wordItems}
+use Rattle.fast_mmc.specs.Code.{finalOf, isStatus}
+use Rattle.fast_mmc.specs.Word.{fourMarks, targetBytes, targetWord, commandWord, plainCommand, byteAt, markedCode, wordCode, wordItem}
+use Rattle.fast_mmc.specs.Contracts.{going, PutWhole, nothing, whole}
+use Rattle.fast_mmc.specs.Words.{afterWords, closedOut, wordsState, wordsAnswer, wordsLeft}
 use Rattle.mmc.specs.Length.{within}
 use Rattle.mmc.specs.Named.{summed}
-use Rattle.mmc.specs.Strings as G
 use Rattle.mmc.specs.Write.{Writing, openedCommands, begun, admitted, counted, moved, given, sound, closedMessage, ended, wholeMessage}
-use Rattle.mmc.specs.Writings.{State, opened, afterItems, stringAnswer, stringLeft}
+use Rattle.mmc.specs.Writings.{State}
 use Rattle.labels.specs.St12.{label, framesPerSecond, isDropFrame, isValid}
 use Rattle.labels.specs.Time.{typeOf, bitsOf}
 use Rattle.labels.proofs.Laws.{in-range-valid}
@@ -35,26 +33,36 @@ use Rattle.universal.specs.Emission.{Emission, sent, stopped, check, resume, _t
 use Rattle.universal.specs.Overlay.{overlay}
 use Rattle.universal.specs.Refusals.{Refusal, Answer, gives, refused, refusal, tooSmall}
 use Rattle.universal.proofs.Laws.{length-overlay, overlay-none}
-use Rattle.fast_mmc.proofs.Words.{plain-item}
-use Rattle.mmc.proofs.WritingSteps.{as-it-is, ready-kept, ready-failed, repeats, takes, close-repeats, close-empty, close-long, close-sent, commands-refused, commands-opened, begun-after, given-moves, after-none, after-cons, locate-sent, closed-after, whole-ended, string-answer, string-left}
+use Rattle.fast_mmc.proofs.CommandWords.{said-field, said-target, said-move, is-word, item-of, plain-is}
+use Rattle.mmc.proofs.CommandLaws.{command-written-by-page}
+use Rattle.mmc.specs.Rp013Commands.{LOCATE-FIELD, MOVE}
+use Rattle.mmc.proofs.WritingSteps.{as-it-is, ready-kept, ready-failed, repeats, takes, close-repeats, close-empty, close-long, close-sent, commands-refused, commands-opened, begun-after, given-moves, names-sent, locate-sent, closed-after, whole-ended}
 
--- ---- a word's command
+-- ---- a name alone
 
--- Case 11 is a Locate to a time, any other a name alone.
-pub locate-command : (w : ℕ) (t : StandardTimeCode) → w % 256 ≡ 11 → t ≡ wordCode w → LocateTarget t ≡ wordCommand w
-unfolding wordCommand
-locate-command w t e p = ap LocateTarget p ∙ rw (eq-eqb (w % 256) 11 e)
+-- The first seven names are one more than the case.
+pub low-sent : (n : ℕ) → n < 7 → commandItem [] (plainCommand n) ≡ sent ((n + 1) ∷ [])
+unfolding plainCommand
+low-sent zero h = names-sent [] .stop
+low-sent (suc zero) h = names-sent [] .play
+low-sent (suc (suc zero)) h = names-sent [] .deferred-play
+low-sent (suc (suc (suc zero))) h = names-sent [] .fast-forward
+low-sent (suc (suc (suc (suc zero)))) h = names-sent [] .rewind
+low-sent (suc (suc (suc (suc (suc zero))))) h = names-sent [] .record-strobe
+low-sent (suc (suc (suc (suc (suc (suc zero)))))) h = names-sent [] .record-exit
+low-sent (suc (suc (suc (suc (suc (suc (suc n))))))) h = absurd (omega arith)
 
-pub plain-command : (w : ℕ) (c : MmcCommand) → (w % 256 ≡ 11 → ⊥) → c ≡ plainCommand (w % 256) → c ≡ wordCommand w
-unfolding wordCommand
-plain-command w c n p = p ∙ rw (ne-eqb (w % 256) 11 n)
+pub pause-sent : (n : ℕ) → n ≡ 7 → commandItem [] (plainCommand n) ≡ sent (9 ∷ [])
+unfolding plainCommand
+pause-sent n e = rw e (names-sent [] .pause)
 
--- What goes out of it.
-pub word-plain : (w k : ℕ) → (w % 256 ≡ 11 → ⊥) → k ≡ plainName (w % 256) → commandItem [] (wordCommand w) ≡ sent (k ∷ [])
-word-plain w k n e = sym (ap (commandItem []) (plain-command w _ n refl)) ∙ plain-item (w % 256) k e
+pub reset-sent : (n : ℕ) → n ≡ 8 → commandItem [] (plainCommand n) ≡ sent (13 ∷ [])
+unfolding plainCommand
+reset-sent n e = rw e (names-sent [] .reset)
 
-pub word-locate : (w : ℕ) → w % 256 ≡ 11 → commandItem [] (wordCommand w) ≡ commandItem [] (LocateTarget (wordCode w))
-word-locate w e = sym (ap (commandItem []) (locate-command w (wordCode w) e refl))
+-- What goes out of a word that is a name alone.
+pub word-name : (w k : ℕ) → w < 9 → commandItem [] (plainCommand w) ≡ sent (k ∷ []) → wordItem w ≡ sent (k ∷ [])
+word-name w k h e = sym (item-of w (plainCommand w) (plain-is w h)) ∙ e
 
 -- ---- a byte of marks that is a rate
 
@@ -99,55 +107,120 @@ pub record Usual (h m s f last marks : ℕ) : Type 0 where
   pub valid : isValid (label (typeOf marks) h m s f) ≡ true
 
 module _ (h m s f last b : ℕ) (u : Usual h m s f last b) where
-  no-marks : (weight : ℕ) → (b / weight % 2 ≡ 1 → ⊥) → bit weight b ≡ false
-  no-marks weight n = ne-eqb (b / weight % 2) 1 n
-
   rate-bits : bitsOf (typeOf b) ≡ b
   rate-bits = four (λ b. bitsOf (typeOf b) ≡ b) refl refl refl refl b (u .rate)
 
   -- A usual time code goes out as its counts are, the rate above the hours.
-  pub usual-item : commandItem [] (LocateTarget (markedCode h m s f last b))
+  pub usual-item : commandItem [] (LocateTarget (markedCode b h m s f last (b / 4)))
       ≡ sent (68 ∷ 6 ∷ 1 ∷ (h + b * 32) ∷ m ∷ s ∷ f ∷ last ∷ [])
-  unfolding markedCode
+  unfolding markedCode finalOf
   usual-item =
-      let marks = u .rate in
-      let c : bit 4 b ≡ false = no-marks 4 (λ e. omega arith) in
-      let k : bit 8 b ≡ false = no-marks 8 (λ e. omega arith) in
-      let g : bit 16 b ≡ false = no-marks 16 (λ e. omega arith) in
-      let i : bit 32 b ≡ false = no-marks 32 (λ e. omega arith) in
+      let z : b / 4 ≡ 0 = omega (arith, u .rate) in
       let hr : b * 32 + h % 32 ≡ h + b * 32 = omega (arith, u .hours) in
       let mn : 0 + m ≡ m = omega arith in
       let sc : 0 + s ≡ s = omega arith in
       let fr : 0 + 0 + f ≡ f = omega arith in
-      locate-sent [] (markedCode h m s f last b)
-      ∙ rw (fits-parts, list-parts, c, k, g, i, le-leb last 99 (u .subframes), u .valid, rate-bits, hr, mn, sc, fr)
+      locate-sent [] (markedCode b h m s f last (b / 4))
+      ∙ rw (z, fits-parts, list-parts, le-leb last 99 (u .subframes), u .valid, rate-bits, hr, mn, sc, fr)
+
+  -- And its word is made of these bytes.
+  pub usual-word : targetWord (markedCode b h m s f last (b / 4)) ≡ targetBytes h m s f last b
+  unfolding markedCode finalOf targetWord fourMarks isStatus
+  usual-word =
+      let z : b / 4 ≡ 0 = omega (arith, u .rate) in
+      let k : b + 0 * 4 ≡ b = omega arith in
+      rw (z, rate-bits, k)
+
+-- A number is the bytes that are told of it.
+word-bytes : (w : ℕ) → w % 256 ≡ 11 → w / 1125899906842624 ≡ 0
+    → targetBytes (byteAt 256 w) (byteAt 65536 w) (byteAt 16777216 w) (byteAt 4294967296 w) (byteAt 1099511627776 w)
+    (byteAt 281474976710656 w)
+    ≡ w
+word-bytes w e z =
+    let q1 : w / 65536 ≡ w / 256 / 256 = omega arith in
+    let q2 : w / 16777216 ≡ w / 65536 / 256 = omega arith in
+    let q3 : w / 4294967296 ≡ w / 16777216 / 256 = omega arith in
+    let q4 : w / 1099511627776 ≡ w / 4294967296 / 256 = omega arith in
+    let q5 : w / 281474976710656 ≡ w / 1099511627776 / 256 = omega arith in
+    let q6 : w / 281474976710656 ≤ 255 = omega (arith, z) in
+    go w (w / 256) (w / 65536) (w / 16777216) (w / 4294967296) (w / 1099511627776) (w / 281474976710656) e refl q1 q2 q3 q4 q5 q6
+  where
+    go : (w a b c d f g : ℕ) → w % 256 ≡ 11 → a ≡ w / 256 → b ≡ a / 256 → c ≡ b / 256 → d ≡ c / 256 → f ≡ d / 256 → g ≡ f / 256 → g ≤ 255
+        → targetBytes (a % 256) (b % 256) (c % 256) (d % 256) (f % 256) (g % 256) ≡ w
+    go w a b c d f g e p q r s t u v = omega (arith, e, p, q, r, s, t, u, v)
+
+-- A number whose bytes are usual is the word of a Locate, and goes out as these.
+usual-sent : (w : ℕ) → w % 256 ≡ 11 → w / 1125899906842624 ≡ 0
+    → Usual (byteAt 256 w) (byteAt 65536 w) (byteAt 16777216 w) (byteAt 4294967296 w) (byteAt 1099511627776 w)
+    (byteAt 281474976710656 w)
+    → wordItem w
+    ≡ sent
+    (68
+    ∷ 6
+    ∷ 1
+    ∷ (byteAt 256 w + byteAt 281474976710656 w * 32)
+    ∷ byteAt 65536 w
+    ∷ byteAt 16777216 w
+    ∷ byteAt 4294967296 w
+    ∷ byteAt 1099511627776 w
+    ∷ [])
+unfolding commandWord
+usual-sent w e z u =
+    sym
+    (item-of w (LocateTarget (wordCode w))
+    (is-word w (LocateTarget (wordCode w)) (said-target w (omega (arith, e)) e)
+    (usual-word _ _ _ _ _ _ u ∙ word-bytes w e z)))
+    ∙ usual-item _ _ _ _ _ _ u
+
+-- ---- a Locate to a register, and a Move
+
+pub field-sent : (w : ℕ) → w % 256 ≡ 10 → w / 65536 ≡ 0 → 8 ≤ byteAt 256 w → byteAt 256 w ≤ 15
+    → wordItem w ≡ sent (68 ∷ 2 ∷ 0 ∷ byteAt 256 w ∷ [])
+unfolding commandWord
+field-sent w e z l h =
+    sym
+    (item-of w (LocateField (byteAt 256 w))
+    (is-word w (LocateField (byteAt 256 w)) (said-field w (omega (arith, e)) e) (omega (arith, e, z))))
+    ∙ command-written-by-page (LOCATE-FIELD (byteAt 256 w)) [] (LocateField (byteAt 256 w)) (l, h) refl
+
+pub move-sent : (w : ℕ) → w % 256 ≡ 12 → w / 16777216 ≡ 0 → 1 ≤ byteAt 256 w → byteAt 256 w ≤ 31 → 1 ≤ byteAt 65536 w
+    → byteAt 65536 w ≤ 31 → wordItem w ≡ sent (76 ∷ 2 ∷ byteAt 256 w ∷ byteAt 65536 w ∷ [])
+unfolding commandWord
+move-sent w e z a b c d =
+    sym
+    (item-of w (Move (byteAt 256 w) (byteAt 65536 w))
+    (is-word w (Move (byteAt 256 w) (byteAt 65536 w)) (said-move w (omega (arith, e)) e) (omega (arith, e, z))))
+    ∙ command-written-by-page (MOVE (byteAt 256 w) (byteAt 65536 w)) [] (Move (byteAt 256 w) (byteAt 65536 w)) (a, b, c, d) refl
 
 -- ---- by the writer
 
--- A command that is the word's is given as it.
-pub given-word : (w v : Writing) (word : ℕ) (out left : List ℕ) (c : MmcCommand) → c ≡ wordCommand word
+-- A command that goes out as the word does is given as it.
+pub given-word : (w v : Writing) (word : ℕ) (out left : List ℕ) (c : MmcCommand) → commandItem [] c ≡ wordItem word
     → v ≡ given w (commandItem [] c) → left ≡ overlay out (w .at) (admitted w (commandItem [] c) .bytes)
-    → (v ≡ given w (commandItem [] (wordCommand word)))
-    × (left ≡ overlay out (w .at) (admitted w (commandItem [] (wordCommand word)) .bytes))
+    → (v ≡ given w (wordItem word)) × (left ≡ overlay out (w .at) (admitted w (wordItem word) .bytes))
 given-word w v word out left c q p l = (
-  p ∙ ap (λ (x : MmcCommand). given w (commandItem [] x)) q,
-  l ∙ ap (λ (x : MmcCommand). overlay out (w .at) (admitted w (commandItem [] x) .bytes)) q,
+  p ∙ ap (given w) q,
+  l ∙ ap (λ (e : Emission). overlay out (w .at) (admitted w e .bytes)) q,
 )
 
 -- ---- what is put of a word
 
 module _ (word at : ℕ) (out left : List ℕ) where
-  put-known : (bs : List ℕ) → commandItem [] (wordCommand word) ≡ sent bs → left ≡ overlay out at bs
+  put-known : (bs : List ℕ) → wordItem word ≡ sent bs → left ≡ overlay out at bs
       → PutWhole word at out (at + length bs) left
   put-known bs e p =
       whole (ap (λ (x : Emission). x .stop) e) (ap (λ (x : Emission). at + length (x .bytes)) (sym e))
       (p ∙ ap (λ (x : Emission). overlay out at (x .bytes)) (sym e))
 
-  pub put-name : (k : ℕ) → (word % 256 ≡ 11 → ⊥) → k ≡ plainName (word % 256) → left ≡ overlay out at (k ∷ [])
+  pub put-name : (k : ℕ) → word < 9 → commandItem [] (plainCommand word) ≡ sent (k ∷ []) → left ≡ overlay out at (k ∷ [])
       → PutWhole word at out (at + 1) left
-  put-name k n e p = put-known (k ∷ []) (word-plain word k n e) p
+  put-name k h e p = put-known (k ∷ []) (word-name word k h e) p
 
-  pub put-usual : word % 256 ≡ 11
+  pub put-four : (a b c d : ℕ) → wordItem word ≡ sent (a ∷ b ∷ c ∷ d ∷ []) → left ≡ overlay out at (a ∷ b ∷ c ∷ d ∷ [])
+      → PutWhole word at out (at + 4) left
+  put-four a b c d e p = put-known (a ∷ b ∷ c ∷ d ∷ []) e p
+
+  pub put-usual : word % 256 ≡ 11 → word / 1125899906842624 ≡ 0
       → Usual (byteAt 256 word) (byteAt 65536 word) (byteAt 16777216 word) (byteAt 4294967296 word) (byteAt 1099511627776 word)
       (byteAt 281474976710656 word)
       → left
@@ -162,7 +235,7 @@ module _ (word at : ℕ) (out left : List ℕ) where
       ∷ byteAt 1099511627776 word
       ∷ [])
       → PutWhole word at out (at + 8) left
-  put-usual n u p = put-known _ (word-locate word n ∙ usual-item _ _ _ _ _ _ u) p
+  put-usual n z u p = put-known _ (usual-sent word n z u) p
 
 no-bytes : (bs out : List ℕ) (at : ℕ) → at ≡ at + length bs → overlay out at bs ≡ out
 no-bytes [] out at e = overlay-none out at
@@ -177,14 +250,13 @@ put-nothing word at next out left (whole s l p) e = sym (p ∙ no-bytes _ out at
 
 words-turn : (w : Writing) (out ws : List ℕ) (i : ℕ) → i < length ws
     → afterWords w out (drop i ws)
-    ≡ afterWords (given w (commandItem [] (wordCommand (getD ws i 0))))
-    (overlay out (w .at) (admitted w (commandItem [] (wordCommand (getD ws i 0))) .bytes)) (drop (i + 1) ws)
-unfolding afterWords wordItems
-words-turn w out ws i h = rw (add-one, drop-cons ws i 0) (after-cons Commands (record { writing = w; out = out }) _ _)
+    ≡ afterWords (given w (wordItem (getD ws i 0))) (overlay out (w .at) (admitted w (wordItem (getD ws i 0)) .bytes)) (drop (i + 1) ws)
+unfolding afterWords
+words-turn w out ws i h = rw (add-one, drop-cons ws i 0 h)
 
 words-end : (w : Writing) (out ws : List ℕ) (i : ℕ) → length ws ≤ i → afterWords w out (drop i ws) ≡ record { writing = w; out = out }
-unfolding afterWords wordItems
-words-end w out ws i h = rw (drop-of-length-le ws h) (after-none Commands (record { writing = w; out = out }))
+unfolding afterWords
+words-end w out ws i h = rw (drop-of-length-le ws h)
 
 -- A close of a state gives this answer, and leaves this buffer.
 abbrev pub Ends : State → ℕ → WrittenNumbers → List ℕ → Type 0
@@ -201,8 +273,8 @@ module _ (w₀ : Writing) (out₀ : List ℕ) (from : ℕ) (ws : List ℕ) where
 
   module _ (w : Writing) (out : List ℕ) (i : ℕ) (g : Gone w₀ out₀ from ws w out i) where
     -- One more word, by its emission.
-    pub gone-word : (v : Writing) (left : List ℕ) → i < length ws → v ≡ given w (commandItem [] (wordCommand (getD ws i 0)))
-        → left ≡ overlay out (w .at) (admitted w (commandItem [] (wordCommand (getD ws i 0))) .bytes)
+    pub gone-word : (v : Writing) (left : List ℕ) → i < length ws → v ≡ given w (wordItem (getD ws i 0))
+        → left ≡ overlay out (w .at) (admitted w (wordItem (getD ws i 0)) .bytes)
         → Gone w₀ out₀ from ws v left (i + 1)
     gone-word v left h p q =
         record {
@@ -322,26 +394,16 @@ module _ (at : ℕ) (near : at ≤ 40000) (out : List ℕ) where
 
 -- The answer and the buffer of a whole message of words.
 abbrev pub Whole : ℕ → List ℕ → List ℕ → WrittenNumbers → List ℕ → Type 0
-Whole device ws out a left =
-    (a ≡ writtenNumbers (stringAnswer Commands device (wordItems ws) out)) × (left ≡ stringLeft Commands device (wordItems ws) out)
+Whole device ws out a left = (a ≡ writtenNumbers (wordsAnswer device ws out)) × (left ≡ wordsLeft device ws out)
 
 -- From the opening on the words lead where the message leads.
 message-words : (device : ℕ) (out₀ ws : List ℕ) (w : Writing) (out : List ℕ) (a : WrittenNumbers) (left : List ℕ)
     → w ≡ begun (openedCommands device) → out ≡ overlay out₀ 0 (openedCommands device .bytes)
     → Ends (afterWords w out ws) (length out) a left → Whole device ws out₀ a left
-unfolding afterWords
+unfolding wordsAnswer wordsLeft
 message-words device out₀ ws w out a left p q r =
-    let ends : Ends (afterItems Commands (opened (openedCommands device) out₀) (wordItems ws)) (length out₀) a left =
-    subst (λ (n : ℕ). Ends (afterItems Commands (opened (openedCommands device) out₀) (wordItems ws)) n a left)
-    (ap length q ∙ length-overlay out₀ 0 _)
-    (subst (λ (s : State). Ends (afterItems Commands s (wordItems ws)) (length out) a left) (same p q) r) in (
-      ends .0 ∙ ap writtenNumbers (sym (string-answer Commands device (wordItems ws) out₀)),
-      ends .1 ∙ sym (string-left Commands device (wordItems ws) out₀),
-    )
-  where
-    same : w ≡ begun (openedCommands device) → out ≡ overlay out₀ 0 (openedCommands device .bytes)
-        → _≡_ {A = State} (record { writing = w; out = out }) (opened (openedCommands device) out₀)
-    same p q = ap₂ (λ (x : Writing) (l : List ℕ). record { writing = x; out = l }) p q
+    subst (λ (n : ℕ). Ends (wordsState device ws out₀) n a left) (ap length q ∙ length-overlay out₀ 0 _)
+    (subst (λ (s : State). Ends s (length out) a left) (ap₂ (λ (x : Writing) (l : List ℕ). afterWords x l ws) p q) r)
 
 -- A writing that was refused before anything went out.
 abbrev barred : Refusal → Writing
@@ -361,11 +423,10 @@ barred-item r out e =
     (ap (λ (x : Emission). overlay out 0 (x .bytes)) a ∙ overlay-none out 0)
 
 barred-words : (r : Refusal) (out ws : List ℕ) → afterWords (barred r) out ws ≡ record { writing = barred r; out = out }
-unfolding afterWords wordItems
-barred-words r out [] = after-none Commands (record { writing = barred r; out = out })
+unfolding afterWords
+barred-words r out [] = refl
 barred-words r out (x ∷ ws) =
-    after-cons Commands (record { writing = barred r; out = out }) (G.given Commands [] (wordCommand x)) (wordItems ws)
-    ∙ ap (λ (s : State). afterItems Commands s (wordItems ws)) (barred-item r out (commandItem [] (wordCommand x))) ∙ barred-words r out ws
+    ap (λ (s : State). afterWords (s .writing) (s .out) ws) (barred-item r out (wordItem x)) ∙ barred-words r out ws
 
 barred-ends : (out : List ℕ) → Ends (record { writing = barred (refusal 5); out = out }) (length out) (record { refusal = 5; length = 0 }) out
 unfolding writtenNumbers neededOf

@@ -3,6 +3,7 @@
 // names the definition of the plain call that it equals.
 pub mod apply;
 pub mod code;
+mod command;
 mod locate;
 pub mod message;
 mod numbers;

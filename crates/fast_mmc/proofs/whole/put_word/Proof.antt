@@ -6,8 +6,8 @@ use Rattle.fast_mmc.proofs.whole.put_word.Tie as tie
 slice-aggregate-put-command : tie.Need-slice-aggregate-put-command
 slice-aggregate-put-command c = search needs
 
-word-command-requires : tie.Need-word-command-requires
-word-command-requires c κs = search needs
+given-command-requires : tie.Need-given-command-requires
+given-command-requires c κs = search needs
 
 put-command-requires : tie.Need-put-command-requires
 put-command-requires c κs = search needs
@@ -16,14 +16,14 @@ same-length : tie.Need-same-length
 same-length c = search needs
 
 returns : tie.Need-returns
-returns c = given-word _ _ _ _ _ _ (c .before .before .before .before .word-command .ensures) (c .before .before .before .put-command .ensures .0 .0) (c .before .before .before .put-command .ensures .1)
+returns c = given-word _ _ _ _ _ _ (c .before .before .before .before .given-command .ensures) (c .before .before .before .put-command .ensures .0 .0) (c .before .before .before .put-command .ensures .1)
 
 pub put-word-spec : {M : Type 1} → statement M
 put-word-spec =
     tie.close
     (tie.spec
     slice-aggregate-put-command
-    word-command-requires
+    given-command-requires
     put-command-requires
     same-length
     returns)
