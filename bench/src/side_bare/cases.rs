@@ -3,7 +3,7 @@
 use std::hint::black_box;
 
 use super::boundary::{
-    self, Code, Command, Field, Part, ShortCode, Time, Universal, Written,
+    self, Code, Field, Part, ShortCode, Time, Universal, Written,
 };
 use crate::case::Case;
 use crate::inputs::{
@@ -13,11 +13,9 @@ use crate::inputs::{
 const FORWARD: u8 = 0;
 const DROP_FRAME: u8 = 2;
 const PLAY: u64 = 1;
-const WRITE: u8 = 9;
 const LOCATE_FIELD: u8 = 10;
 const LOCATE_TARGET: u8 = 11;
 const MOVE: u8 = 12;
-const OTHER_COMMAND: u8 = 13;
 const TIME_CODE: u8 = 0;
 const SHORT: u8 = 1;
 const OTHER_FIELD: u8 = 2;
@@ -152,68 +150,29 @@ fn write_blank() -> Case {
     writing("write_blank", [u64::from_le_bytes(blank)])
 }
 
-/// A command of a kind and two names.
-fn command(kind: u8, first: u8, second: u8) -> Command {
-    Command {
-        kind,
-        first,
-        second,
-        ..Command::default()
-    }
-}
-
 fn write_mixed() -> Case {
-    let data = Part {
-        start: 0,
-        length: GP0.len(),
-    };
-    let list = [
-        Command {
-            data,
-            ..command(WRITE, 0, 0)
-        },
-        command(MOVE, 0x08, 0x01),
-        command(LOCATE_FIELD, 0x08, 0),
-        command(PLAY as u8, 0, 0),
+    let words = [
+        u64::from_le_bytes([MOVE, 0x08, 0x01, 0, 0, 0, 0, 0]),
+        u64::from_le_bytes([LOCATE_FIELD, 0x08, 0, 0, 0, 0, 0, 0]),
+        PLAY,
     ];
     let mut out = [0; ROOM];
     Case::new("write_mixed", move |_| {
         let room = black_box(&mut out);
-        let written = black_box(boundary::write_each(
-            room,
-            black_box(0x7F),
-            &GP0,
-            black_box(&list),
-        ));
+        let words = black_box(&words);
+        let written = black_box(boundary::write_mixed(room, black_box(0x7F), &GP0, words));
         length_of(written) + u64::from(out[8])
     })
 }
 
-/// Another command, whose name and data stand side by side in its source.
-fn other(start: usize, name: usize, data: usize) -> Command {
-    let name = Part {
-        start,
-        length: name,
-    };
-    let data = Part {
-        start: start + name.length,
-        length: data,
-    };
-    Command {
-        name,
-        data,
-        ..command(OTHER_COMMAND, 0, 0)
-    }
-}
-
 fn write_others() -> Case {
-    let source = [&OTHER.0[..], &OTHER.1, &PREFIXED].concat();
-    let list = [other(0, 1, 3), other(4, 2, 0)];
+    let source = [&OTHER.0[..], &OTHER.1].concat();
     let mut out = [0; ROOM];
     Case::new("write_others", move |_| {
         let room = black_box(&mut out);
-        let list = black_box(&list);
-        let written = black_box(boundary::write_each(room, black_box(0x7F), &source, list));
+        let others = [(&source[..], 1), (&PREFIXED[..], 2)];
+        let others = black_box(&others);
+        let written = black_box(boundary::write_others(room, black_box(0x7F), others));
         length_of(written) + u64::from(out[8])
     })
 }

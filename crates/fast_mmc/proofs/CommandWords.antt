@@ -27,7 +27,7 @@ use Rattle.labels.specs.declared.time.TimeCodeType.{TimeCodeType}
 use Rattle.labels.specs.declared.time.TimeCodeType.the-variants.{Fps24, Fps25, Fps30Drop, Fps30}
 use Rattle.universal.specs.Emission.{Emission, stopped}
 use Rattle.universal.specs.Overlay.{overlay}
-use Rattle.fast_mmc.specs.Words.{afterWords, closedOut, wordsAnswer, wordsLeft}
+use Rattle.fast_mmc.specs.Words.{afterWords, closedOut, wordsAnswer, wordsLeft, OneWords, givenAll}
 use Rattle.fast_mmc.specs.Code.{isStatus}
 use Rattle.fast_mmc.specs.Word.{withBytes, fourMarks, targetBytes, targetWord, commandWord, plainCommand, byteAt, markedCode, wordCode, saidCommand, ifWord, wordCommand, wordItem, OneWord}
 use Rattle.fast_mmc.proofs.Back.{final-back}
@@ -146,11 +146,11 @@ plain-not w l h =
 
 -- ---- the marks of a time code
 
-rate-back : (r : TimeCodeType) (x : ℕ) → typeOf (bitsOf r + x * 4) ≡ r
-rate-back Fps24 x = let e : (0 + x * 4) % 4 ≡ 0 = omega arith in rw e
-rate-back Fps25 x = let e : (1 + x * 4) % 4 ≡ 1 = omega arith in rw e
-rate-back Fps30Drop x = let e : (2 + x * 4) % 4 ≡ 2 = omega arith in rw e
-rate-back Fps30 x = let e : (3 + x * 4) % 4 ≡ 3 = omega arith in rw e
+rate-back : (r : TimeCodeType) (x : ℕ) → typeOf ((bitsOf r + x * 8) % 256) ≡ r
+rate-back Fps24 x = let e : (0 + x * 8) % 256 % 4 ≡ 0 = omega arith in rw e
+rate-back Fps25 x = let e : (1 + x * 8) % 256 % 4 ≡ 1 = omega arith in rw e
+rate-back Fps30Drop x = let e : (2 + x * 8) % 256 % 4 ≡ 2 = omega arith in rw e
+rate-back Fps30 x = let e : (3 + x * 8) % 256 % 4 ≡ 3 = omega arith in rw e
 
 pub rate-low : (r : TimeCodeType) → bitsOf r < 4
 rate-low Fps24 = omega arith
@@ -159,32 +159,31 @@ rate-low Fps30Drop = omega arith
 rate-low Fps30 = omega arith
 
 abbrev four : Bool → Bool → Bool → Bool → ℕ
-four k b g s = flag 1 k + flag 2 b + flag 4 g + flag 8 s
+four k b g s = flag 1 b + flag 64 k + flag 128 s + flag 256 g
 
 pub record FourBack (x : ℕ) (k b g s : Bool) : Type 0 where
-  pub color : eqb (x % 2) 1 ≡ k
-  pub blank : bit 2 x ≡ b
-  pub sign : bit 4 x ≡ g
-  pub status : bit 8 x ≡ s
-  pub low : x < 16
+  pub color : bit 64 x ≡ k
+  pub blank : eqb (x % 2) 1 ≡ b
+  pub sign : bit 256 x ≡ g
+  pub status : bit 128 x ≡ s
 
 four-back : (k b g s : Bool) → FourBack (four k b g s) k b g s
-four-back true true true true = record { color = refl; blank = refl; sign = refl; status = refl; low = omega arith }
-four-back true true true false = record { color = refl; blank = refl; sign = refl; status = refl; low = omega arith }
-four-back true true false true = record { color = refl; blank = refl; sign = refl; status = refl; low = omega arith }
-four-back true true false false = record { color = refl; blank = refl; sign = refl; status = refl; low = omega arith }
-four-back true false true true = record { color = refl; blank = refl; sign = refl; status = refl; low = omega arith }
-four-back true false true false = record { color = refl; blank = refl; sign = refl; status = refl; low = omega arith }
-four-back true false false true = record { color = refl; blank = refl; sign = refl; status = refl; low = omega arith }
-four-back true false false false = record { color = refl; blank = refl; sign = refl; status = refl; low = omega arith }
-four-back false true true true = record { color = refl; blank = refl; sign = refl; status = refl; low = omega arith }
-four-back false true true false = record { color = refl; blank = refl; sign = refl; status = refl; low = omega arith }
-four-back false true false true = record { color = refl; blank = refl; sign = refl; status = refl; low = omega arith }
-four-back false true false false = record { color = refl; blank = refl; sign = refl; status = refl; low = omega arith }
-four-back false false true true = record { color = refl; blank = refl; sign = refl; status = refl; low = omega arith }
-four-back false false true false = record { color = refl; blank = refl; sign = refl; status = refl; low = omega arith }
-four-back false false false true = record { color = refl; blank = refl; sign = refl; status = refl; low = omega arith }
-four-back false false false false = record { color = refl; blank = refl; sign = refl; status = refl; low = omega arith }
+four-back true true true true = record { color = refl; blank = refl; sign = refl; status = refl }
+four-back true true true false = record { color = refl; blank = refl; sign = refl; status = refl }
+four-back true true false true = record { color = refl; blank = refl; sign = refl; status = refl }
+four-back true true false false = record { color = refl; blank = refl; sign = refl; status = refl }
+four-back true false true true = record { color = refl; blank = refl; sign = refl; status = refl }
+four-back true false true false = record { color = refl; blank = refl; sign = refl; status = refl }
+four-back true false false true = record { color = refl; blank = refl; sign = refl; status = refl }
+four-back true false false false = record { color = refl; blank = refl; sign = refl; status = refl }
+four-back false true true true = record { color = refl; blank = refl; sign = refl; status = refl }
+four-back false true true false = record { color = refl; blank = refl; sign = refl; status = refl }
+four-back false true false true = record { color = refl; blank = refl; sign = refl; status = refl }
+four-back false true false false = record { color = refl; blank = refl; sign = refl; status = refl }
+four-back false false true true = record { color = refl; blank = refl; sign = refl; status = refl }
+four-back false false true false = record { color = refl; blank = refl; sign = refl; status = refl }
+four-back false false false true = record { color = refl; blank = refl; sign = refl; status = refl }
+four-back false false false false = record { color = refl; blank = refl; sign = refl; status = refl }
 
 marks-back : (c : StandardTimeCode)
     → FourBack (fourMarks c) (c .«color_frame») (c .blank) (c .negative) (isStatus (c .«final_byte»))
@@ -193,7 +192,7 @@ marks-back c = four-back (c .«color_frame») (c .blank) (c .negative) (isStatus
 
 -- A time code by its rate, counts, last byte and marks is itself.
 marked-back : (c : StandardTimeCode)
-    → markedCode (bitsOf (c .time .rate) + fourMarks c * 4) (c .time .hours) (c .time .minutes) (c .time .seconds) (c .time .frames)
+    → markedCode ((bitsOf (c .time .rate) + fourMarks c * 8) % 256) (c .time .hours) (c .time .minutes) (c .time .seconds) (c .time .frames)
     (finalValue (c .«final_byte»)) (fourMarks c)
     ≡ c
 unfolding markedCode
@@ -211,10 +210,11 @@ pub record Told (w h m s f l k : ℕ) : Type 0 where
   pub seconds : byteAt 16777216 w ≡ s
   pub frames : byteAt 4294967296 w ≡ f
   pub last : byteAt 1099511627776 w ≡ l
-  pub marks : byteAt 281474976710656 w ≡ k
+  pub rate : byteAt 281474976710656 w ≡ k % 256
+  pub marks : w / 2251799813685248 ≡ k / 8
 
-told : (h m s f l k : ℕ) → h < 256 → m < 256 → s < 256 → f < 256 → l < 256 → k < 256 → Told (targetBytes h m s f l k) h m s f l k
-told h m s f l k hh hm hs hf hl hk =
+told : (h m s f l k : ℕ) → h < 256 → m < 256 → s < 256 → f < 256 → l < 256 → Told (targetBytes h m s f l k) h m s f l k
+told h m s f l k hh hm hs hf hl =
     record {
       case = omega arith;
       hours = omega arith;
@@ -222,21 +222,22 @@ told h m s f l k hh hm hs hf hl hk =
       seconds = omega arith;
       frames = omega arith;
       last = omega arith;
+      rate = omega arith;
       marks = omega arith;
     }
 
 target-told : (c : StandardTimeCode) → OneWord (LocateTarget c)
     → Told (targetWord c) (c .time .hours) (c .time .minutes) (c .time .seconds) (c .time .frames) (finalValue (c .«final_byte»))
-    (bitsOf (c .time .rate) + fourMarks c * 4)
+    (bitsOf (c .time .rate) + fourMarks c * 8)
 unfolding targetWord
 target-told c (h, (m, (s, (f, l)))) =
-    told _ _ _ _ _ _ h m s f l (omega (arith, rate-low (c .time .rate), marks-back c .low))
+    told _ _ _ _ _ _ h m s f l
 
 target-code : (c : StandardTimeCode) → OneWord (LocateTarget c) → wordCode (targetWord c) ≡ c
 target-code c o =
     let t = target-told c o in
-    let q : (bitsOf (c .time .rate) + fourMarks c * 4) / 4 ≡ fourMarks c = omega (arith, rate-low (c .time .rate)) in
-    rw (t .hours, t .minutes, t .seconds, t .frames, t .last, t .marks, q) (marked-back c)
+    let q : (bitsOf (c .time .rate) + fourMarks c * 8) / 8 ≡ fourMarks c = omega (arith, rate-low (c .time .rate)) in
+    rw (t .hours, t .minutes, t .seconds, t .frames, t .last, t .rate, t .marks, q) (marked-back c)
 
 -- ---- the laws
 
@@ -327,15 +328,6 @@ read-target-back hr mn sc fr ff =
     (rw (standard-parts hr mn sc fr ff) (omega arith, (omega arith, (omega arith, (omega arith, last-low fr ff)))))
 
 -- ---- a message of the words of commands
-
--- The commands of a list, as they are given to be written.
-abbrev pub givenAll : List MmcCommand → List (Given Commands)
-givenAll cs = map (given Commands []) cs
-
--- Each has a word of its own.
-abbrev pub OneWords : List MmcCommand → Type 0
-OneWords [] = Unit
-OneWords (c ∷ cs) = OneWord c × OneWords cs
 
 after-commands : (w : Writing) (out : List ℕ) (cs : List MmcCommand) → OneWords cs
     → afterWords w out (map commandWord cs) ≡ afterItems Commands (record { writing = w; out = out }) (givenAll cs)

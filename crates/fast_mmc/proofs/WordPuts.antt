@@ -1,5 +1,5 @@
 -- A message from words, word by word. Assumes nothing.
-use Prim.Native.Nat.{ℕ, zero, suc, _+_, _*_, _/_, _%_, _≤_, _<_}
+use Prim.Native.Nat.{ℕ, zero, suc, _+_, _-_, _*_, _/_, _%_, _≤_, _<_}
 use mathlib.Core.Path.{_≡_, refl, sym, ap, ap₂, subst, _∙_}
 use mathlib.Core.Bool.{Bool, true, false, true≢false}
 use mathlib.Core.List.{List, [], _∷_}
@@ -20,11 +20,14 @@ use Rattle.fast_mmc.specs.Numbers.{neededOf, writtenNumbers}
 use Rattle.codes.proofs.Laws.{fits-parts, list-parts}
 use Rattle.fast_mmc.specs.Code.{finalOf, isStatus}
 use Rattle.fast_mmc.specs.Word.{fourMarks, targetBytes, targetWord, commandWord, plainCommand, byteAt, markedCode, wordCode, wordItem}
-use Rattle.fast_mmc.specs.Contracts.{going, PutWhole, nothing, whole}
+use Rattle.fast_mmc.specs.Contracts.{going, PutWhole, nothing, whole, PutOne, still, one}
+use Rattle.fast_mmc.specs.Refusal.{flatStop}
+use Rattle.fast_mmc.specs.Write.{checkedAt, writerOf, writingAt, flatWriter}
 use Rattle.fast_mmc.specs.Words.{afterWords, closedOut, wordsState, wordsAnswer, wordsLeft}
 use Rattle.mmc.specs.Length.{within}
 use Rattle.mmc.specs.Named.{summed}
-use Rattle.mmc.specs.Write.{Writing, openedCommands, begun, admitted, counted, moved, given, sound, closedMessage, ended, wholeMessage}
+use Rattle.mmc.specs.declared.write.Writer.{Writer}
+use Rattle.mmc.specs.Write.{Writing, writingOf, openedCommands, begun, admitted, counted, moved, given, sound, closedMessage, ended, wholeMessage}
 use Rattle.mmc.specs.Writings.{State}
 use Rattle.labels.specs.St12.{label, framesPerSecond, isDropFrame, isValid}
 use Rattle.labels.specs.Time.{typeOf, bitsOf}
@@ -111,25 +114,23 @@ module _ (h m s f last b : ℕ) (u : Usual h m s f last b) where
   rate-bits = four (λ b. bitsOf (typeOf b) ≡ b) refl refl refl refl b (u .rate)
 
   -- A usual time code goes out as its counts are, the rate above the hours.
-  pub usual-item : commandItem [] (LocateTarget (markedCode b h m s f last (b / 4)))
+  pub usual-item : commandItem [] (LocateTarget (markedCode b h m s f last 0))
       ≡ sent (68 ∷ 6 ∷ 1 ∷ (h + b * 32) ∷ m ∷ s ∷ f ∷ last ∷ [])
   unfolding markedCode finalOf
   usual-item =
-      let z : b / 4 ≡ 0 = omega (arith, u .rate) in
       let hr : b * 32 + h % 32 ≡ h + b * 32 = omega (arith, u .hours) in
       let mn : 0 + m ≡ m = omega arith in
       let sc : 0 + s ≡ s = omega arith in
       let fr : 0 + 0 + f ≡ f = omega arith in
-      locate-sent [] (markedCode b h m s f last (b / 4))
-      ∙ rw (z, fits-parts, list-parts, le-leb last 99 (u .subframes), u .valid, rate-bits, hr, mn, sc, fr)
+      locate-sent [] (markedCode b h m s f last 0)
+      ∙ rw (fits-parts, list-parts, le-leb last 99 (u .subframes), u .valid, rate-bits, hr, mn, sc, fr)
 
   -- And its word is made of these bytes.
-  pub usual-word : targetWord (markedCode b h m s f last (b / 4)) ≡ targetBytes h m s f last b
+  pub usual-word : targetWord (markedCode b h m s f last 0) ≡ targetBytes h m s f last b
   unfolding markedCode finalOf targetWord fourMarks isStatus
   usual-word =
-      let z : b / 4 ≡ 0 = omega (arith, u .rate) in
-      let k : b + 0 * 4 ≡ b = omega arith in
-      rw (z, rate-bits, k)
+      let k : b + 0 * 8 ≡ b = omega arith in
+      rw (rate-bits, k)
 
 -- A number is the bytes that are told of it.
 word-bytes : (w : ℕ) → w % 256 ≡ 11 → w / 1125899906842624 ≡ 0
@@ -166,10 +167,15 @@ usual-sent : (w : ℕ) → w % 256 ≡ 11 → w / 1125899906842624 ≡ 0
     ∷ [])
 unfolding commandWord
 usual-sent w e z u =
+    let q : w / 2251799813685248 ≡ 0 = omega (arith, z) in
+    let c : wordCode w
+    ≡ markedCode (byteAt 281474976710656 w) (byteAt 256 w) (byteAt 65536 w) (byteAt 16777216 w) (byteAt 4294967296 w) (byteAt 1099511627776 w) 0 =
+    ap (markedCode (byteAt 281474976710656 w) (byteAt 256 w) (byteAt 65536 w) (byteAt 16777216 w) (byteAt 4294967296 w) (byteAt 1099511627776 w)) q in
     sym
     (item-of w (LocateTarget (wordCode w))
     (is-word w (LocateTarget (wordCode w)) (said-target w (omega (arith, e)) e)
-    (usual-word _ _ _ _ _ _ u ∙ word-bytes w e z)))
+    (ap targetWord c ∙ usual-word _ _ _ _ _ _ u ∙ word-bytes w e z)))
+    ∙ ap (λ (x : StandardTimeCode). commandItem [] (LocateTarget x)) c
     ∙ usual-item _ _ _ _ _ _ u
 
 -- ---- a Locate to a register, and a Move
@@ -322,6 +328,71 @@ module _ (at i : ℕ) (few : i < 256) (near : at ≤ 40000) where
       gone-word w₀ out₀ from ws (going at i) out i g (going next (i + 1)) left h
       (ap (λ (k : ℕ). going k (i + 1)) l ∙ going-on _ s)
       (p ∙ ap (λ (x : Emission). overlay out at (x .bytes)) (sym (going-takes _)))
+
+-- ---- with the writer as one number
+
+-- A number below 2^40 is that of a writing that nothing has refused, with fewer than 256 items.
+writing-going : (v : ℕ) → v / 1099511627776 ≡ 0 → writingAt v ≡ going (v % 4294967296) (v / 4294967296)
+unfolding writerOf checkedAt
+writing-going v z =
+    let r : v / 281474976710656 % 256 ≡ 0 = omega (arith, z) in
+    let i : v / 4294967296 % 65536 ≡ v / 4294967296 = omega (arith, z) in
+    rw (r, i)
+
+-- A word that went out whole moves the position and counts an item.
+pub put-one : (word v at next after : ℕ) (out left : List ℕ) → v / 1099511627776 ≡ 0 → at ≡ v % 4294967296 → at ≤ 40000 → next ≤ at + 8
+    → (next ≡ at → ⊥) → after ≡ v - at + next + 4294967296 → PutWhole word at out next left → PutOne word v out after left
+unfolding flatWriter flatStop
+put-one word v at next after out left z p h k n q nothing = absurd (n refl)
+put-one word v at next after out left z p h k n q (whole s l e) =
+    let w : writingAt v ≡ going at (v / 4294967296) =
+    writing-going v z ∙ ap (λ (x : ℕ). going x (v / 4294967296)) (sym p) in
+    let few : v / 4294967296 < 256 = omega (arith, z) in
+    let g : going next (v / 4294967296 + 1) ≡ given (going at (v / 4294967296)) (wordItem word) =
+    ap (λ (x : ℕ). going x (v / 4294967296 + 1)) l ∙ going-on at (v / 4294967296) few h (wordItem word) s in
+    one {after = after} {left = left} (more (at + length (wordItem word .bytes)) l)
+    (number v at next after z p h k q ∙ ap flatWriter (g ∙ ap (λ (x : Writing). given x (wordItem word)) (sym w)))
+    (e
+    ∙ ap (λ (x : Emission). overlay out at (x .bytes)) (sym (going-takes at (v / 4294967296) few h (wordItem word)))
+    ∙ ap (λ (x : Writing). overlay out (x .at) (admitted x (wordItem word) .bytes)) (sym w))
+  where
+    more : (m : ℕ) → next ≡ m → v < after
+    more m l = omega (arith, p, q, n, k, l)
+
+    number : (v at next after : ℕ) → v / 1099511627776 ≡ 0 → at ≡ v % 4294967296 → at ≤ 40000 → next ≤ at + 8
+        → after ≡ v - at + next + 4294967296 → after ≡ flatWriter (going next (v / 4294967296 + 1))
+    number v at next after z p h k q =
+        let n : next % 4294967296 ≡ next = omega (arith, h, k) in
+        let i : (v / 4294967296 + 1) % 65536 ≡ v / 4294967296 + 1 = omega (arith, z) in
+        rw (n, i) (omega (arith, p, q))
+
+-- A word after which the number is the same was left, and the buffer is as found.
+pub one-still : (word v after : ℕ) (out left : List ℕ) → PutOne word v out after left → after ≡ v → out ≡ left
+one-still word v after out left still e = refl
+one-still word v after out left (one l p q) e = absurd (omega (arith, l, e))
+
+-- A word that was left leaves the buffer as found.
+pub left-still : (word v : ℕ) (out left : List ℕ) → out ≡ left → PutOne word v out v left
+left-still word v out left e = subst (PutOne word v out v) e still
+
+-- By the writer it is put from where nothing was.
+pub one-by-writer : (word v after : ℕ) (w : Writer) (out found left : List ℕ) (x : Writing) → out ≡ found → after ≡ flatWriter x
+    → w ≡ writerOf v → x ≡ given (writingOf w) (wordItem word)
+    → left ≡ overlay found (w .at) (admitted (writingOf w) (wordItem word) .bytes)
+    → (after ≡ flatWriter (given (writingAt v) (wordItem word)))
+    × (left ≡ overlay out (writingAt v .at) (admitted (writingAt v) (wordItem word) .bytes))
+one-by-writer word v after w out found left x o p q r l = (
+  p ∙ ap flatWriter (r ∙ ap (λ (y : Writer). given (writingOf y) (wordItem word)) q),
+  l
+      ∙ ap₂ (λ (b : List ℕ) (y : Writer). overlay b (y .at) (admitted (writingOf y) (wordItem word) .bytes)) (sym o) q,
+)
+
+-- Any other was put.
+pub one-put : (word v after : ℕ) (out left : List ℕ) → PutOne word v out after left → (after ≡ v → ⊥)
+    → (after ≡ flatWriter (given (writingAt v) (wordItem word)))
+    × (left ≡ overlay out (writingAt v .at) (admitted (writingAt v) (wordItem word) .bytes))
+one-put word v after out left still n = absurd (n refl)
+one-put word v after out left (one l p q) n = (p, q)
 
 -- A word of which nothing went out leaves it where it was.
 pub gone-still : (w₀ : Writing) (out₀ : List ℕ) (from : ℕ) (ws : List ℕ) (w : Writing) (out left : List ℕ) (i word next : ℕ)

@@ -2,10 +2,13 @@
 use Prim.Native.Nat.{ℕ, zero, suc, _+_, _-_, _*_, _/_, _%_, _≤_, _<_}
 use mathlib.Core.Path.{_≡_, refl, sym, ap, ap₂, subst, _∙_}
 use mathlib.Core.Bool.{Bool, true, false, cond, true≢false}
-use mathlib.Core.Logic.{_⊎_, ⊎-elim}
+use mathlib.Core.Logic.{_⊎_, inl, inr, ⊎-elim}
 use mathlib.Core.List.{List, [], _∷_}
+use native.Mathlib.Nat.{lt-irrefl}
 use native.Mathlib.Omega.{arith}
-use lib.Dec.{eqb, lit≤}
+use borrow.Author.Tests.{leb-true, ltb-true}
+use lib.Dec.{eqb, leb, ltb, lit≤}
+use Rattle.universal.proofs.Tests.{and-parts}
 use lib.ListN.{length, getD, take}
 use lib.Seq.{drop-cons}
 use Rattle.mmc.specs.declared.command.MmcCommand.the-variants.{Other}
@@ -25,11 +28,11 @@ use Rattle.codes.specs.TimeCode.{bit, flag, readStatus, readFinal, finalValue, 
 use Rattle.labels.specs.Time.{bitsOf, rateAt, typeOf}
 use Rattle.fast_mmc.specs.Code.{isStatus}
 use Rattle.fast_mmc.specs.Word.{fourMarks, targetBytes, targetWord, commandWord, answerWord, nextWord}
-use Rattle.fast_mmc.specs.Contracts.{AloneWord}
+use Rattle.fast_mmc.specs.Contracts.{AloneWord, ShortWord, more, alone}
 use Rattle.universal.specs.Refusals.{gives, refused, refusalOf}
 use Rattle.universal.specs.declared.error.SysexError.{SysexError}
 use Rattle.codes.proofs.Laws.{standard-parts}
-use Rattle.mmc.proofs.ReadingLaws.{command-length, names-read, unknown-byte, in-range, by-byte, part-inside, command-refused, command-prefixed, command-end, command-alone, command-no-count, command-few-data, command-counted}
+use Rattle.mmc.proofs.ReadingLaws.{command-length, names-read, unknown-byte, below-range, by-byte, part-inside, command-refused, command-prefixed, command-end, command-alone, command-no-count, command-few-data, command-counted}
 
 -- ---- the bytes of a time code
 
@@ -54,25 +57,58 @@ status-told fr ff = go (bit 32 fr)
     go true = refl
     go false = refl
 
--- Each count without the bits beside it, and these in the byte of marks.
-pub target-read : (hr mn sc fr ff : ℕ)
-    → targetBytes (hr % 32) (mn % 64) (sc % 64) (fr % 32) (finalValue (readFinal fr ff))
-    (hr / 32 % 4 + (mn / 64 % 2 + sc / 64 % 2 * 2 + fr / 64 % 2 * 4 + fr / 32 % 2 * 8) * 4)
+-- What stands at the places of four bytes that are one number.
+record Beside (hr mn sc fr four : ℕ) : Type 0 where
+  hours : four % 32 ≡ hr % 32
+  minutes : four / 256 % 64 ≡ mn % 64
+  seconds : four / 65536 % 64 ≡ sc % 64
+  frames : four / 16777216 % 32 ≡ fr % 32
+  rate : four / 32 % 4 ≡ hr / 32 % 4
+  color : four / 32 / 512 % 2 ≡ mn / 64 % 2
+  blank : four / 524288 / 8 % 2 ≡ sc / 64 % 2
+  upper : four / 524288 / 1024 % 4 ≡ fr / 32 % 4
+
+beside : (hr mn sc fr : ℕ) → hr < 256 → mn < 256 → sc < 256 → fr < 256 → Beside hr mn sc fr (hr + mn * 256 + sc * 65536 + fr * 16777216)
+beside hr mn sc fr a b c d =
+    record {
+      hours = omega arith;
+      minutes = omega arith;
+      seconds = omega arith;
+      frames = omega arith;
+      rate = omega arith;
+      color = omega arith;
+      blank = omega arith;
+      upper = omega arith;
+    }
+
+-- Each count without the bits beside it, and these in the marks.
+pub target-read : (hr mn sc fr ff four : ℕ) → hr < 256 → mn < 256 → sc < 256 → fr < 256
+    → four ≡ hr + mn * 256 + sc * 65536 + fr * 16777216
+    → 11
+    + (four % 32 + four / 256 % 64 * 256 + four / 65536 % 64 * 65536 + four / 16777216 % 32 * 16777216) * 256
+    + finalValue (readFinal fr ff) * 1099511627776
+    + (four / 32 % 4 + four / 32 / 512 % 2 * 512 + four / 524288 / 8 % 2 * 8 + four / 524288 / 1024 % 4 * 1024) * 281474976710656
     ≡ targetWord (readStandard hr mn sc fr ff)
 unfolding targetWord fourMarks
-target-read hr mn sc fr ff =
+target-read hr mn sc fr ff four hh hm hs hf e =
+    let k : Beside hr mn sc fr four = subst (Beside hr mn sc fr) (sym e) (beside hr mn sc fr hh hm hs hf) in
     let r : bitsOf (typeOf (hr / 32)) ≡ hr / 32 % 4 = bits-back (hr / 32 % 4) (omega arith) in
-    let c : flag 1 (bit 64 mn) ≡ mn / 64 % 2 * 1 = flag-bit 1 (mn / 64 % 2) (omega arith) in
-    let b : flag 2 (bit 64 sc) ≡ sc / 64 % 2 * 2 = flag-bit 2 (sc / 64 % 2) (omega arith) in
-    let g : flag 4 (bit 64 fr) ≡ fr / 64 % 2 * 4 = flag-bit 4 (fr / 64 % 2) (omega arith) in
-    let i : flag 8 (isStatus (readFinal fr ff)) ≡ fr / 32 % 2 * 8 =
-    ap (flag 8) (status-told fr ff) ∙ flag-bit 8 (fr / 32 % 2) (omega arith) in
-    rw (standard-parts hr mn sc fr ff, r, c, b, g, i)
-    (ap (λ (x : ℕ). targetBytes (hr % 32) (mn % 64) (sc % 64) (fr % 32) (finalValue (readFinal fr ff)) (hr / 32 % 4 + (x + sc / 64 % 2 * 2 + fr / 64 % 2 * 4 + fr / 32 % 2 * 8) * 4))
-    (same (mn / 64 % 2)))
+    let c : flag 64 (bit 64 mn) ≡ mn / 64 % 2 * 64 = flag-bit 64 (mn / 64 % 2) (omega arith) in
+    let b : flag 1 (bit 64 sc) ≡ sc / 64 % 2 * 1 = flag-bit 1 (sc / 64 % 2) (omega arith) in
+    let g : flag 256 (bit 64 fr) ≡ fr / 64 % 2 * 256 = flag-bit 256 (fr / 64 % 2) (omega arith) in
+    let i : flag 128 (isStatus (readFinal fr ff)) ≡ fr / 32 % 2 * 128 =
+    ap (flag 128) (status-told fr ff) ∙ flag-bit 128 (fr / 32 % 2) (omega arith) in
+    rw (standard-parts hr mn sc fr ff, r, c, b, g, i, k .hours, k .minutes, k .seconds, k .frames, k .rate, k .color, k .blank, k .upper)
+    (sum (hr % 32) (mn % 64) (sc % 64) (fr % 32) (finalValue (readFinal fr ff)) (hr / 32 % 4) (mn / 64 % 2) (sc / 64 % 2) (fr / 32 % 4) (fr / 32 % 2)
+    (fr / 64 % 2) (two fr))
   where
-    same : (x : ℕ) → x ≡ x * 1
-    same x = omega arith
+    two : (fr : ℕ) → fr / 32 % 4 ≡ fr / 32 % 2 + fr / 64 % 2 * 2
+    two fr = omega arith
+
+    sum : (h m s f l r c b u i g : ℕ) → u ≡ i + g * 2
+        → 11 + (h + m * 256 + s * 65536 + f * 16777216) * 256 + l * 1099511627776 + (r + c * 512 + b * 8 + u * 1024) * 281474976710656
+        ≡ targetBytes h m s f l (r + (b * 1 + c * 64 + i * 128 + g * 256) * 8)
+    sum h m s f l r c b u i g e = omega (arith, e)
 
 -- ---- a name alone
 
@@ -106,16 +142,46 @@ outside : (name k : ℕ) → within 64 120 name ≡ false → within 64 120 k �
 outside name k f t e = true≢false (sym t ∙ sym (ap (within 64 120) e) ∙ f)
 
 -- Any other is told by its length, 1, and that of its data, 0.
-pub alone-other : (name : ℕ) → (name < 1) ⊎ (8 ≤ name) → (name ≡ 9 → ⊥) → (name ≡ 13 → ⊥) → within 64 120 name ≡ false
-    → AloneWord name 269
+alone-other : (name : ℕ) → (name ≡ 1 → ⊥) → (name ≡ 2 → ⊥) → (name ≡ 3 → ⊥) → (name ≡ 4 → ⊥) → (name ≡ 5 → ⊥) → (name ≡ 6 → ⊥)
+    → (name ≡ 7 → ⊥) → (name ≡ 9 → ⊥) → (name ≡ 13 → ⊥) → within 64 120 name ≡ false → AloneWord name 269
 unfolding commandWord
-alone-other name low p r f d n a l z =
-    let apart : (k : ℕ) → 1 ≤ k → k < 8 → name ≡ k → ⊥ = λ k g h e.
-    ⊎-elim (λ (x : name < 1). omega (arith, g, e, x)) (λ (x : 8 ≤ name). omega (arith, h, e, x)) low in
+alone-other name a₁ a₂ a₃ a₄ a₅ a₆ a₇ p r f d n a l z =
     let other : readByte name d ≡ K.other =
     unknown-byte d n a name
-    (((((((((((((tt, apart 1 (lit≤ tt) (lit≤ tt)), apart 2 (lit≤ tt) (lit≤ tt)), apart 3 (lit≤ tt) (lit≤ tt)), apart 4 (lit≤ tt) (lit≤ tt)), apart 5 (lit≤ tt) (lit≤ tt)), apart 6 (lit≤ tt) (lit≤ tt)), apart 7 (lit≤ tt) (lit≤ tt)), p), r), outside name 64 f refl), outside name 68 f refl), outside name 76 f refl)) in
+    (((((((((((((tt, a₁), a₂), a₃), a₄), a₅), a₆), a₇), p), r), outside name 64 f refl), outside name 68 f refl), outside name 76 f refl)) in
     rw (other, l, z)
+
+-- A name with its word, as the contract says it.
+pub short-known : (r name : ℕ) → name ≡ r + 1 → r < 7 → ShortWord name r
+short-known r name e h =
+    alone {word = r} (omega arith) (λ (z : name ≡ 0). omega (arith, e, z)) (below-range 64 120 name (omega (arith, e, h)))
+    (alone-first name r (sym e) (omega (arith, e, h)))
+
+pub short-pause : (name : ℕ) → name ≡ 9 → ShortWord name 7
+short-pause name e =
+    alone {word = 7} (lit≤ tt) (λ (z : name ≡ 0). omega (arith, e, z)) (below-range 64 120 name (omega (arith, e))) (alone-pause name e)
+
+pub short-reset : (name : ℕ) → name ≡ 13 → ShortWord name 8
+short-reset name e =
+    alone {word = 8} (lit≤ tt) (λ (z : name ≡ 0). omega (arith, e, z)) (below-range 64 120 name (omega (arith, e))) (alone-reset name e)
+
+pub short-other : (name : ℕ) → (name ≡ 0 → ⊥) → (name ≡ 1 → ⊥) → (name ≡ 2 → ⊥) → (name ≡ 3 → ⊥) → (name ≡ 4 → ⊥) → (name ≡ 5 → ⊥)
+    → (name ≡ 6 → ⊥) → (name ≡ 7 → ⊥) → (name ≡ 9 → ⊥) → (name ≡ 13 → ⊥) → within 64 120 name ≡ false → ShortWord name 269
+short-other name z a b c d e g h p r f =
+    alone {word = 269} (lit≤ tt) z f
+    (alone-other name a b c d e g h p r f)
+
+-- Below 270 it is the whole word, and any other name but 00H has a count.
+pub short-alone : (name r : ℕ) → ShortWord name r → r < 270 → (name ≡ 0 → ⊥) × ((within 64 120 name ≡ false) × AloneWord name r)
+short-alone name r (more h) l = absurd (lt-irrefl 270 l)
+short-alone name r (alone h z f a) l = (z, (f, a))
+
+pub short-counted : (name r : ℕ) → ShortWord name r → 270 ≤ r → (name ≡ 0 → ⊥) → within 64 120 name ≡ true
+short-counted name r (more h) l z = ⊎-elim (λ e. absurd (z e)) (λ t. t) h
+short-counted name r (alone h n f a) l z = absurd (omega (arith, h, l))
+
+pub counted-bounds : (name : ℕ) → within 64 120 name ≡ true → (64 ≤ name) × (name < 120)
+counted-bounds name h = let p = and-parts (leb 64 name) (ltb name 120) h in (leb-true _ _ (p .0), ltb-true _ _ (p .1))
 
 -- ---- a name with a count
 

@@ -2,6 +2,7 @@
 use Prim.Native.Nat.{ℕ, _+_, _*_, _/_, _%_, _≤_, _<_}
 use mathlib.Core.Path.{_≡_}
 use mathlib.Core.List.{List}
+use mathlib.Core.Bool.{true, false}
 use mathlib.Core.Logic.{_⊎_}
 use mathlib.Core.Option.{Option, none, some}
 use lib.ListN.{length}
@@ -10,8 +11,10 @@ use Rattle.fast_mmc.specs.declared.command.MaybeCommand.the-variants.{No
 use Rattle.mmc.specs.declared.command.MmcCommand.{MmcCommand}
 use Rattle.mmc.specs.declared.part.Part.{Part}
 use Rattle.mmc.specs.Command.{readByte, located}
-use Rattle.mmc.specs.Write.{Writing}
+use Rattle.mmc.specs.Length.{within}
+use Rattle.mmc.specs.Write.{Writing, given, admitted}
 use Rattle.fast_mmc.specs.Word.{byteAt, commandWord, wordItem}
+use Rattle.fast_mmc.specs.Write.{writingAt, flatWriter}
 use Rattle.universal.specs.Overlay.{overlay}
 
 -- ---- reading
@@ -20,6 +23,11 @@ use Rattle.universal.specs.Overlay.{overlay}
 abbrev pub AloneWord : ℕ → ℕ → Type 0
 AloneWord name word =
     (d : List ℕ) (n a : Part) → n .len ≡ 1 → a .len ≡ 0 → word ≡ commandWord (located (readByte name d) n a)
+
+-- The word of a name, or 270 where it has prefixes or a count.
+pub data ShortWord (name : ℕ) : ℕ → Type 0 where
+  more : (name ≡ 0) ⊎ (within 64 120 name ≡ true) → ShortWord name 270
+  alone : {word : ℕ} → word < 270 → (name ≡ 0 → ⊥) → within 64 120 name ≡ false → AloneWord name word → ShortWord name word
 
 -- ---- the command of a word
 
@@ -64,3 +72,10 @@ pub record InRange (w : ℕ) : Type 0 where
 pub record Kept (m s f rate : ℕ) : Type 0 where
   pub slow : rate < 2 → f < 24 + rate
   pub fast : 2 ≤ rate → (rate ≡ 3 → ⊥) → (m % 10 ≡ 0) ⊎ (2 ≤ s * 30 + f)
+
+-- A word that was put whole, from a writer's number to one above it, or of which nothing was put, where the number stays.
+pub data PutOne (word writer : ℕ) (out : List ℕ) : ℕ → List ℕ → Type 0 where
+  still : PutOne word writer out writer out
+  one : {after : ℕ} {left : List ℕ} → writer < after → after ≡ flatWriter (given (writingAt writer) (wordItem word))
+      → left ≡ overlay out (writingAt writer .at) (admitted (writingAt writer) (wordItem word) .bytes)
+      → PutOne word writer out after left

@@ -24,12 +24,13 @@ use Rattle.universal.specs.Refusals.{Answer, gives, refused}
 abbrev pub withBytes : ℕ → ℕ → ℕ → ℕ
 withBytes kind first second = kind + first * 256 + second * 65536
 
--- A time code's four marks: the colour frame, the blank, the sign, and whether the last byte is a status.
+-- A time code's four marks in one number: the blank, the colour frame, whether the last byte is a status, and the sign. Each has the
+-- place at which a read finds it with one of two shifts.
 unfoldable pub fourMarks : StandardTimeCode → ℕ
-fourMarks c = flag 1 (c .«color_frame») + flag 2 (c .blank) + flag 4 (c .negative) + flag 8 (isStatus (c .«final_byte»))
+fourMarks c = flag 1 (c .blank) + flag 64 (c .«color_frame») + flag 128 (isStatus (c .«final_byte»)) + flag 256 (c .negative)
 
--- Six bytes above case 11: hours, minutes, seconds, frames, the last byte, and a byte that has the rate in two bits and above it
--- the four marks.
+-- Above case 11 five bytes, hours, minutes, seconds, frames and the last byte; above these the marks, with the rate in two bits, and from
+-- bit 3 on the four marks.
 abbrev pub targetBytes : ℕ → ℕ → ℕ → ℕ → ℕ → ℕ → ℕ
 targetBytes h m s f last marks =
     11 + h * 256 + m * 65536 + s * 16777216 + f * 4294967296 + last * 1099511627776 + marks * 281474976710656
@@ -38,7 +39,7 @@ targetBytes h m s f last marks =
 unfoldable pub targetWord : StandardTimeCode → ℕ
 targetWord c =
     targetBytes (c .time .hours) (c .time .minutes) (c .time .seconds) (c .time .frames) (finalValue (c .«final_byte»))
-    (bitsOf (c .time .rate) + fourMarks c * 4)
+    (bitsOf (c .time .rate) + fourMarks c * 8)
 
 -- The word of a command. Of a part it has the length, which is below 256 in every command that is read.
 unfoldable pub commandWord : MmcCommand → ℕ
@@ -88,17 +89,17 @@ unfoldable pub markedCode : ℕ → ℕ → ℕ → ℕ → ℕ → ℕ → ℕ 
 markedCode rate h m s f last marks =
     record {
       time = label (typeOf rate) h m s f;
-      «color_frame» = eqb (marks % 2) 1;
-      blank = bit 2 marks;
-      negative = bit 4 marks;
-      «final_byte» = finalOf (bit 8 marks) last;
+      «color_frame» = bit 64 marks;
+      blank = eqb (marks % 2) 1;
+      negative = bit 256 marks;
+      «final_byte» = finalOf (bit 128 marks) last;
     }
 
--- The time code in the six bytes above the case, all eight bits of each count.
+-- The time code above the case, with all eight bits of each count.
 abbrev pub wordCode : ℕ → StandardTimeCode
 wordCode w =
     markedCode (byteAt 281474976710656 w) (byteAt 256 w) (byteAt 65536 w) (byteAt 16777216 w) (byteAt 4294967296 w)
-    (byteAt 1099511627776 w) (byteAt 281474976710656 w / 4)
+    (byteAt 1099511627776 w) (w / 2251799813685248)
 
 -- The command that the bytes of a number say. None is a Write or another command, whose bytes a number does not have.
 unfoldable pub saidCommand : ℕ → Option MmcCommand

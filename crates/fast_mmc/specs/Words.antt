@@ -1,9 +1,12 @@
 -- A whole command message given as words: opened, given what each word says, and closed, as a writing of commands is
 -- (`stringAnswer`, `stringLeft`); the law `words-as-commands` says so of the words of commands. Assumes nothing.
 use Prim.Native.Nat.{ℕ}
-use mathlib.Core.List.{List, [], _∷_}
+use mathlib.Core.List.{List, [], _∷_, map}
 use lib.ListN.{length}
-use Rattle.fast_mmc.specs.Word.{wordItem}
+use Rattle.mmc.specs.declared.command.MmcCommand.{MmcCommand}
+use Rattle.mmc.specs.declared.length.Kind.the-variants.{Commands}
+use Rattle.mmc.specs.Strings as S
+use Rattle.fast_mmc.specs.Word.{wordItem, OneWord}
 use Rattle.mmc.specs.Write.{Writing, openedCommands, begun, admitted, given, closedMessage, wholeMessage}
 use Rattle.mmc.specs.Writings.{State}
 use Rattle.universal.specs.Overlay.{overlay}
@@ -29,3 +32,14 @@ wordsAnswer device ws out = wholeMessage (wordsState device ws out .writing) (le
 
 unfoldable pub wordsLeft : ℕ → List ℕ → List ℕ → List ℕ
 wordsLeft device ws out = closedOut (wordsState device ws out)
+
+-- ---- the words of commands
+
+-- Each of the commands has a word of its own.
+abbrev pub OneWords : List MmcCommand → Type 0
+OneWords [] = Unit
+OneWords (c ∷ cs) = OneWord c × OneWords cs
+
+-- Commands that have no parts, as they are given to be written.
+abbrev pub givenAll : List MmcCommand → List (S.Given Commands)
+givenAll cs = map (S.given Commands []) cs

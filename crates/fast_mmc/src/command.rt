@@ -82,7 +82,7 @@ pub(crate) fn plain_name(case: u8) -> u8
 // ---- a Locate to a time
 
 // A weight, where it is set.
-fn flag(weight: u8, set: bool) -> u8
+fn flag(weight: u64, set: bool) -> u64
     ensures { λ r. ⌜ (r ≡ cond set weight 0) × (r ≤ weight) ⌝ }
 {
     if set {
@@ -92,14 +92,14 @@ fn flag(weight: u8, set: bool) -> u8
 }
 
 // The four marks of a time code.
-fn four_marks(code: StandardTimeCode) -> u8
-    ensures { λ r. ⌜ (r ≡ fourMarks code) × (r ≤ 15) ⌝ }
+fn four_marks(code: StandardTimeCode) -> u64
+    ensures { λ r. ⌜ (r ≡ fourMarks code) × (r ≤ 449) ⌝ }
 {
     let last = code.final_byte;
-    flag(1, code.color_frame)
-        + flag(2, code.blank)
-        + flag(4, code.negative)
-        + flag(8, is_status(last))
+    flag(1, code.blank)
+        + flag(64, code.color_frame)
+        + flag(128, is_status(last))
+        + flag(256, code.negative)
 }
 
 // The word of a Locate to a time.
@@ -115,7 +115,7 @@ fn target_word(code: StandardTimeCode) -> u64
         + wide(time.seconds) * 0x100_0000
         + wide(time.frames) * 0x1_0000_0000
         + wide(flat_final(last)) * 0x100_0000_0000
-        + wide(rate.into_bits() + four_marks(code) * 4) * 0x1_0000_0000_0000
+        + (wide(rate.into_bits()) + four_marks(code) * 8) * 0x1_0000_0000_0000
 }
 
 // A time code by its rate, its counts, its last byte and its four marks.
@@ -126,7 +126,7 @@ fn marked_code(
     seconds: u8,
     frames: u8,
     last: u8,
-    marks: u8,
+    marks: u64,
 ) -> StandardTimeCode
     ensures { λ r. ⌜ r ≡ markedCode rate hours minutes seconds frames last marks ⌝ }
 {
@@ -139,10 +139,10 @@ fn marked_code(
             frames,
             rate,
         },
-        color_frame: marks % 2 == 1,
-        blank: marks / 2 % 2 == 1,
-        negative: marks / 4 % 2 == 1,
-        final_byte: final_of(marks / 8 % 2 == 1, last),
+        color_frame: marks / 64 % 2 == 1,
+        blank: marks % 2 == 1,
+        negative: marks / 256 % 2 == 1,
+        final_byte: final_of(marks / 128 % 2 == 1, last),
     }
 }
 
@@ -150,15 +150,14 @@ fn marked_code(
 fn word_code(word: u64) -> StandardTimeCode
     ensures { λ r. ⌜ r ≡ wordCode word ⌝ }
 {
-    let marks = (word / 0x1_0000_0000_0000 % 256) as u8;
     marked_code(
-        marks,
+        (word / 0x1_0000_0000_0000 % 256) as u8,
         (word / 0x100 % 256) as u8,
         (word / 0x1_0000 % 256) as u8,
         (word / 0x100_0000 % 256) as u8,
         (word / 0x1_0000_0000 % 256) as u8,
         (word / 0x100_0000_0000 % 256) as u8,
-        marks / 4,
+        word / 0x8_0000_0000_0000,
     )
 }
 

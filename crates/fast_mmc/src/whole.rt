@@ -71,7 +71,7 @@ fn given_command(word: u64) -> MmcCommand
 }
 
 // What a word says, by the writer.
-fn put_word(out: &mut [u8], writer: Writer, word: u64) -> Writer
+pub(crate) fn give_word(out: &mut [u8], writer: Writer, word: u64) -> Writer
     ensures { λ r. ⌜ writingOf r ≡ given (writingOf writer) (wordItem word) ⌝ }
     ensures { λ _. ⌜ now (out .exit) ≡ overlay (now (out .entry)) (writer .at) (admitted (writingOf writer) (wordItem word) .bytes) ⌝ }
 {
@@ -91,7 +91,7 @@ fn put_rest(out: &mut [u8], words: &[u64], at: usize, from: usize) -> WrittenNum
     };
     let mut i = from;
     while i < words.len() {
-        w = put_word(out, w, words[i]);
+        w = give_word(out, w, words[i]);
         i += 1;
     }
     written_numbers(w.close_message(out))
@@ -234,7 +234,7 @@ fn put_move(out: &mut [u8], at: usize, word: u64) -> usize
 }
 
 // A usual word, and the position after it; any other is left, and the position stays.
-fn put_whole(out: &mut [u8], at: usize, word: u64) -> usize
+pub(crate) fn put_whole(out: &mut [u8], at: usize, word: u64) -> usize
     requires { ⌜ at ≤ 40000 ⌝ }
     ensures { λ r. ⌜ r ≤ at + 8 ⌝ }
     ensures { λ r. ⌜ PutWhole word at (now (out .entry)) r (now (out .exit)) ⌝ }

@@ -12,16 +12,14 @@ use mmc::PartsAnswer;
 use mmc::next_parts;
 use universal::SysexError;
 ghost use mathlib.Core.Path.{_≡_};
-ghost use mathlib.Core.Bool.{false};
 ghost use Prim.Native.Nat.{_≤_, _<_, _+_, _*_, _/_, _%_};
 ghost use lib.ListN.{length, getD};
 ghost use Rattle.universal.specs.Refusals.{refusalOf};
 ghost use Rattle.mmc.specs.declared.command.MmcCommand.the-variants.{Other};
 ghost use Rattle.mmc.specs.Command.{readByte, readLocate, readMove, located, nextCommand};
-ghost use Rattle.mmc.specs.Length.{within};
 ghost use Rattle.codes.specs.TimeCode.{readFinal, finalValue, readStandard};
 ghost use Rattle.fast_mmc.specs.Word.{targetWord, commandWord, nextWord};
-ghost use Rattle.fast_mmc.specs.Contracts.{AloneWord};
+ghost use Rattle.fast_mmc.specs.Contracts.{ShortWord};
 
 // The case of a Write, whose data is told by its length.
 const WRITE: u64 = 9;
@@ -29,16 +27,18 @@ const WRITE: u64 = 9;
 const OTHER: u64 = 13;
 // Another command that is a name of one byte alone.
 const OTHER_ALONE: u64 = 269;
+// No word: a name that has prefixes or a count, so that there is more to read.
+const MORE: u64 = 270;
 // 2, for an item that is cut short.
 const CUT: u64 = 130;
 // 9, for a place at the end.
 const END: u64 = 137;
 
 // A command or a refusal, and the place to read on from. The lowest byte is the case of `MmcCommand`, 0 to 13 in its order, or
-// a refusal's number and 128. Above it stand a Locate's register, the six bytes of its time code (its hours, minutes, seconds,
-// frames and last byte, and the rate with four marks above it), a Move's two names, or the lengths of name and data: the name
-// begins at the place that was read, and the data ends at the place to read on from. A Locate, a Move and a name alone are
-// written by the same word.
+// a refusal's number and 128. Above it stand a Locate's register, its time code (hours, minutes, seconds, frames and the last byte in
+// their bytes, and above them the marks: bits 0 and 1 are the rate, 3 the blank, 9 the colour frame, 10 whether the last byte is a
+// status, 11 the sign), a Move's two names, or the lengths of name and data: the name begins at the place that was read, and the
+// data ends at the place to read on from. A Locate, a Move and a name alone are written by the same word.
 #[repr(C)]
 pub struct NextWord {
     pub word: u64,
@@ -55,24 +55,41 @@ fn last_byte(fr: u8, ff: u8) -> u8
     ff % 128
 }
 
-// The rate in two bits and the four marks of a time code above it, which stand above the counts.
-fn marks_read(hr: u8, mn: u8, sc: u8, fr: u8) -> u8
-    ensures { λ r. ⌜ r ≡ hr / 32 % 4 + (mn / 64 % 2 + sc / 64 % 2 * 2 + fr / 64 % 2 * 4 + fr / 32 % 2 * 8) * 4 ⌝ }
+// Four bytes as one number, the first lowest, which the compiler reads at once.
+fn four_bytes(hr: u8, mn: u8, sc: u8, fr: u8) -> u64
+    ensures { λ r. ⌜ (r ≡ hr + mn * 256 + sc * 65536 + fr * 16777216) × (r < 4294967296) ⌝ }
 {
-    hr / 32 % 4 + (mn / 64 % 2 + sc / 64 % 2 * 2 + fr / 64 % 2 * 4 + fr / 32 % 2 * 8) * 4
+    wide(hr) + wide(mn) * 0x100 + wide(sc) * 0x1_0000 + wide(fr) * 0x100_0000
+}
+
+// The counts of four such bytes.
+fn counts_read(four: u64) -> u64
+    ensures { λ r. ⌜ (r ≡ four % 32 + four / 256 % 64 * 256 + four / 65536 % 64 * 65536 + four / 16777216 % 32 * 16777216) × (r < 4294967296) ⌝ }
+{
+    four % 0x20
+        + four / 0x100 % 0x40 * 0x100
+        + four / 0x1_0000 % 0x40 * 0x1_0000
+        + four / 0x100_0000 % 0x20 * 0x100_0000
+}
+
+// The marks of a word, from what stands beside the counts: the rate and the colour frame by one shift, the others by another.
+fn marks_read(four: u64) -> u64
+    ensures { λ r. ⌜ (r ≡ four / 32 % 4 + four / 32 / 512 % 2 * 512 + four / 524288 / 8 % 2 * 8 + four / 524288 / 1024 % 4 * 1024) × (r < 65536) ⌝ }
+{
+    let low = four / 0x20;
+    let high = four / 0x8_0000;
+    low % 4 + low / 0x200 % 2 * 0x200 + high / 8 % 2 * 8 + high / 0x400 % 4 * 0x400
 }
 
 // The word of a Locate to the time of five bytes.
 fn target_read(hr: u8, mn: u8, sc: u8, fr: u8, ff: u8) -> u64
     ensures { λ r. ⌜ r ≡ targetWord (readStandard hr mn sc fr ff) ⌝ }
 {
+    let four = four_bytes(hr, mn, sc, fr);
     LOCATE_TARGET
-        + wide(hr % 32) * 0x100
-        + wide(mn % 64) * 0x1_0000
-        + wide(sc % 64) * 0x100_0000
-        + wide(fr % 32) * 0x1_0000_0000
+        + counts_read(four) * 0x100
         + wide(last_byte(fr, ff)) * 0x100_0000_0000
-        + wide(marks_read(hr, mn, sc, fr)) * 0x1_0000_0000_0000
+        + marks_read(four) * 0x1_0000_0000_0000
 }
 
 // A name and data that are no known command.
@@ -143,16 +160,22 @@ fn refusal_word(error: SysexError) -> u64
     128 + wide(error.number())
 }
 
-// The command of a name without prefixes and data.
-fn alone_word(name: u8) -> u64
-    requires { ⌜ within 64 120 name ≡ false ⌝ }
-    ensures { λ r. ⌜ AloneWord name r ⌝ }
+// The command of a name without prefixes and data, or `MORE` where it has either.
+fn short_word(name: u8) -> u64
+    ensures { λ r. ⌜ ShortWord name r ⌝ }
 {
     match name {
-        // Stop to Record Exit, whose names are one more.
-        0x01..=0x07 => wide(name - 1),
+        0x00 => MORE,
+        0x01 => 0,
+        0x02 => 1,
+        0x03 => 2,
+        0x04 => 3,
+        0x05 => 4,
+        0x06 => 5,
+        0x07 => 6,
         0x09 => 7,
         0x0D => 8,
+        0x40..=0x77 => MORE,
         _ => OTHER_ALONE,
     }
 }
@@ -210,12 +233,15 @@ pub fn next_word(body: &[u8], place: usize) -> NextWord
         return NextWord { word: END, place };
     }
     let name = body[place];
-    match name {
-        0x00 => prefixed_word(body, place),
-        0x40..=0x77 => counted_word(body, place),
-        _ => NextWord {
-            word: alone_word(name),
+    let word = short_word(name);
+    if word < MORE {
+        return NextWord {
+            word,
             place: place + 1,
-        },
+        };
     }
+    if name == 0 {
+        return prefixed_word(body, place);
+    }
+    counted_word(body, place)
 }

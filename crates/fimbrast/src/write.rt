@@ -13,6 +13,9 @@ ghost use lib.ListN.{length};
 ghost use Rattle.universal.specs.Overlay.{overlay};
 ghost use Rattle.fast_mmc.specs.Numbers.{writtenNumbers};
 ghost use Rattle.mmc.specs.Item.{commandItem, fieldItem};
+ghost use Rattle.mmc.specs.declared.command.MmcCommand.the-variants.{Write, Other};
+ghost use Rattle.mmc.specs.Part.{part};
+ghost use Rattle.fast_mmc.specs.Word.{wordItem};
 ghost use Rattle.fast_mmc.specs.Words.{wordsAnswer, wordsLeft};
 ghost use Rattle.mmc.specs.Write.{openedCommands, openedResponses, openedFields, begun, admitted, given, closedMessage, wholeMessage, wholeFields};
 ghost use Rattle.fast_mmc.specs.String.{commandOf, fieldOf};
@@ -58,6 +61,40 @@ pub extern "C" fn fimbrast_put_command(
     let wrote = writer_of(writer).put_command(out, source, command_of(command));
     let back = wrote.writer;
     flat_writer(back)
+}
+
+// One command by its word, as `fimbrast_next_word` gives it. A number that is no word of a name alone, of a Locate or of a Move is
+// refused with 3, and nothing goes out of it.
+#[no_mangle]
+pub extern "C" fn fimbrast_put_word(writer: FlatWriter, out: &mut [u8], word: u64) -> FlatWriter
+    ensures { λ r. ⌜ r ≡ flatWriter (given (writingAt writer) (wordItem word)) ⌝ }
+    ensures { λ _. ⌜ now (out .exit) ≡ overlay (now (out .entry)) (writingAt writer .at) (admitted (writingAt writer) (wordItem word) .bytes) ⌝ }
+{
+    fast_mmc::put_word(writer, out, word)
+}
+
+// A Write of these fields.
+#[no_mangle]
+pub extern "C" fn fimbrast_put_write(writer: FlatWriter, out: &mut [u8], data: &[u8]) -> FlatWriter
+    ensures { λ r. ⌜ r ≡ flatWriter (given (writingAt writer) (commandItem (now («data» .entry)) (Write (part 0 (length (now («data» .entry))))))) ⌝ }
+    ensures { λ _. ⌜ now (out .exit) ≡ overlay (now (out .entry)) (writingAt writer .at) (admitted (writingAt writer) (commandItem (now («data» .entry)) (Write (part 0 (length (now («data» .entry)))))) .bytes) ⌝ }
+{
+    fast_mmc::put_write(writer, out, data)
+}
+
+// Another command, whose name and then its data stand at the front of the lent source.
+#[no_mangle]
+pub extern "C" fn fimbrast_put_other(
+    writer: FlatWriter,
+    out: &mut [u8],
+    source: &[u8],
+    name: usize,
+    data: usize,
+) -> FlatWriter
+    ensures { λ r. ⌜ r ≡ flatWriter (given (writingAt writer) (commandItem (now (source .entry)) (Other (part 0 name) (part name «data»)))) ⌝ }
+    ensures { λ _. ⌜ now (out .exit) ≡ overlay (now (out .entry)) (writingAt writer .at) (admitted (writingAt writer) (commandItem (now (source .entry)) (Other (part 0 name) (part name «data»))) .bytes) ⌝ }
+{
+    fast_mmc::put_other(writer, out, source, name, data)
 }
 
 // One field; its parts lie in the lent source.

@@ -56,27 +56,27 @@ add-result-5 c = search needs
 into-bits-requires : tie.Need-into-bits-requires
 into-bits-requires c κs = search needs
 
-four-marks-requires : tie.Need-four-marks-requires
-four-marks-requires c κs = search needs
-
-mul-wide : tie.Need-mul-wide
-mul-wide c = search needs
-
-add-wide : tie.Need-add-wide
-add-wide c = omega (arith, c .four-marks .ensures .1, c .before .into-bits .ensures, rate-low (c .before .before .before .before .before .before .before .before .before .args .code .time .rate))
-
 wide-requires-6 : tie.Need-wide-requires-6
 wide-requires-6 c κs = search needs
 
+four-marks-requires : tie.Need-four-marks-requires
+four-marks-requires c κs = search needs
+
 mul-result-6 : tie.Need-mul-result-6
-mul-result-6 c = search needs
+mul-result-6 c = omega (arith, c .four-marks .ensures .1)
 
 add-result-6 : tie.Need-add-result-6
-add-result-6 c = search needs
+add-result-6 c = omega (arith, c .four-marks .ensures .1)
+
+mul-result-7 : tie.Need-mul-result-7
+mul-result-7 c = omega (arith, c .four-marks .ensures .1)
+
+add-result-7 : tie.Need-add-result-7
+add-result-7 c = omega (arith, c .four-marks .ensures .1)
 
 returns : tie.Need-returns
 unfolding targetWord
-returns c = rw (c .before .before .before .before .before .before .before .before .wide .ensures, c .before .before .before .before .before .before .before .wide2 .ensures, c .before .before .before .before .before .before .wide3 .ensures, c .before .before .before .before .before .wide4 .ensures, c .before .before .before .wide5 .ensures, c .wide6 .ensures, c .before .before .before .before .flat-final .ensures, c .before .before .into-bits .ensures, c .before .four-marks .ensures .0)
+returns c = rw (c .before .before .before .before .before .before .before .before .wide .ensures, c .before .before .before .before .before .before .before .wide2 .ensures, c .before .before .before .before .before .before .wide3 .ensures, c .before .before .before .before .before .wide4 .ensures, c .before .before .before .wide5 .ensures, c .before .wide6 .ensures, c .before .before .before .before .flat-final .ensures, c .before .before .into-bits .ensures, c .four-marks .ensures .0)
 
 pub target-word-spec : {M : Type 1} → statement M
-target-word-spec = tie.close (tie.spec wide-requires mul-result add-result wide-requires-2 mul-result-2 add-result-2 wide-requires-3 mul-result-3 add-result-3 wide-requires-4 mul-result-4 add-result-4 flat-final-requires wide-requires-5 mul-result-5 add-result-5 into-bits-requires four-marks-requires mul-wide add-wide wide-requires-6 mul-result-6 add-result-6 returns)
+target-word-spec = tie.close (tie.spec wide-requires mul-result add-result wide-requires-2 mul-result-2 add-result-2 wide-requires-3 mul-result-3 add-result-3 wide-requires-4 mul-result-4 add-result-4 flat-final-requires wide-requires-5 mul-result-5 add-result-5 into-bits-requires wide-requires-6 four-marks-requires mul-result-6 add-result-6 mul-result-7 add-result-7 returns)

@@ -18,14 +18,14 @@ abbrev μ-loop : tie.MeasureT-loop
 loop-holds : tie.Need-loop-holds Inv-loop μ-loop
 loop-holds c = gone-none _ _ _ _
 
-mul-put-word : tie.Need-mul-put-word Inv-loop μ-loop
-mul-put-word c = search needs
+mul-give-word : tie.Need-mul-give-word Inv-loop μ-loop
+mul-give-word c = search needs
 
-shared-slice-read-put-word : tie.Need-shared-slice-read-put-word Inv-loop μ-loop
-shared-slice-read-put-word c = search needs
+shared-slice-read-give-word : tie.Need-shared-slice-read-give-word Inv-loop μ-loop
+shared-slice-read-give-word c = search needs
 
-put-word-requires : tie.Need-put-word-requires Inv-loop μ-loop
-put-word-requires c κs = search needs
+give-word-requires : tie.Need-give-word-requires Inv-loop μ-loop
+give-word-requires c κs = search needs
 
 add-i : tie.Need-add-i Inv-loop μ-loop
 add-i c = search needs
@@ -34,7 +34,7 @@ loop-less : tie.Need-loop-less Inv-loop μ-loop
 loop-less c = search needs
 
 loop-again : tie.Need-loop-again Inv-loop μ-loop
-loop-again c = gone-word _ _ _ _ _ _ _ (c .before .before .before .before .before .before .loop .inv) _ _ (c .before .before .before .before .before .loop-test .taken) (c .before .before .put-word .ensures .0) (c .before .before .put-word .ensures .1)
+loop-again c = gone-word _ _ _ _ _ _ _ (c .before .before .before .before .before .before .loop .inv) _ _ (c .before .before .before .before .before .loop-test .taken) (c .before .before .give-word .ensures .0) (c .before .before .give-word .ensures .1)
 
 close-message-requires : tie.Need-close-message-requires Inv-loop μ-loop
 close-message-requires c κs = search needs
@@ -55,9 +55,9 @@ put-rest-spec =
     Inv-loop
     μ-loop
     loop-holds
-    mul-put-word
-    shared-slice-read-put-word
-    put-word-requires
+    mul-give-word
+    shared-slice-read-give-word
+    give-word-requires
     add-i
     loop-less
     loop-again
