@@ -230,31 +230,44 @@ impl StandardTimeCode {
         }
     }
 
-    /// The word of a Locate to it: above the case its counts, its last byte and its marks.
+    /// The word of a Locate to it without marks and with subframes, or none.
     #[inline]
+    fn usual_word(&self) -> u64 {
+        match (self.each_mark(), self.final_byte) {
+            (0, FinalByte::Subframes(last)) => self.with_last(last),
+            _ => ffi::NO_WORD,
+        }
+    }
+
+    /// The word of a Locate to it: above the case its counts, its last byte and its marks.
     fn word(&self) -> u64 {
-        let marks = u32::from_le_bytes([
-            self.color_frame.into(),
-            self.blank.into(),
-            self.negative.into(),
-            matches!(self.final_byte, FinalByte::Status(_)).into(),
-        ]);
         let last = match self.final_byte {
             FinalByte::Subframes(subframes) => subframes,
             FinalByte::Status(status) => status.bits(),
         };
+        // One product brings the four marks to bits 9, 3, 11 and 10.
+        let marks = u64::from(self.each_mark()) * 0x0080_0201 >> 14 & 0x0E08;
+        self.with_last(last) | marks << 48
+    }
+
+    /// The colour frame, the blank, the sign and the form of the last byte, each in a byte.
+    #[inline]
+    fn each_mark(&self) -> u32 {
+        u32::from_le_bytes([
+            self.color_frame.into(),
+            self.blank.into(),
+            self.negative.into(),
+            matches!(self.final_byte, FinalByte::Status(_)).into(),
+        ])
+    }
+
+    /// The word with this last byte and no marks.
+    #[inline]
+    fn with_last(&self, last: u8) -> u64 {
         let time = &self.time;
         let counts = u32::from_le_bytes([time.hours, time.minutes, time.seconds, time.frames]);
         let rate = u64::from(time.rate.into_bits());
-        let word = u64::from(counts) << 8
-            | u64::from(last) << 40
-            | rate << 48
-            | u64::from(ffi::LOCATE_TARGET);
-        if marks == 0 {
-            return word;
-        }
-        // One product brings the four marks to bits 9, 3, 11 and 10.
-        word | (u64::from(marks) * 0x0080_0201 >> 14 & 0x0E08) << 48
+        u64::from(counts) << 8 | u64::from(last) << 40 | rate << 48 | u64::from(ffi::LOCATE_TARGET)
     }
 
     /// The time code of a Locate's word. It is not inlined: a caller's loop would move an item byte by byte.
@@ -473,21 +486,29 @@ impl<'a> MmcCommand<'a> {
         })
     }
 
-    /// The command as one number: its case, and above it a Locate's register or time, or a Move's names. Write and `Other` have none.
+    /// The word of a name alone or of a Locate to a time without marks, and none of any other: so the loop over the commands most often
+    /// sent keeps to few registers.
     #[inline]
-    pub(crate) fn word(&self) -> u64 {
+    fn usual_word(&self) -> u64 {
         match (self.kind(), self) {
             (kind @ ffi::STOP..=ffi::RESET, _) => u64::from(kind),
-            (_, Self::LocateTarget(target)) => target.word(),
-            (kind, &Self::LocateField { register }) => u64::from(kind) | u64::from(register) << 8,
-            (
-                kind,
-                &Self::Move {
-                    destination,
-                    source,
-                },
-            ) => u64::from(kind) | u64::from(destination) << 8 | u64::from(source) << 16,
+            (_, Self::LocateTarget(target)) => target.usual_word(),
             _ => ffi::NO_WORD,
+        }
+    }
+
+    /// The command as one number: its case, and above it a Locate's register or time, or a Move's names. Write and `Other` have none.
+    pub(crate) fn word(&self) -> u64 {
+        let kind = u64::from(self.kind());
+        match *self {
+            Self::Write(_) | Self::Other { .. } => ffi::NO_WORD,
+            Self::LocateField { register } => kind | u64::from(register) << 8,
+            Self::LocateTarget(ref target) => target.word(),
+            Self::Move {
+                destination,
+                source,
+            } => kind | u64::from(destination) << 8 | u64::from(source) << 16,
+            _ => kind,
         }
     }
 
@@ -823,6 +844,23 @@ impl<'a> MmcMessage<'a> {
 /// ```
 #[inline]
 pub fn write_commands(
+    out: &mut [u8],
+    device_id: u8,
+    commands: &[MmcCommand<'_>],
+) -> Result<usize, SysexError> {
+    match ffi::write_words(
+        out,
+        device_id,
+        commands.iter().map(MmcCommand::usual_word),
+    ) {
+        Some(answer) => written(answer),
+        None => write_unusual(out, device_id, commands),
+    }
+}
+
+/// Commands of which one is no name alone and no Locate to a time without marks.
+#[inline(never)]
+fn write_unusual(
     out: &mut [u8],
     device_id: u8,
     commands: &[MmcCommand<'_>],

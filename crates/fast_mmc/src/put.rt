@@ -1,6 +1,6 @@
 // One item into an open writing, with the writer as one number in a register: a word, a Write, or another command.
 use crate::whole::give_word;
-use crate::whole::put_whole;
+use crate::whole::put_small;
 use crate::write::FlatWriter;
 use crate::write::flat_writer;
 use crate::write::writer_of;
@@ -36,7 +36,7 @@ fn put_usual(writer: FlatWriter, out: &mut [u8], word: u64) -> FlatWriter
         return writer;
     }
     let at = place as usize;
-    let next = put_whole(out, at, word);
+    let next = put_small(out, at, word);
     if next == at {
         return writer;
     }

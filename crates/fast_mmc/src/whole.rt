@@ -233,20 +233,13 @@ fn put_move(out: &mut [u8], at: usize, word: u64) -> usize
     at + 4
 }
 
-// A usual word, and the position after it; any other is left, and the position stays.
-pub(crate) fn put_whole(out: &mut [u8], at: usize, word: u64) -> usize
+// A name alone, or a Locate to a register or a Move that may be written, and the position after it; any other is left, and the
+// position stays.
+pub(crate) fn put_small(out: &mut [u8], at: usize, word: u64) -> usize
     requires { ⌜ at ≤ 40000 ⌝ }
     ensures { λ r. ⌜ r ≤ at + 8 ⌝ }
     ensures { λ r. ⌜ PutWhole word at (now (out .entry)) r (now (out .exit)) ⌝ }
 {
-    // Stop to Record Exit, whose names are one more.
-    if word < 7 {
-        put(out, at, word as u8 + 1);
-        return at + 1;
-    }
-    if word % 256 == LOCATE_TARGET {
-        return put_locate(out, at, word);
-    }
     if word < NAMES {
         put(out, at, plain_name(word as u8));
         return at + 1;
@@ -258,6 +251,23 @@ pub(crate) fn put_whole(out: &mut [u8], at: usize, word: u64) -> usize
         return put_move(out, at, word);
     }
     at
+}
+
+// A usual word, and the position after it; any other is left, and the position stays.
+fn put_whole(out: &mut [u8], at: usize, word: u64) -> usize
+    requires { ⌜ at ≤ 40000 ⌝ }
+    ensures { λ r. ⌜ r ≤ at + 8 ⌝ }
+    ensures { λ r. ⌜ PutWhole word at (now (out .entry)) r (now (out .exit)) ⌝ }
+{
+    // Stop to Record Exit, whose names are one more, and a Locate to a time come most often.
+    if word < 7 {
+        put(out, at, word as u8 + 1);
+        return at + 1;
+    }
+    if word % 256 == LOCATE_TARGET {
+        return put_locate(out, at, word);
+    }
+    put_small(out, at, word)
 }
 
 // The words of a message that was opened, and the close.

@@ -12,14 +12,14 @@ returns c = still
 returns-2 : tie.Need-returns-2
 returns-2 c = still
 
-put-whole-requires : tie.Need-put-whole-requires
-put-whole-requires c κs = search needs
+put-small-requires : tie.Need-put-small-requires
+put-small-requires c κs = search needs
 
 same-length : tie.Need-same-length
 same-length c = search needs
 
 returns-3 : tie.Need-returns-3
-returns-3 c = left-still _ _ _ _ (put-nothing _ _ _ _ _ (c .before .before .before .put-whole .ensures .1) (c .if3 .taken))
+returns-3 c = left-still _ _ _ _ (put-nothing _ _ _ _ _ (c .before .before .before .put-small .ensures .1) (c .if3 .taken))
 
 sub-result : tie.Need-sub-result
 sub-result c = search needs
@@ -34,7 +34,7 @@ same-length-2 : tie.Need-same-length-2
 same-length-2 c = search needs
 
 returns-4 : tie.Need-returns-4
-returns-4 c = put-one _ _ _ _ _ _ _ (c .before .before .before .before .before .before .if1 .left) refl (c .before .before .before .before .before .if2 .left) (c .before .before .before .put-whole .ensures .0) (c .if3 .left) refl (c .before .before .before .put-whole .ensures .1)
+returns-4 c = put-one _ _ _ _ _ _ _ (c .before .before .before .before .before .before .if1 .left) refl (c .before .before .before .before .before .if2 .left) (c .before .before .before .put-small .ensures .0) (c .if3 .left) refl (c .before .before .before .put-small .ensures .1)
 
 pub put-usual-spec : {M : Type 1} → statement M
-put-usual-spec = tie.close (tie.spec returns returns-2 put-whole-requires same-length returns-3 sub-result add-result add-result-2 same-length-2 returns-4)
+put-usual-spec = tie.close (tie.spec returns returns-2 put-small-requires same-length returns-3 sub-result add-result add-result-2 same-length-2 returns-4)
