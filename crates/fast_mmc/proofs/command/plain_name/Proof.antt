@@ -1,6 +1,6 @@
 use borrow.Author.Needs.{needs}
 use native.Mathlib.Omega.{arith}
-use Rattle.fast_mmc.proofs.WordPuts.{low-sent, pause-sent, reset-sent}
+use Rattle.fast_mmc.proofs.WordItems.{low-sent, pause-sent, reset-sent}
 use Rattle.fast_mmc.proofs.command.plain_name.Statement.{statement}
 use Rattle.fast_mmc.proofs.command.plain_name.Tie as tie
 

@@ -1,7 +1,8 @@
 use borrow.Author.Needs.{needs}
 use native.Mathlib.Omega.{arith}
 use Rattle.fast_mmc.specs.Contracts.{nothing}
-use Rattle.fast_mmc.proofs.WordPuts.{move-sent, put-four}
+use Rattle.fast_mmc.proofs.WordItems.{move-sent}
+use Rattle.fast_mmc.proofs.WordPuts.{put-four}
 use Rattle.fast_mmc.proofs.whole.put_move.Statement.{statement}
 use Rattle.fast_mmc.proofs.whole.put_move.Tie as tie
 

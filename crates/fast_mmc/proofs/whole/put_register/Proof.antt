@@ -1,6 +1,7 @@
 use borrow.Author.Needs.{needs}
 use Rattle.fast_mmc.specs.Contracts.{nothing}
-use Rattle.fast_mmc.proofs.WordPuts.{field-sent, put-four}
+use Rattle.fast_mmc.proofs.WordItems.{field-sent}
+use Rattle.fast_mmc.proofs.WordPuts.{put-four}
 use Rattle.fast_mmc.proofs.whole.put_register.Statement.{statement}
 use Rattle.fast_mmc.proofs.whole.put_register.Tie as tie
 

@@ -1,6 +1,7 @@
 use borrow.Author.Needs.{needs}
 use native.Mathlib.Omega.{arith}
-use Rattle.fast_mmc.proofs.WordPuts.{low-sent, put-name}
+use Rattle.fast_mmc.proofs.WordItems.{low-sent}
+use Rattle.fast_mmc.proofs.WordPuts.{put-name}
 use Rattle.fast_mmc.proofs.whole.put_whole.Statement.{statement}
 use Rattle.fast_mmc.proofs.whole.put_whole.Tie as tie
 
