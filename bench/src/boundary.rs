@@ -3,7 +3,7 @@
 
 use std::hint::black_box;
 
-use super::lib::mmc::{write_commands, MmcCommand, MmcMessage};
+use super::lib::mmc::{write_commands, write_responses, InfoField, MmcCommand, MmcMessage};
 use super::lib::mtc::{MtcEvent, MtcGenerator, MtcReader, MtcTime, TimeCodeType};
 use super::lib::universal::{SysexError, Universal};
 
@@ -39,6 +39,29 @@ pub fn write(
     commands: &[MmcCommand<'_>],
 ) -> Result<usize, SysexError> {
     write_commands(out, device_id, commands)
+}
+
+#[inline(never)]
+pub fn write_fields(
+    out: &mut [u8],
+    device_id: u8,
+    fields: &[InfoField<'_>],
+) -> Result<usize, SysexError> {
+    write_responses(out, device_id, fields)
+}
+
+/// A whole response, field by field: how many.
+#[inline(never)]
+pub fn read_fields(message: &Universal<'_>) -> usize {
+    let Ok(Some(MmcMessage::Responses { fields, .. })) = MmcMessage::from_universal(message) else {
+        return 0;
+    };
+    let mut items = 0;
+    for item in fields {
+        black_box(&item);
+        items += 1;
+    }
+    items
 }
 
 /// A whole message of commands, item by item: how many.

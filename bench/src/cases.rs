@@ -3,12 +3,15 @@
 use std::hint::black_box;
 
 use super::boundary;
-use super::lib::mmc::{FinalByte, InfoFields, MmcCommand, StandardTimeCode};
+use super::lib::mmc::{
+    FinalByte, InfoField, InfoFields, MmcCommand, ShortTimeCode, StandardTimeCode, TimeCodeStatus,
+};
 use super::lib::mtc::{Direction, MtcGenerator, MtcReader, MtcTime, TimeCodeType};
 use super::lib::universal::Universal;
 use crate::case::Case;
 use crate::inputs::{
-    self, BODIES, BODY, DROP_FRAME, FPS_24, FPS_25, GP0, LIST, LOCATE_PLAY, ROOM, ROUND,
+    self, BODIES, BODY, DROP_FRAME, FPS_24, FPS_25, GP0, LIST, LOCATE_PLAY, OTHER, PREFIXED,
+    RESPONSE, ROOM, ROUND,
 };
 
 /// Every case, in the order of the tables.
@@ -43,10 +46,14 @@ pub fn all() -> Vec<Case> {
         add_frames("add_frames_24", FPS_24),
         add_frames("add_frames_25", FPS_25),
         write(),
+        write_blank(),
         write_mixed(),
+        write_others(),
+        write_fields(),
         read_back(),
         read_stops(),
         read_random(),
+        read_fields(),
     ]
 }
 
@@ -134,21 +141,38 @@ fn add_frames(name: &'static str, rate: u8) -> Case {
     })
 }
 
-fn write() -> Case {
-    let target = StandardTimeCode {
+/// A Locate's time: 01:37:52:16 at 30 drop-frame.
+fn target() -> StandardTimeCode {
+    StandardTimeCode {
         time: label(DROP_FRAME, [1, 37, 52, 16]),
         color_frame: false,
         blank: false,
         negative: false,
         final_byte: FinalByte::Subframes(0),
-    };
-    let list = [MmcCommand::LocateTarget(target), MmcCommand::Play];
+    }
+}
+
+/// A message of these commands, into a buffer.
+fn writing<const N: usize>(name: &'static str, list: [MmcCommand<'static>; N]) -> Case {
     let mut out = [0; ROOM];
-    Case::new("write", move |_| {
+    Case::new(name, move |_| {
         let room = black_box(&mut out);
         let length = black_box(boundary::write(room, black_box(0x7F), black_box(&list)));
         length.map_or(1000, |n| n as u64) + u64::from(out[8])
     })
+}
+
+fn write() -> Case {
+    writing("write", [MmcCommand::LocateTarget(target()), MmcCommand::Play])
+}
+
+/// A Locate with a mark.
+fn write_blank() -> Case {
+    let blank = StandardTimeCode {
+        blank: true,
+        ..target()
+    };
+    writing("write_blank", [MmcCommand::LocateTarget(blank)])
 }
 
 /// Commands that are no names alone: Write of GP0, Move of the selected time code to it, Locate to it, and Play.
@@ -162,11 +186,67 @@ fn write_mixed() -> Case {
         MmcCommand::LocateField { register: 0x08 },
         MmcCommand::Play,
     ];
+    writing("write_mixed", list)
+}
+
+/// Two commands that the source does not know, one with data and one with a prefix.
+fn write_others() -> Case {
+    let list = [
+        MmcCommand::Other {
+            name: &OTHER.0,
+            data: &OTHER.1,
+        },
+        MmcCommand::Other {
+            name: &PREFIXED,
+            data: &[],
+        },
+    ];
+    writing("write_others", list)
+}
+
+/// A response of three fields: a time code with a status, a short one, and another.
+fn write_fields() -> Case {
+    let status = TimeCodeStatus {
+        no_time_code: true,
+        ..TimeCodeStatus::default()
+    };
+    let list = [
+        InfoField::TimeCode {
+            field: 0x01,
+            code: StandardTimeCode {
+                final_byte: FinalByte::Status(status),
+                ..target()
+            },
+        },
+        InfoField::Short {
+            field: 0x08,
+            code: ShortTimeCode {
+                frames: 16,
+                negative: false,
+                final_byte: FinalByte::Subframes(5),
+            },
+        },
+        InfoField::Other {
+            name: &[0x48],
+            data: &[1, 2, 3],
+        },
+    ];
     let mut out = [0; ROOM];
-    Case::new("write_mixed", move |_| {
+    Case::new("write_fields", move |_| {
         let room = black_box(&mut out);
-        let length = black_box(boundary::write(room, black_box(0x7F), black_box(&list)));
+        let length = black_box(boundary::write_fields(room, black_box(5), black_box(&list)));
         length.map_or(1000, |n| n as u64) + u64::from(out[8])
+    })
+}
+
+/// Its data read field by field.
+fn read_fields() -> Case {
+    Case::new("read_fields", |_| {
+        let message = Universal {
+            sub_id1: 0x07,
+            ..commands(&RESPONSE)
+        };
+        black_box(boundary::read_fields(black_box(&message))) as u64
     })
 }
 

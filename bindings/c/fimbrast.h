@@ -328,7 +328,8 @@ fimbrast_next_command_answer fimbrast_next_command(const uint8_t *body, size_t l
 /* The same as one number, which comes back in registers. Its lowest byte is the kind, or 128 and the refusal's number.
  * The bytes above it are, the lowest first:
  *   LOCATE_FIELD   the register
- *   LOCATE_TARGET  the five bytes of the time code as they are sent, with the reserved bits 0
+ *   LOCATE_TARGET  hours, minutes, seconds, frames, the last byte, and two bytes of marks: bits 0 and 1 are the rate, bit 3 is
+ *                  blank, 9 color_frame, 10 status, 11 negative
  *   MOVE           the destination and the source
  *   WRITE          0 and the length of the data
  *   OTHER_COMMAND  the lengths of the name and of the data
@@ -373,17 +374,24 @@ typedef uint64_t fimbrast_writer;
 fimbrast_writer fimbrast_open_commands(uint8_t *out, size_t out_length, uint8_t device_id);
 fimbrast_writer fimbrast_open_responses(uint8_t *out, size_t out_length, uint8_t device_id);
 fimbrast_writer fimbrast_open_fields(void);
-/* The name and data of an item are parts of the source. */
+/* A command by its word: see fimbrast_write_words. */
+fimbrast_writer fimbrast_put_word(fimbrast_writer writer, uint8_t *out, size_t out_length, uint64_t word);
+/* A Write of these fields. */
+fimbrast_writer fimbrast_put_write(fimbrast_writer writer, uint8_t *out, size_t out_length, const uint8_t *data,
+                                   size_t data_length);
+/* Another command, whose name and then its data, of these lengths, stand at the front of the source. */
+fimbrast_writer fimbrast_put_other(fimbrast_writer writer, uint8_t *out, size_t out_length, const uint8_t *source,
+                                   size_t source_length, size_t name, size_t data);
+/* Any command or field by its record. The name and data of an item are parts of the source. */
 fimbrast_writer fimbrast_put_command(fimbrast_writer writer, uint8_t *out, size_t out_length, const uint8_t *source,
                                      size_t source_length, fimbrast_command command);
 fimbrast_writer fimbrast_put_field(fimbrast_writer writer, uint8_t *out, size_t out_length, const uint8_t *source,
                                    size_t source_length, fimbrast_field field);
 fimbrast_written fimbrast_close_message(fimbrast_writer writer, uint8_t *out, size_t out_length);
 fimbrast_written fimbrast_close_fields(fimbrast_writer writer, const uint8_t *out, size_t out_length);
-/* A whole command message in one call: opened, given a command for each word, closed. A word has the kind in its lowest byte:
- * FIMBRAST_STOP to FIMBRAST_RESET, or FIMBRAST_LOCATE_TARGET with six bytes above it, the lowest first: hours, minutes, seconds,
- * frames, the last byte, and marks. Of the marks bits 0 and 1 are the rate, bit 2 is color_frame, 3 blank, 4 negative, 5 status.
- * Any other kind is taken as FIMBRAST_RESET. */
+/* A whole command message in one call: opened, given a command for each word, closed. A word is what fimbrast_next_word gives for
+ * FIMBRAST_STOP to FIMBRAST_RESET, FIMBRAST_LOCATE_FIELD, FIMBRAST_LOCATE_TARGET and FIMBRAST_MOVE, with all bits of each byte.
+ * Any other number, one of FIMBRAST_WRITE or FIMBRAST_OTHER_COMMAND too, is refused with 3, and nothing goes out of it. */
 fimbrast_written fimbrast_write_words(uint8_t *out, size_t out_length, uint8_t device_id, const uint64_t *words, size_t length);
 
 /* ---- transport */

@@ -4,16 +4,21 @@ use std::hint::black_box;
 
 use super::ffi::{
     fimbrast_add_frames, fimbrast_close_message, fimbrast_feed, fimbrast_from_frame_count,
-    fimbrast_mmc_kind, fimbrast_next_byte, fimbrast_next_word, fimbrast_open_commands,
-    fimbrast_put_command, fimbrast_receive, fimbrast_to_frame_count, fimbrast_write_words,
+    fimbrast_mmc_kind, fimbrast_next_byte, fimbrast_next_field, fimbrast_next_word, fimbrast_open_commands, fimbrast_open_responses,
+    fimbrast_put_field, fimbrast_put_other, fimbrast_put_word, fimbrast_put_write, fimbrast_receive, fimbrast_to_frame_count, fimbrast_write_words,
 };
 pub use super::ffi::{fimbrast_generator_forward, fimbrast_generator_reverse, fimbrast_reader_new};
-pub use super::ffi::{Command, Event, Generator, Part, Reader, Time, Universal, Written};
+pub use super::ffi::{Code, Event, Field, Generator, Part, Reader, ShortCode, Time};
+pub use super::ffi::{Universal, Written};
 
 /// The lowest byte of `next_word`'s number at the end: the refusal 9.
 const END: u8 = 128 + 9;
 /// The kind of a message of commands.
 const COMMANDS: u8 = 0;
+/// The kind of a response.
+const RESPONSES: u8 = 128;
+/// The refusal of a read at the end.
+const AT_END: u8 = 9;
 /// An event's number from here on has a report.
 const REPORT: u64 = 512;
 
@@ -59,18 +64,70 @@ pub fn write(out: &mut [u8], device_id: u8, words: &[u64]) -> Written {
     unsafe { fimbrast_write_words(to, room, device_id, words.as_ptr(), words.len()) }
 }
 
-/// A whole message written call by call; the data of the commands are parts of the source.
+/// A Write and then words, call by call.
 #[inline(never)]
-pub fn write_each(out: &mut [u8], device_id: u8, source: &[u8], commands: &[Command]) -> Written {
+pub fn write_mixed(out: &mut [u8], device_id: u8, data: &[u8], words: &[u64]) -> Written {
+    let (to, room) = (out.as_mut_ptr(), out.len());
+    // SAFETY: `to` and `room` are a live slice that is borrowed alone, and `data` is a live slice.
+    unsafe {
+        let mut writer = fimbrast_open_commands(to, room, device_id);
+        writer = fimbrast_put_write(writer, to, room, data.as_ptr(), data.len());
+        for word in words {
+            writer = fimbrast_put_word(writer, to, room, *word);
+        }
+        fimbrast_close_message(writer, to, room)
+    }
+}
+
+/// Other commands, each with its source and the length of its name, call by call.
+#[inline(never)]
+pub fn write_others(out: &mut [u8], device_id: u8, others: &[(&[u8], usize)]) -> Written {
+    let (to, room) = (out.as_mut_ptr(), out.len());
+    // SAFETY: `to` and `room` are a live slice that is borrowed alone, and each source is a live slice.
+    unsafe {
+        let mut writer = fimbrast_open_commands(to, room, device_id);
+        for &(source, name) in others {
+            let (from, length) = (source.as_ptr(), source.len());
+            writer = fimbrast_put_other(writer, to, room, from, length, name, length - name);
+        }
+        fimbrast_close_message(writer, to, room)
+    }
+}
+
+/// A response written field by field; the names and data of other fields are parts of the source.
+#[inline(never)]
+pub fn write_fields(out: &mut [u8], device_id: u8, source: &[u8], fields: &[Field]) -> Written {
     let (to, room) = (out.as_mut_ptr(), out.len());
     let (from, length) = (source.as_ptr(), source.len());
     // SAFETY: `to` and `room` are a live slice that is borrowed alone, and `from` and `length` are a live slice.
     unsafe {
-        let mut writer = fimbrast_open_commands(to, room, device_id);
-        for command in commands {
-            writer = fimbrast_put_command(writer, to, room, from, length, *command);
+        let mut writer = fimbrast_open_responses(to, room, device_id);
+        for field in fields {
+            writer = fimbrast_put_field(writer, to, room, from, length, *field);
         }
         fimbrast_close_message(writer, to, room)
+    }
+}
+
+/// A whole response, field by field: how many.
+#[inline(never)]
+pub fn read_fields(header: &Universal, data: &[u8]) -> usize {
+    let (bytes, length) = (data.as_ptr(), data.len());
+    // SAFETY: `bytes` and `length` are a live slice.
+    let kind = unsafe { fimbrast_mmc_kind(header.real_time, header.sub_id1, bytes, length) };
+    if kind != RESPONSES {
+        return 0;
+    }
+    let (mut items, mut place) = (0, 0);
+    loop {
+        // SAFETY: as above.
+        let answer = unsafe { fimbrast_next_field(bytes, length, place) };
+        if answer.refusal == AT_END {
+            return items;
+        }
+        black_box(&answer.field);
+        place = answer.place;
+        items += 1;
     }
 }
 

@@ -2,17 +2,22 @@
 
 use std::hint::black_box;
 
-use super::boundary::{self, Command, Part, Time, Universal, Written};
+use super::boundary::{
+    self, Code, Field, Part, ShortCode, Time, Universal, Written,
+};
 use crate::case::Case;
 use crate::inputs::{
-    self, BODIES, BODY, DROP_FRAME, FPS_24, FPS_25, GP0, LIST, LOCATE_PLAY, ROOM, ROUND,
+    self, BODIES, BODY, DROP_FRAME, FPS_24, FPS_25, GP0, LIST, LOCATE_PLAY, OTHER, PREFIXED,
+    RESPONSE, ROOM, ROUND,
 };
 
 const PLAY: u64 = 1;
-const WRITE: u8 = 9;
 const LOCATE_FIELD: u8 = 10;
 const LOCATE_TARGET: u8 = 11;
 const MOVE: u8 = 12;
+const TIME_CODE: u8 = 0;
+const SHORT: u8 = 1;
+const OTHER_FIELD: u8 = 2;
 
 /// The header of a message of commands, for all devices.
 pub const COMMANDS: Universal = Universal {
@@ -55,10 +60,14 @@ pub fn all() -> Vec<Case> {
         add_frames("add_frames_24", FPS_24),
         add_frames("add_frames_25", FPS_25),
         write(),
+        write_blank(),
         write_mixed(),
+        write_others(),
+        write_fields(),
         read_back(),
         read_stops(),
         read_random(),
+        read_fields(),
     ]
 }
 
@@ -140,51 +149,114 @@ fn add_frames(name: &'static str, rate: u8) -> Case {
     })
 }
 
-fn write() -> Case {
-    let locate = u64::from_le_bytes([LOCATE_TARGET, 1, 37, 52, 16, 0, DROP_FRAME, 0]);
-    let list = [locate, PLAY];
+/// The word of a Locate to 01:37:52:16 at 30 drop-frame.
+const LOCATE: [u8; 8] = [LOCATE_TARGET, 1, 37, 52, 16, 0, DROP_FRAME, 0];
+/// A blank code's mark, beside the rate.
+const BLANK: u8 = 8;
+
+/// A message of these words, into a buffer.
+fn writing<const N: usize>(name: &'static str, list: [u64; N]) -> Case {
     let mut out = [0; ROOM];
-    Case::new("write", move |_| {
+    Case::new(name, move |_| {
         let room = black_box(&mut out);
         let written = black_box(boundary::write(room, black_box(0x7F), black_box(&list)));
         length_of(written) + u64::from(out[8])
     })
 }
 
-/// A command of a kind and two names.
-fn command(kind: u8, first: u8, second: u8) -> Command {
-    Command {
-        kind,
-        first,
-        second,
-        ..Command::default()
-    }
+fn write() -> Case {
+    writing("write", [u64::from_le_bytes(LOCATE), PLAY])
+}
+
+fn write_blank() -> Case {
+    let mut blank = LOCATE;
+    blank[6] |= BLANK;
+    writing("write_blank", [u64::from_le_bytes(blank)])
 }
 
 fn write_mixed() -> Case {
-    let data = Part {
-        start: 0,
-        length: GP0.len(),
-    };
-    let list = [
-        Command {
-            data,
-            ..command(WRITE, 0, 0)
-        },
-        command(MOVE, 0x08, 0x01),
-        command(LOCATE_FIELD, 0x08, 0),
-        command(PLAY as u8, 0, 0),
+    let words = [
+        u64::from_le_bytes([MOVE, 0x08, 0x01, 0, 0, 0, 0, 0]),
+        u64::from_le_bytes([LOCATE_FIELD, 0x08, 0, 0, 0, 0, 0, 0]),
+        PLAY,
     ];
     let mut out = [0; ROOM];
     Case::new("write_mixed", move |_| {
         let room = black_box(&mut out);
-        let written = black_box(boundary::write_each(
-            room,
-            black_box(0x7F),
-            &GP0,
-            black_box(&list),
-        ));
+        let words = black_box(&words);
+        let written = black_box(boundary::write_mixed(room, black_box(0x7F), &GP0, words));
         length_of(written) + u64::from(out[8])
+    })
+}
+
+fn write_others() -> Case {
+    let source = [&OTHER.0[..], &OTHER.1].concat();
+    let mut out = [0; ROOM];
+    Case::new("write_others", move |_| {
+        let room = black_box(&mut out);
+        let others = [(&source[..], 1), (&PREFIXED[..], 2)];
+        let others = black_box(&others);
+        let written = black_box(boundary::write_others(room, black_box(0x7F), others));
+        length_of(written) + u64::from(out[8])
+    })
+}
+
+fn write_fields() -> Case {
+    let code = Code {
+        time: Time {
+            hours: 1,
+            minutes: 37,
+            seconds: 52,
+            frames: 16,
+            rate: DROP_FRAME,
+        },
+        status: true,
+        last: 0x08,
+        ..Code::default()
+    };
+    let short_code = ShortCode {
+        frames: 16,
+        last: 5,
+        ..ShortCode::default()
+    };
+    let part = |start, length| Part { start, length };
+    let list = [
+        Field {
+            kind: TIME_CODE,
+            field: 0x01,
+            code,
+            ..Field::default()
+        },
+        Field {
+            kind: SHORT,
+            field: 0x08,
+            short_code,
+            ..Field::default()
+        },
+        Field {
+            kind: OTHER_FIELD,
+            name: part(0, 1),
+            data: part(1, 3),
+            ..Field::default()
+        },
+    ];
+    let source = [0x48, 1, 2, 3];
+    let mut out = [0; ROOM];
+    Case::new("write_fields", move |_| {
+        let room = black_box(&mut out);
+        let list = black_box(&list);
+        let written = black_box(boundary::write_fields(room, black_box(5), &source, list));
+        length_of(written) + u64::from(out[8])
+    })
+}
+
+fn read_fields() -> Case {
+    let header = Universal {
+        sub_id1: 0x07,
+        ..COMMANDS
+    };
+    Case::new("read_fields", move |_| {
+        black_box(boundary::read_fields(black_box(&header), black_box(&RESPONSE))) as u64
     })
 }
 

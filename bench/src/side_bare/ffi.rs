@@ -26,8 +26,10 @@ records! {
     Written { refusal: u8, length: usize }
     Code { time: Time, color_frame: bool, blank: bool, negative: bool, status: bool, last: u8 }
     Part { start: usize, length: usize }
-    Command { kind: u8, first: u8, second: u8, code: Code, name: Part, data: Part }
     NextWord { word: u64, place: usize }
+    ShortCode { frames: u8, negative: bool, status: bool, last: u8 }
+    Field { kind: u8, field: u8, code: Code, short_code: ShortCode, name: Part, data: Part }
+    NextField { refusal: u8, field: Field, place: usize }
 }
 
 unsafe extern "C" {
@@ -43,13 +45,32 @@ unsafe extern "C" {
     pub fn fimbrast_mmc_kind(real_time: bool, sub_id1: u8, data: *const u8, length: usize) -> u8;
     pub fn fimbrast_next_word(body: *const u8, length: usize, place: usize) -> NextWord;
     pub fn fimbrast_open_commands(out: *mut u8, out_length: usize, device_id: u8) -> u64;
-    pub fn fimbrast_put_command(
+    pub fn fimbrast_put_word(writer: u64, out: *mut u8, out_length: usize, word: u64) -> u64;
+    pub fn fimbrast_put_write(
+        writer: u64,
+        out: *mut u8,
+        out_length: usize,
+        data: *const u8,
+        data_length: usize,
+    ) -> u64;
+    pub fn fimbrast_put_other(
         writer: u64,
         out: *mut u8,
         out_length: usize,
         source: *const u8,
         source_length: usize,
-        command: Command,
+        name: usize,
+        data: usize,
+    ) -> u64;
+    pub fn fimbrast_next_field(body: *const u8, length: usize, place: usize) -> NextField;
+    pub fn fimbrast_open_responses(out: *mut u8, out_length: usize, device_id: u8) -> u64;
+    pub fn fimbrast_put_field(
+        writer: u64,
+        out: *mut u8,
+        out_length: usize,
+        source: *const u8,
+        source_length: usize,
+        field: Field,
     ) -> u64;
     pub fn fimbrast_close_message(writer: u64, out: *mut u8, out_length: usize) -> Written;
     pub fn fimbrast_write_words(

@@ -256,6 +256,7 @@ unsafe extern "C" {
     fn fimbrast_open_commands(out: *mut u8, out_length: usize, device_id: u8) -> Writer;
     fn fimbrast_open_responses(out: *mut u8, out_length: usize, device_id: u8) -> Writer;
     pub(crate) safe fn fimbrast_open_fields() -> Writer;
+    #[cfg(test)]
     fn fimbrast_put_command(
         writer: Writer,
         out: *mut u8,
@@ -263,6 +264,28 @@ unsafe extern "C" {
         source: *const u8,
         source_length: usize,
         command: Command,
+    ) -> Writer;
+    fn fimbrast_put_word(
+        writer: Writer,
+        out: *mut u8,
+        out_length: usize,
+        word: u64,
+    ) -> Writer;
+    fn fimbrast_put_write(
+        writer: Writer,
+        out: *mut u8,
+        out_length: usize,
+        data: *const u8,
+        data_length: usize,
+    ) -> Writer;
+    fn fimbrast_put_other(
+        writer: Writer,
+        out: *mut u8,
+        out_length: usize,
+        source: *const u8,
+        source_length: usize,
+        name: usize,
+        data: usize,
     ) -> Writer;
     fn fimbrast_put_field(
         writer: Writer,
@@ -375,6 +398,7 @@ pub(crate) fn open_responses(out: &mut [u8], device_id: u8) -> Writer {
     unsafe { fimbrast_open_responses(out.as_mut_ptr(), out.len(), device_id) }
 }
 
+#[cfg(test)]
 pub(crate) fn put_command(
     writer: Writer,
     out: &mut [u8],
@@ -390,6 +414,49 @@ pub(crate) fn put_command(
             source.as_ptr(),
             source.len(),
             command,
+        )
+    }
+}
+
+#[inline]
+pub(crate) fn put_word(writer: Writer, out: &mut [u8], word: u64) -> Writer {
+    // SAFETY: `out` is a live slice, borrowed alone.
+    unsafe { fimbrast_put_word(writer, out.as_mut_ptr(), out.len(), word) }
+}
+
+#[inline]
+pub(crate) fn put_write(writer: Writer, out: &mut [u8], data: &[u8]) -> Writer {
+    // SAFETY: `out` and `data` are live slices, and `out` is borrowed alone.
+    unsafe {
+        fimbrast_put_write(
+            writer,
+            out.as_mut_ptr(),
+            out.len(),
+            data.as_ptr(),
+            data.len(),
+        )
+    }
+}
+
+/// Another command, whose name and then its data stand at the front of the source.
+#[inline]
+pub(crate) fn put_other(
+    writer: Writer,
+    out: &mut [u8],
+    source: &[u8],
+    name: usize,
+    data: usize,
+) -> Writer {
+    // SAFETY: `out` and `source` are live slices, and `out` is borrowed alone.
+    unsafe {
+        fimbrast_put_other(
+            writer,
+            out.as_mut_ptr(),
+            out.len(),
+            source.as_ptr(),
+            source.len(),
+            name,
+            data,
         )
     }
 }

@@ -116,6 +116,18 @@ impl TimeCodeStatus {
         }
     }
 
+    /// The status byte, for a word: one product brings its four bits together.
+    #[inline]
+    fn bits(self) -> u8 {
+        let each = u32::from_le_bytes([
+            self.estimated.into(),
+            self.invalid.into(),
+            self.video_field1.into(),
+            self.no_time_code.into(),
+        ]);
+        (u64::from(each) * 0x0804_0201 >> 21) as u8 & 0x78
+    }
+
     /// The status byte, with the reserved bits as 000 (p. 9).
     pub fn to_byte(self) -> u8 {
         ffi::fimbrast_status_byte(ffi::Status {
@@ -218,33 +230,54 @@ impl StandardTimeCode {
         }
     }
 
-    /// The word of a Locate to it: above the case its counts, its subframes and its rate. A code with a mark or a status goes by
-    /// the writer.
+    /// The word of a Locate to it without marks and with subframes, or none.
     #[inline]
+    fn usual_word(&self) -> u64 {
+        match (self.each_mark(), self.final_byte) {
+            (0, FinalByte::Subframes(last)) => self.with_last(last),
+            _ => ffi::NO_WORD,
+        }
+    }
+
+    /// The word of a Locate to it: above the case its counts, its last byte and its marks.
     fn word(&self) -> u64 {
-        let marks = u32::from_le_bytes([
+        let last = match self.final_byte {
+            FinalByte::Subframes(subframes) => subframes,
+            FinalByte::Status(status) => status.bits(),
+        };
+        // One product brings the four marks to bits 9, 3, 11 and 10.
+        let marks = u64::from(self.each_mark()) * 0x0080_0201 >> 14 & 0x0E08;
+        self.with_last(last) | marks << 48
+    }
+
+    /// The colour frame, the blank, the sign and the form of the last byte, each in a byte.
+    #[inline]
+    fn each_mark(&self) -> u32 {
+        u32::from_le_bytes([
             self.color_frame.into(),
             self.blank.into(),
             self.negative.into(),
             matches!(self.final_byte, FinalByte::Status(_)).into(),
-        ]);
-        let (0, FinalByte::Subframes(last)) = (marks, self.final_byte) else {
-            return ffi::NO_WORD;
-        };
+        ])
+    }
+
+    /// The word with this last byte and no marks.
+    #[inline]
+    fn with_last(&self, last: u8) -> u64 {
         let time = &self.time;
         let counts = u32::from_le_bytes([time.hours, time.minutes, time.seconds, time.frames]);
         let rate = u64::from(time.rate.into_bits());
         u64::from(counts) << 8 | u64::from(last) << 40 | rate << 48 | u64::from(ffi::LOCATE_TARGET)
     }
 
-    /// The time code of a Locate that was read: its five bytes above the case (pp. 8, 9). It is not inlined: a caller's loop would
-    /// move an item byte by byte.
+    /// The time code of a Locate's word. It is not inlined: a caller's loop would move an item byte by byte.
     #[inline(never)]
     fn of_word(next: ffi::NextWord) -> Self {
-        let bytes = (next.word >> 8) as u32;
-        // The counts in their bytes, and each mark, bit 6 of a byte, at the start of the byte before.
-        let [hours, minutes, seconds, frames] = (bytes & 0x1F3F_3F1F).to_le_bytes();
-        let [color_frame, blank, negative, _] = (bytes >> 14 & 0x01_0101).to_le_bytes();
+        let [hours, minutes, seconds, frames] = ((next.word >> 8) as u32).to_le_bytes();
+        let marks = next.word >> 48;
+        // One product brings each of the four marks to the start of a byte: bits 9, 3, 11 and 10.
+        let each = ((marks & 0x0E08) * 0x4020_0080 >> 16) as u32 & 0x0101_0101;
+        let [color_frame, blank, negative, status] = each.to_le_bytes();
         let last = next.byte(4);
         Self {
             time: MtcTime::of(ffi::Time {
@@ -252,12 +285,12 @@ impl StandardTimeCode {
                 minutes,
                 seconds,
                 frames,
-                rate: next.byte(0) >> 5 & 0x03,
+                rate: marks as u8 & 0x03,
             }),
             color_frame: color_frame != 0,
             blank: blank != 0,
             negative: negative != 0,
-            final_byte: if next.byte(3) & 0x20 == 0 {
+            final_byte: if status == 0 {
                 FinalByte::Subframes(last)
             } else {
                 FinalByte::Status(TimeCodeStatus::of_bits(last))
@@ -453,30 +486,40 @@ impl<'a> MmcCommand<'a> {
         })
     }
 
-    /// The command as one number: the case of a name alone, or a Locate's time above it.
+    /// The word of a name alone or of a Locate to a time without marks, and none of any other: so the loop over the commands most often
+    /// sent keeps to few registers.
     #[inline]
-    fn word(&self) -> u64 {
+    fn usual_word(&self) -> u64 {
         match (self.kind(), self) {
             (kind @ ffi::STOP..=ffi::RESET, _) => u64::from(kind),
-            (_, Self::LocateTarget(target)) => target.word(),
+            (_, Self::LocateTarget(target)) => target.usual_word(),
             _ => ffi::NO_WORD,
         }
     }
 
+    /// The command as one number: its case, and above it a Locate's register or time, or a Move's names. Write and `Other` have none.
+    pub(crate) fn word(&self) -> u64 {
+        let kind = u64::from(self.kind());
+        match *self {
+            Self::Write(_) | Self::Other { .. } => ffi::NO_WORD,
+            Self::LocateField { register } => kind | u64::from(register) << 8,
+            Self::LocateTarget(ref target) => target.word(),
+            Self::Move {
+                destination,
+                source,
+            } => kind | u64::from(destination) << 8 | u64::from(source) << 16,
+            _ => kind,
+        }
+    }
+
     fn put(&self, writer: ffi::Writer, out: &mut [u8]) -> ffi::Writer {
-        let flat = self.flat();
         match self {
-            Self::Write(fields) => ffi::put_command(writer, out, fields.bytes, flat),
+            Self::Write(fields) => ffi::put_write(writer, out, fields.bytes),
             Self::Other { name, data } => {
                 let joined = Joined::new(name, data);
-                let command = ffi::Command {
-                    name: joined.name,
-                    data: joined.data,
-                    ..flat
-                };
-                ffi::put_command(writer, out, &joined.bytes, command)
+                ffi::put_other(writer, out, &joined.bytes, joined.name, joined.data)
             }
-            _ => ffi::put_command(writer, out, &[], flat),
+            _ => ffi::put_word(writer, out, self.word()),
         }
     }
 }
@@ -552,8 +595,11 @@ impl<'a> InfoField<'a> {
                 let joined = Joined::new(name, data);
                 let item = ffi::Field {
                     kind: ffi::OTHER_FIELD,
-                    name: joined.name,
-                    data: joined.data,
+                    name: ffi::Part::whole(joined.name),
+                    data: ffi::Part {
+                        start: joined.name,
+                        length: joined.data,
+                    },
                     ..none
                 };
                 ffi::put_field(writer, out, &joined.bytes, item)
@@ -567,36 +613,29 @@ const NAME: usize = 4;
 /// The bytes of data that are handed on.
 const DATA: usize = 128;
 
-/// A name and data that lie apart, brought into one source. A name of 4 or more bytes is refused whatever they are, and so is
-/// data of 128 or more: bytes past these decide nothing and are left behind.
+/// A name and, from there on, data that lie apart, brought into one source, with both lengths. A name of 4 or more bytes is refused
+/// whatever they are, and so is data of 128 or more: bytes past these decide nothing and are left behind.
 struct Joined {
     bytes: [u8; NAME + DATA],
-    name: ffi::Part,
-    data: ffi::Part,
+    name: usize,
+    data: usize,
 }
 
 impl Joined {
     fn new(name: &[u8], data: &[u8]) -> Self {
         let mut bytes = [0; NAME + DATA];
-        let (name_room, data_room) = bytes.split_at_mut(NAME);
-        let name = ffi::Part {
-            start: 0,
-            length: fill(name_room, name),
-        };
-        let data = ffi::Part {
-            start: NAME,
-            length: fill(data_room, data),
-        };
+        let name = fill(&mut bytes, name, NAME);
+        let data = fill(&mut bytes[name..], data, DATA);
         Self { bytes, name, data }
     }
 }
 
-/// Copies what fits, and gives its length.
-fn fill(room: &mut [u8], bytes: &[u8]) -> usize {
-    for (to, byte) in room.iter_mut().zip(bytes) {
-        *to = *byte;
-    }
-    bytes.len().min(room.len())
+/// Copies up to so many bytes, and gives how many.
+#[inline]
+fn fill(room: &mut [u8], bytes: &[u8], most: usize) -> usize {
+    let length = bytes.len().min(most).min(room.len());
+    room[..length].copy_from_slice(&bytes[..length]);
+    length
 }
 
 /// The reader of a command string. A string cut short gives [`SysexError::Length`] once, then the end.
@@ -809,14 +848,30 @@ pub fn write_commands(
     device_id: u8,
     commands: &[MmcCommand<'_>],
 ) -> Result<usize, SysexError> {
+    match ffi::write_words(
+        out,
+        device_id,
+        commands.iter().map(MmcCommand::usual_word),
+    ) {
+        Some(answer) => written(answer),
+        None => write_unusual(out, device_id, commands),
+    }
+}
+
+/// Commands of which one is no name alone and no Locate to a time without marks.
+#[inline(never)]
+fn write_unusual(
+    out: &mut [u8],
+    device_id: u8,
+    commands: &[MmcCommand<'_>],
+) -> Result<usize, SysexError> {
     match ffi::write_words(out, device_id, commands.iter().map(MmcCommand::word)) {
         Some(answer) => written(answer),
         None => write_one_by_one(out, device_id, commands),
     }
 }
 
-/// Commands of which one has no word.
-#[cold]
+/// Commands of which one is a Write or an `Other`, or more than 48.
 #[inline(never)]
 pub(crate) fn write_one_by_one(
     out: &mut [u8],

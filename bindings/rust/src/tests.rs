@@ -956,6 +956,19 @@ fn left(
     (write(&mut out), out)
 }
 
+/// A message written by the records of its commands, which have no parts.
+fn write_by_records(
+    out: &mut [u8],
+    device_id: u8,
+    commands: &[MmcCommand<'_>],
+) -> Result<usize, SysexError> {
+    let mut writer = ffi::open_commands(out, device_id);
+    for command in commands {
+        writer = ffi::put_command(writer, out, &[], command.flat());
+    }
+    written(ffi::close_message(writer, out))
+}
+
 #[test]
 fn commands_in_one_call_are_the_calls_one_by_one() {
     let mut lists: Vec<Vec<MmcCommand<'_>>> = (0..=50).map(|n| vec![MmcCommand::Stop; n]).collect();
@@ -964,13 +977,81 @@ fn commands_in_one_call_are_the_calls_one_by_one() {
         lists.push(vec![locate.clone(), MmcCommand::Play]);
         lists.push(vec![MmcCommand::Pause, MmcCommand::Reset, locate]);
     }
+    for register in [0, 1, 7, 8, 15, 16, 31, 32, 127, 128, 255] {
+        lists.push(vec![MmcCommand::LocateField { register }, MmcCommand::Play]);
+        for source in [0, 1, 31, 32, 255] {
+            let destination = register;
+            lists.push(vec![MmcCommand::Move {
+                destination,
+                source,
+            }]);
+        }
+    }
     for list in &lists {
         for device in [0, 0x7F, 0x80] {
             for room in (0..20).chain([52, 53, 64]) {
                 let whole = left(room, |out| write_commands(out, device, list));
                 let single = left(room, |out| write_one_by_one(out, device, list));
+                let records = left(room, |out| write_by_records(out, device, list));
                 assert_eq!(whole, single, "{list:?} for {device} into {room}");
+                assert_eq!(whole, records, "{list:?} for {device} into {room}");
             }
         }
+    }
+}
+
+#[test]
+fn a_number_that_is_no_word_is_refused() {
+    let locate = MmcCommand::LocateTarget(code(hour(), 0)).word();
+    let numbers = [
+        9,
+        13,
+        14,
+        137,
+        255,
+        256,
+        0x1_0001,
+        0x1_080A,
+        0x101_080C,
+        locate | 1 << 50,
+        locate | 1 << 60,
+        u64::MAX,
+    ];
+    for number in numbers {
+        let mut out = [0xAA; 20];
+        let answer = ffi::write_words(&mut out, 0x7F, [1, number, 1].into_iter());
+        if number == ffi::NO_WORD {
+            assert_eq!(answer, None);
+            continue;
+        }
+        let answer = answer.unwrap();
+        assert_eq!((answer.refusal, answer.length), (3, 0), "{number:#x}");
+        assert_eq!(out[..6], [0xF0, 0x7F, 0x7F, 6, 2, 0xAA], "{number:#x}");
+        assert!(out[5..].iter().all(|&b| b == 0xAA), "{number:#x}");
+    }
+}
+
+#[test]
+fn what_is_written_reads_back_as_the_same_word() {
+    let mut list: Vec<MmcCommand<'_>> = targets()
+        .into_iter()
+        .map(MmcCommand::LocateTarget)
+        .collect();
+    list.extend([MmcCommand::Stop, MmcCommand::Reset]);
+    list.extend((0..=255).map(|register| MmcCommand::LocateField { register }));
+    list.push(MmcCommand::Move {
+        destination: 8,
+        source: 1,
+    });
+    let mut out = [0; 20];
+    for command in &list {
+        let Ok(n) = write_commands(&mut out, 0, core::slice::from_ref(command)) else {
+            continue;
+        };
+        let read = ffi::next_word(&out[4..n - 1], 0).next;
+        let blank = matches!(command, MmcCommand::LocateTarget(code) if code.blank);
+        // A blank label goes out as zeros.
+        let kept = if blank { !0 ^ 0xFFFF_FFFF << 8 } else { !0 };
+        assert_eq!(read.word & kept, command.word() & kept, "{command:?}");
     }
 }

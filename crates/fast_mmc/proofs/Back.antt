@@ -12,9 +12,10 @@ use Rattle.mmc.proofs.StringLaws.{message-by}
 use Rattle.universal.specs.Message.{header}
 use Rattle.universal.specs.declared.message.MaybeSubId2.the-variants.{NoSubId2}
 use Rattle.universal.specs.declared.message.Universal.{Universal}
-use Rattle.fast_mmc.specs.Code.{finalOf, isStatus, flatFinal, codeOf, flatCode, shortOf, flatShort}
+use Rattle.fast_mmc.specs.Code.{finalOf, isStatus, codeOf, flatCode, shortOf, flatShort}
+use Rattle.fast_mmc.specs.Word.{commandWord, plainCommand}
 use Rattle.fast_mmc.specs.String.{partAt, flatPart, commandOf, flatCommand, fieldOf, flatField}
-use Rattle.codes.specs.TimeCode.{readStatus, statusByte}
+use Rattle.codes.specs.TimeCode.{readStatus, statusByte, finalValue}
 use Rattle.mmc.specs.declared.command.MmcCommand.{MmcCommand}
 use Rattle.mmc.specs.declared.command.MmcCommand.the-variants.{Stop, Play, DeferredPlay, FastForward, Rewind, RecordStrobe, RecordExit, Pause, Reset, Write, LocateField, LocateTarget, Move, Other}
 use Rattle.mmc.specs.declared.field.InfoField.{InfoField}
@@ -51,8 +52,8 @@ marks-back false false false false = refl
 status-back : (s : TimeCodeStatus) → readStatus (statusByte s) ≡ s
 status-back s = marks-back (s .estimated) (s .invalid) (s .«video_field1») (s .«no_time_code»)
 
-final-back : (f : FinalByte) → finalOf (isStatus f) (flatFinal f) ≡ f
-unfolding finalOf isStatus flatFinal
+pub final-back : (f : FinalByte) → finalOf (isStatus f) (finalValue f) ≡ f
+unfolding finalOf isStatus
 final-back (Subframes s) = refl
 final-back (Status s) = ap Status (status-back s)
 
@@ -69,7 +70,7 @@ unfolding partAt flatPart
 part-back p = refl
 
 pub command-back : (c : MmcCommand) → commandOf (flatCommand c) ≡ c
-unfolding commandOf flatCommand
+unfolding commandOf flatCommand commandWord plainCommand
 command-back Stop = refl
 command-back Play = refl
 command-back DeferredPlay = refl

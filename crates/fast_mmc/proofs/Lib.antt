@@ -1,7 +1,8 @@
 mod Back
 mod Checks
+mod CommandWords
 pub mod Laws
-mod WordAnswers
+mod WordItems
 mod WordPuts
 mod WordRanges
-mod Words
+mod WordReading

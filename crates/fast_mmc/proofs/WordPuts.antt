@@ -1,153 +1,64 @@
--- A message from words, word by word. Assumes nothing.
-use Prim.Native.Nat.{ℕ, zero, suc, _+_, _*_, _/_, _%_, _≤_, _<_}
+-- A message from words, word by word, and one word into an open writing. Assumes nothing.
+use Prim.Native.Nat.{ℕ, _+_, _-_, _*_, _/_, _%_, _≤_, _<_}
 use mathlib.Core.Path.{_≡_, refl, sym, ap, ap₂, subst, _∙_}
-use mathlib.Core.Bool.{Bool, true, false, true≢false}
 use mathlib.Core.List.{List, [], _∷_}
-use mathlib.Core.Logic.{_⊎_}
 use mathlib.Core.Option.{Option, none, some}
 use native.Mathlib.Numerals.{add-one}
 use native.Mathlib.Omega.{arith}
-use borrow.Author.Tests.{le-leb, lt-leb, eq-eqb, ne-eqb}
-use lib.Dec.{T, lit≤}
+use borrow.Author.Tests.{le-leb, lt-leb}
+use lib.Dec.{lit≤}
 use lib.ListN.{length, drop, getD, drop-of-length-le}
 use lib.Seq.{drop-cons}
 use Rattle.mmc.specs.declared.command.MmcCommand.{MmcCommand}
-use Rattle.mmc.specs.declared.command.MmcCommand.the-variants.{LocateTarget}
-use Rattle.mmc.specs.declared.length.Kind.the-variants.{Commands}
 use Rattle.fast_mmc.specs.declared.numbers.WrittenNumbers.{WrittenNumbers}
-use Rattle.codes.specs.declared.time_code.StandardTimeCode.{StandardTimeCode}
-use Rattle.mmc.specs.Item.{commandItem, isSubframes}
+use Rattle.mmc.specs.Item.{commandItem}
 use Rattle.fast_mmc.specs.Numbers.{neededOf, writtenNumbers}
-use Rattle.codes.specs.TimeCode.{bit, standardFits, standardList}
-use Rattle.codes.proofs.Laws.{fits-parts, list-parts}
-use Rattle.fast_mmc.specs.Word.{plainCommand}
-use Rattle.fast_mmc.specs.Contracts.{plainName, afterWords, closedOut, going, PutWhole, nothing, whole}
-use Rattle.fast_mmc.specs.Words.{markedCode, byteAt, wordCode, wordCommand, wordItems}
+use Rattle.fast_mmc.specs.Word.{plainCommand, byteAt, wordItem}
+use Rattle.fast_mmc.specs.Contracts.{going, PutWhole, nothing, whole, PutOne, still, one}
+use Rattle.fast_mmc.specs.Refusal.{flatStop}
+use Rattle.fast_mmc.specs.Write.{checkedAt, writerOf, writingAt, flatWriter}
+use Rattle.fast_mmc.specs.Words.{afterWords, closedOut, wordsState, wordsAnswer, wordsLeft}
 use Rattle.mmc.specs.Length.{within}
 use Rattle.mmc.specs.Named.{summed}
-use Rattle.mmc.specs.Strings as G
-use Rattle.mmc.specs.Write.{Writing, openedCommands, begun, admitted, counted, moved, given, sound, closedMessage, ended, wholeMessage}
-use Rattle.mmc.specs.Writings.{State, opened, afterItems, stringAnswer, stringLeft}
-use Rattle.labels.specs.St12.{label, framesPerSecond, isDropFrame, isValid}
-use Rattle.labels.specs.Time.{typeOf, bitsOf}
-use Rattle.labels.proofs.Laws.{in-range-valid}
+use Rattle.mmc.specs.declared.write.Writer.{Writer}
+use Rattle.mmc.specs.Write.{Writing, writingOf, openedCommands, begun, admitted, counted, moved, given, sound, closedMessage, ended, wholeMessage}
+use Rattle.mmc.specs.Writings.{State}
 use Rattle.universal.specs.Emission.{Emission, sent, stopped, check, resume, _then_}
 use Rattle.universal.specs.Overlay.{overlay}
 use Rattle.universal.specs.Refusals.{Refusal, Answer, gives, refused, refusal, tooSmall}
 use Rattle.universal.proofs.Laws.{length-overlay, overlay-none}
-use Rattle.fast_mmc.proofs.Words.{plain-item}
-use Rattle.mmc.proofs.WritingSteps.{as-it-is, ready-kept, ready-failed, repeats, takes, close-repeats, close-empty, close-long, close-sent, commands-refused, commands-opened, begun-after, given-moves, after-none, after-cons, locate-sent, closed-after, whole-ended, string-answer, string-left}
-
--- ---- a word's command
-
--- Case 11 is a Locate to a time, any other a name alone.
-pub locate-command : (w : ℕ) (t : StandardTimeCode) → w % 256 ≡ 11 → t ≡ wordCode w → LocateTarget t ≡ wordCommand w
-unfolding wordCommand
-locate-command w t e p = ap LocateTarget p ∙ rw (eq-eqb (w % 256) 11 e)
-
-pub plain-command : (w : ℕ) (c : MmcCommand) → (w % 256 ≡ 11 → ⊥) → c ≡ plainCommand (w % 256) → c ≡ wordCommand w
-unfolding wordCommand
-plain-command w c n p = p ∙ rw (ne-eqb (w % 256) 11 n)
-
--- What goes out of it.
-pub word-plain : (w k : ℕ) → (w % 256 ≡ 11 → ⊥) → k ≡ plainName (w % 256) → commandItem [] (wordCommand w) ≡ sent (k ∷ [])
-word-plain w k n e = sym (ap (commandItem []) (plain-command w _ n refl)) ∙ plain-item (w % 256) k e
-
-pub word-locate : (w : ℕ) → w % 256 ≡ 11 → commandItem [] (wordCommand w) ≡ commandItem [] (LocateTarget (wordCode w))
-word-locate w e = sym (ap (commandItem []) (locate-command w (wordCode w) e refl))
-
--- ---- a byte of marks that is a rate
-
-four : (P : ℕ → Type 0) → P 0 → P 1 → P 2 → P 3 → (b : ℕ) → b ≤ 3 → P b
-four P p q r s zero h = p
-four P p q r s (suc zero) h = q
-four P p q r s (suc (suc zero)) h = r
-four P p q r s (suc (suc (suc zero))) h = s
-four P p q r s (suc (suc (suc (suc n)))) h = absurd (omega arith)
-
-true-of : (b : Bool) → T b → b ≡ true
-true-of true h = refl
-true-of false h = absurd h
-
--- At 24 and 25 no number is skipped.
-pub slow-valid : (h m s f b : ℕ) → h ≤ 23 → m ≤ 59 → s ≤ 59 → b < 2 → f < 24 + b → isValid (label (typeOf b) h m s f) ≡ true
-slow-valid h m s f b hh hm hs hb hf =
-    true-of _
-    (in-range-valid (typeOf b) h m s f hh hm hs (omega (arith, fps b (omega arith) hb)) (λ d. absurd (true≢false (sym d ∙ drop b (omega arith) hb))))
-  where
-    fps : (b : ℕ) → b ≤ 3 → b < 2 → framesPerSecond (typeOf b) ≡ 24 + b
-    fps = four (λ b. b < 2 → framesPerSecond (typeOf b) ≡ 24 + b) (λ k. refl) (λ k. refl) (λ k. absurd (omega arith)) (λ k. absurd (omega arith))
-
-    drop : (b : ℕ) → b ≤ 3 → b < 2 → isDropFrame (typeOf b) ≡ false
-    drop = four (λ b. b < 2 → isDropFrame (typeOf b) ≡ false) (λ k. refl) (λ k. refl) (λ k. absurd (omega arith)) (λ k. absurd (omega arith))
-
--- At 30 frames and drop-frame: where it is drop-frame, one that is kept.
-pub fast-valid : (h m s f b : ℕ) → h ≤ 23 → m ≤ 59 → s ≤ 59 → 2 ≤ b → b ≤ 3 → f ≤ 29
-    → ((b ≡ 3 → ⊥) → (m % 10 ≡ 0) ⊎ (2 ≤ s * 30 + f)) → isValid (label (typeOf b) h m s f) ≡ true
-fast-valid h m s f b hh hm hs hl hb hf k =
-    true-of _
-    (in-range-valid (typeOf b) h m s f hh hm hs (omega (arith, fps b hb hl)) (λ d. k (λ e. true≢false (sym d ∙ ap (λ (x : ℕ). isDropFrame (typeOf x)) e))))
-  where
-    fps : (b : ℕ) → b ≤ 3 → 2 ≤ b → framesPerSecond (typeOf b) ≡ 30
-    fps = four (λ b. 2 ≤ b → framesPerSecond (typeOf b) ≡ 30) (λ k. absurd (omega arith)) (λ k. absurd (omega arith)) (λ k. refl) (λ k. refl)
-
--- A time code that is written as its counts are: a valid label with subframes, and no mark but the rate.
-pub record Usual (h m s f last marks : ℕ) : Type 0 where
-  pub rate : marks ≤ 3
-  pub hours : h ≤ 23
-  pub subframes : last ≤ 99
-  pub valid : isValid (label (typeOf marks) h m s f) ≡ true
-
-module _ (h m s f last b : ℕ) (u : Usual h m s f last b) where
-  no-marks : (weight : ℕ) → (b / weight % 2 ≡ 1 → ⊥) → bit weight b ≡ false
-  no-marks weight n = ne-eqb (b / weight % 2) 1 n
-
-  rate-bits : bitsOf (typeOf b) ≡ b
-  rate-bits = four (λ b. bitsOf (typeOf b) ≡ b) refl refl refl refl b (u .rate)
-
-  -- A usual time code goes out as its counts are, the rate above the hours.
-  pub usual-item : commandItem [] (LocateTarget (markedCode h m s f last b))
-      ≡ sent (68 ∷ 6 ∷ 1 ∷ (h + b * 32) ∷ m ∷ s ∷ f ∷ last ∷ [])
-  unfolding markedCode
-  usual-item =
-      let marks = u .rate in
-      let c : bit 4 b ≡ false = no-marks 4 (λ e. omega arith) in
-      let k : bit 8 b ≡ false = no-marks 8 (λ e. omega arith) in
-      let g : bit 16 b ≡ false = no-marks 16 (λ e. omega arith) in
-      let i : bit 32 b ≡ false = no-marks 32 (λ e. omega arith) in
-      let hr : b * 32 + h % 32 ≡ h + b * 32 = omega (arith, u .hours) in
-      let mn : 0 + m ≡ m = omega arith in
-      let sc : 0 + s ≡ s = omega arith in
-      let fr : 0 + 0 + f ≡ f = omega arith in
-      locate-sent [] (markedCode h m s f last b)
-      ∙ rw (fits-parts, list-parts, c, k, g, i, le-leb last 99 (u .subframes), u .valid, rate-bits, hr, mn, sc, fr)
+use Rattle.fast_mmc.proofs.WordItems.{word-name, Usual, usual-sent}
+use Rattle.mmc.proofs.WritingSteps.{as-it-is, ready-kept, ready-failed, repeats, takes, close-repeats, close-empty, close-long, close-sent, commands-refused, commands-opened, begun-after, given-moves, closed-after, whole-ended}
 
 -- ---- by the writer
 
--- A command that is the word's is given as it.
-pub given-word : (w v : Writing) (word : ℕ) (out left : List ℕ) (c : MmcCommand) → c ≡ wordCommand word
+-- A command that goes out as the word does is given as it.
+pub given-word : (w v : Writing) (word : ℕ) (out left : List ℕ) (c : MmcCommand) → commandItem [] c ≡ wordItem word
     → v ≡ given w (commandItem [] c) → left ≡ overlay out (w .at) (admitted w (commandItem [] c) .bytes)
-    → (v ≡ given w (commandItem [] (wordCommand word)))
-    × (left ≡ overlay out (w .at) (admitted w (commandItem [] (wordCommand word)) .bytes))
+    → (v ≡ given w (wordItem word)) × (left ≡ overlay out (w .at) (admitted w (wordItem word) .bytes))
 given-word w v word out left c q p l = (
-  p ∙ ap (λ (x : MmcCommand). given w (commandItem [] x)) q,
-  l ∙ ap (λ (x : MmcCommand). overlay out (w .at) (admitted w (commandItem [] x) .bytes)) q,
+  p ∙ ap (given w) q,
+  l ∙ ap (λ (e : Emission). overlay out (w .at) (admitted w e .bytes)) q,
 )
 
 -- ---- what is put of a word
 
 module _ (word at : ℕ) (out left : List ℕ) where
-  put-known : (bs : List ℕ) → commandItem [] (wordCommand word) ≡ sent bs → left ≡ overlay out at bs
+  put-known : (bs : List ℕ) → wordItem word ≡ sent bs → left ≡ overlay out at bs
       → PutWhole word at out (at + length bs) left
   put-known bs e p =
       whole (ap (λ (x : Emission). x .stop) e) (ap (λ (x : Emission). at + length (x .bytes)) (sym e))
       (p ∙ ap (λ (x : Emission). overlay out at (x .bytes)) (sym e))
 
-  pub put-name : (k : ℕ) → (word % 256 ≡ 11 → ⊥) → k ≡ plainName (word % 256) → left ≡ overlay out at (k ∷ [])
+  pub put-name : (k : ℕ) → word < 9 → commandItem [] (plainCommand word) ≡ sent (k ∷ []) → left ≡ overlay out at (k ∷ [])
       → PutWhole word at out (at + 1) left
-  put-name k n e p = put-known (k ∷ []) (word-plain word k n e) p
+  put-name k h e p = put-known (k ∷ []) (word-name word k h e) p
 
-  pub put-usual : word % 256 ≡ 11
+  pub put-four : (a b c d : ℕ) → wordItem word ≡ sent (a ∷ b ∷ c ∷ d ∷ []) → left ≡ overlay out at (a ∷ b ∷ c ∷ d ∷ [])
+      → PutWhole word at out (at + 4) left
+  put-four a b c d e p = put-known (a ∷ b ∷ c ∷ d ∷ []) e p
+
+  pub put-usual : word % 256 ≡ 11 → word / 1125899906842624 ≡ 0
       → Usual (byteAt 256 word) (byteAt 65536 word) (byteAt 16777216 word) (byteAt 4294967296 word) (byteAt 1099511627776 word)
       (byteAt 281474976710656 word)
       → left
@@ -162,7 +73,7 @@ module _ (word at : ℕ) (out left : List ℕ) where
       ∷ byteAt 1099511627776 word
       ∷ [])
       → PutWhole word at out (at + 8) left
-  put-usual n u p = put-known _ (word-locate word n ∙ usual-item _ _ _ _ _ _ u) p
+  put-usual n z u p = put-known _ (usual-sent word n z u) p
 
 no-bytes : (bs out : List ℕ) (at : ℕ) → at ≡ at + length bs → overlay out at bs ≡ out
 no-bytes [] out at e = overlay-none out at
@@ -177,14 +88,13 @@ put-nothing word at next out left (whole s l p) e = sym (p ∙ no-bytes _ out at
 
 words-turn : (w : Writing) (out ws : List ℕ) (i : ℕ) → i < length ws
     → afterWords w out (drop i ws)
-    ≡ afterWords (given w (commandItem [] (wordCommand (getD ws i 0))))
-    (overlay out (w .at) (admitted w (commandItem [] (wordCommand (getD ws i 0))) .bytes)) (drop (i + 1) ws)
-unfolding afterWords wordItems
-words-turn w out ws i h = rw (add-one, drop-cons ws i 0) (after-cons Commands (record { writing = w; out = out }) _ _)
+    ≡ afterWords (given w (wordItem (getD ws i 0))) (overlay out (w .at) (admitted w (wordItem (getD ws i 0)) .bytes)) (drop (i + 1) ws)
+unfolding afterWords
+words-turn w out ws i h = rw (add-one, drop-cons ws i 0 h)
 
 words-end : (w : Writing) (out ws : List ℕ) (i : ℕ) → length ws ≤ i → afterWords w out (drop i ws) ≡ record { writing = w; out = out }
-unfolding afterWords wordItems
-words-end w out ws i h = rw (drop-of-length-le ws h) (after-none Commands (record { writing = w; out = out }))
+unfolding afterWords
+words-end w out ws i h = rw (drop-of-length-le ws h)
 
 -- A close of a state gives this answer, and leaves this buffer.
 abbrev pub Ends : State → ℕ → WrittenNumbers → List ℕ → Type 0
@@ -201,8 +111,8 @@ module _ (w₀ : Writing) (out₀ : List ℕ) (from : ℕ) (ws : List ℕ) where
 
   module _ (w : Writing) (out : List ℕ) (i : ℕ) (g : Gone w₀ out₀ from ws w out i) where
     -- One more word, by its emission.
-    pub gone-word : (v : Writing) (left : List ℕ) → i < length ws → v ≡ given w (commandItem [] (wordCommand (getD ws i 0)))
-        → left ≡ overlay out (w .at) (admitted w (commandItem [] (wordCommand (getD ws i 0))) .bytes)
+    pub gone-word : (v : Writing) (left : List ℕ) → i < length ws → v ≡ given w (wordItem (getD ws i 0))
+        → left ≡ overlay out (w .at) (admitted w (wordItem (getD ws i 0)) .bytes)
         → Gone w₀ out₀ from ws v left (i + 1)
     gone-word v left h p q =
         record {
@@ -250,6 +160,71 @@ module _ (at i : ℕ) (few : i < 256) (near : at ≤ 40000) where
       gone-word w₀ out₀ from ws (going at i) out i g (going next (i + 1)) left h
       (ap (λ (k : ℕ). going k (i + 1)) l ∙ going-on _ s)
       (p ∙ ap (λ (x : Emission). overlay out at (x .bytes)) (sym (going-takes _)))
+
+-- ---- with the writer as one number
+
+-- A number below 2^40 is that of a writing that nothing has refused, with fewer than 256 items.
+writing-going : (v : ℕ) → v / 1099511627776 ≡ 0 → writingAt v ≡ going (v % 4294967296) (v / 4294967296)
+unfolding writerOf checkedAt
+writing-going v z =
+    let r : v / 281474976710656 % 256 ≡ 0 = omega (arith, z) in
+    let i : v / 4294967296 % 65536 ≡ v / 4294967296 = omega (arith, z) in
+    rw (r, i)
+
+-- A word that went out whole moves the position and counts an item.
+pub put-one : (word v at next after : ℕ) (out left : List ℕ) → v / 1099511627776 ≡ 0 → at ≡ v % 4294967296 → at ≤ 40000 → next ≤ at + 8
+    → (next ≡ at → ⊥) → after ≡ v - at + next + 4294967296 → PutWhole word at out next left → PutOne word v out after left
+unfolding flatWriter flatStop
+put-one word v at next after out left z p h k n q nothing = absurd (n refl)
+put-one word v at next after out left z p h k n q (whole s l e) =
+    let w : writingAt v ≡ going at (v / 4294967296) =
+    writing-going v z ∙ ap (λ (x : ℕ). going x (v / 4294967296)) (sym p) in
+    let few : v / 4294967296 < 256 = omega (arith, z) in
+    let g : going next (v / 4294967296 + 1) ≡ given (going at (v / 4294967296)) (wordItem word) =
+    ap (λ (x : ℕ). going x (v / 4294967296 + 1)) l ∙ going-on at (v / 4294967296) few h (wordItem word) s in
+    one {after = after} {left = left} (more (at + length (wordItem word .bytes)) l)
+    (number v at next after z p h k q ∙ ap flatWriter (g ∙ ap (λ (x : Writing). given x (wordItem word)) (sym w)))
+    (e
+    ∙ ap (λ (x : Emission). overlay out at (x .bytes)) (sym (going-takes at (v / 4294967296) few h (wordItem word)))
+    ∙ ap (λ (x : Writing). overlay out (x .at) (admitted x (wordItem word) .bytes)) (sym w))
+  where
+    more : (m : ℕ) → next ≡ m → v < after
+    more m l = omega (arith, p, q, n, k, l)
+
+    number : (v at next after : ℕ) → v / 1099511627776 ≡ 0 → at ≡ v % 4294967296 → at ≤ 40000 → next ≤ at + 8
+        → after ≡ v - at + next + 4294967296 → after ≡ flatWriter (going next (v / 4294967296 + 1))
+    number v at next after z p h k q =
+        let n : next % 4294967296 ≡ next = omega (arith, h, k) in
+        let i : (v / 4294967296 + 1) % 65536 ≡ v / 4294967296 + 1 = omega (arith, z) in
+        rw (n, i) (omega (arith, p, q))
+
+-- A word after which the number is the same was left, and the buffer is as found.
+pub one-still : (word v after : ℕ) (out left : List ℕ) → PutOne word v out after left → after ≡ v → out ≡ left
+one-still word v after out left still e = refl
+one-still word v after out left (one l p q) e = absurd (omega (arith, l, e))
+
+-- A word that was left leaves the buffer as found.
+pub left-still : (word v : ℕ) (out left : List ℕ) → out ≡ left → PutOne word v out v left
+left-still word v out left e = subst (PutOne word v out v) e still
+
+-- By the writer it is put from where nothing was.
+pub one-by-writer : (word v after : ℕ) (w : Writer) (out found left : List ℕ) (x : Writing) → out ≡ found → after ≡ flatWriter x
+    → w ≡ writerOf v → x ≡ given (writingOf w) (wordItem word)
+    → left ≡ overlay found (w .at) (admitted (writingOf w) (wordItem word) .bytes)
+    → (after ≡ flatWriter (given (writingAt v) (wordItem word)))
+    × (left ≡ overlay out (writingAt v .at) (admitted (writingAt v) (wordItem word) .bytes))
+one-by-writer word v after w out found left x o p q r l = (
+  p ∙ ap flatWriter (r ∙ ap (λ (y : Writer). given (writingOf y) (wordItem word)) q),
+  l
+      ∙ ap₂ (λ (b : List ℕ) (y : Writer). overlay b (y .at) (admitted (writingOf y) (wordItem word) .bytes)) (sym o) q,
+)
+
+-- Any other was put.
+pub one-put : (word v after : ℕ) (out left : List ℕ) → PutOne word v out after left → (after ≡ v → ⊥)
+    → (after ≡ flatWriter (given (writingAt v) (wordItem word)))
+    × (left ≡ overlay out (writingAt v .at) (admitted (writingAt v) (wordItem word) .bytes))
+one-put word v after out left still n = absurd (n refl)
+one-put word v after out left (one l p q) n = (p, q)
 
 -- A word of which nothing went out leaves it where it was.
 pub gone-still : (w₀ : Writing) (out₀ : List ℕ) (from : ℕ) (ws : List ℕ) (w : Writing) (out left : List ℕ) (i word next : ℕ)
@@ -322,26 +297,16 @@ module _ (at : ℕ) (near : at ≤ 40000) (out : List ℕ) where
 
 -- The answer and the buffer of a whole message of words.
 abbrev pub Whole : ℕ → List ℕ → List ℕ → WrittenNumbers → List ℕ → Type 0
-Whole device ws out a left =
-    (a ≡ writtenNumbers (stringAnswer Commands device (wordItems ws) out)) × (left ≡ stringLeft Commands device (wordItems ws) out)
+Whole device ws out a left = (a ≡ writtenNumbers (wordsAnswer device ws out)) × (left ≡ wordsLeft device ws out)
 
 -- From the opening on the words lead where the message leads.
 message-words : (device : ℕ) (out₀ ws : List ℕ) (w : Writing) (out : List ℕ) (a : WrittenNumbers) (left : List ℕ)
     → w ≡ begun (openedCommands device) → out ≡ overlay out₀ 0 (openedCommands device .bytes)
     → Ends (afterWords w out ws) (length out) a left → Whole device ws out₀ a left
-unfolding afterWords
+unfolding wordsAnswer wordsLeft
 message-words device out₀ ws w out a left p q r =
-    let ends : Ends (afterItems Commands (opened (openedCommands device) out₀) (wordItems ws)) (length out₀) a left =
-    subst (λ (n : ℕ). Ends (afterItems Commands (opened (openedCommands device) out₀) (wordItems ws)) n a left)
-    (ap length q ∙ length-overlay out₀ 0 _)
-    (subst (λ (s : State). Ends (afterItems Commands s (wordItems ws)) (length out) a left) (same p q) r) in (
-      ends .0 ∙ ap writtenNumbers (sym (string-answer Commands device (wordItems ws) out₀)),
-      ends .1 ∙ sym (string-left Commands device (wordItems ws) out₀),
-    )
-  where
-    same : w ≡ begun (openedCommands device) → out ≡ overlay out₀ 0 (openedCommands device .bytes)
-        → _≡_ {A = State} (record { writing = w; out = out }) (opened (openedCommands device) out₀)
-    same p q = ap₂ (λ (x : Writing) (l : List ℕ). record { writing = x; out = l }) p q
+    subst (λ (n : ℕ). Ends (wordsState device ws out₀) n a left) (ap length q ∙ length-overlay out₀ 0 _)
+    (subst (λ (s : State). Ends s (length out) a left) (ap₂ (λ (x : Writing) (l : List ℕ). afterWords x l ws) p q) r)
 
 -- A writing that was refused before anything went out.
 abbrev barred : Refusal → Writing
@@ -361,11 +326,10 @@ barred-item r out e =
     (ap (λ (x : Emission). overlay out 0 (x .bytes)) a ∙ overlay-none out 0)
 
 barred-words : (r : Refusal) (out ws : List ℕ) → afterWords (barred r) out ws ≡ record { writing = barred r; out = out }
-unfolding afterWords wordItems
-barred-words r out [] = after-none Commands (record { writing = barred r; out = out })
+unfolding afterWords
+barred-words r out [] = refl
 barred-words r out (x ∷ ws) =
-    after-cons Commands (record { writing = barred r; out = out }) (G.given Commands [] (wordCommand x)) (wordItems ws)
-    ∙ ap (λ (s : State). afterItems Commands s (wordItems ws)) (barred-item r out (commandItem [] (wordCommand x))) ∙ barred-words r out ws
+    ap (λ (s : State). afterWords (s .writing) (s .out) ws) (barred-item r out (wordItem x)) ∙ barred-words r out ws
 
 barred-ends : (out : List ℕ) → Ends (record { writing = barred (refusal 5); out = out }) (length out) (record { refusal = 5; length = 0 }) out
 unfolding writtenNumbers neededOf

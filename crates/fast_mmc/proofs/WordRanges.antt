@@ -7,11 +7,11 @@ use native.Mathlib.Omega.{arith}
 use borrow.Author.Tests.{leb-true, leb-false, eqb-false, not-true}
 use lib.Dec.{leb, eqb}
 use Rattle.fast_mmc.specs.Contracts.{LowBytes, InRange, Kept}
-use Rattle.fast_mmc.specs.Words.{byteAt}
-use Rattle.fast_mmc.proofs.WordPuts.{Usual}
+use Rattle.fast_mmc.specs.Word.{byteAt}
+use Rattle.fast_mmc.proofs.WordItems.{Usual}
 use Rattle.labels.specs.St12.{label, isValid}
 use Rattle.labels.specs.Time.{typeOf}
-use Rattle.fast_mmc.proofs.WordPuts.{slow-valid, fast-valid}
+use Rattle.fast_mmc.proofs.WordItems.{slow-valid, fast-valid}
 
 -- A byte whose highest bit is 0 is below 128.
 pub low-bytes : (n : ℕ) → n / 1125899906842624 ≡ 0 → n / 32768 % 2 ≡ 0 → n / 8388608 % 2 ≡ 0 → n / 2147483648 % 2 ≡ 0
@@ -43,6 +43,7 @@ counts-in-range w l k =
       frames = omega (arith, l .third, l .fourth, k .fourth);
       subframes = omega (arith, l .fourth, l .fifth, k .fifth);
       rate = omega (arith, l .most);
+      top = l .most;
     }
 
 -- ---- a label that its rate has

@@ -5,7 +5,7 @@ use Rattle.fast_mtc.specs.Time.{timeOf, flatTime, noTime}
 use Rattle.fast_mmc.specs.declared.code.FlatCode.{FlatCode}
 use Rattle.fast_mmc.specs.declared.code.FlatShort.{FlatShort}
 use Rattle.fast_mmc.specs.declared.code.FlatStatus.{FlatStatus}
-use Rattle.codes.specs.TimeCode.{readStatus, statusByte}
+use Rattle.codes.specs.TimeCode.{readStatus, finalValue}
 use Rattle.codes.specs.declared.time_code.FinalByte.{FinalByte}
 use Rattle.codes.specs.declared.time_code.FinalByte.the-variants.{Subframes, Status}
 use Rattle.codes.specs.declared.time_code.MaybeName.{MaybeName}
@@ -41,10 +41,6 @@ unfoldable pub isStatus : FinalByte → Bool
 isStatus (Subframes s) = false
 isStatus (Status s) = true
 
-unfoldable pub flatFinal : FinalByte → ℕ
-flatFinal (Subframes s) = s
-flatFinal (Status s) = statusByte s
-
 -- ---- five bytes and two
 
 unfoldable pub codeOf : FlatCode → StandardTimeCode
@@ -65,7 +61,7 @@ flatCode c =
       blank = c .blank;
       negative = c .negative;
       status = isStatus (c .«final_byte»);
-      last = flatFinal (c .«final_byte»);
+      last = finalValue (c .«final_byte»);
     }
 
 -- All zeros, where there is none.
@@ -81,7 +77,7 @@ flatShort c =
       frames = c .frames;
       negative = c .negative;
       status = isStatus (c .«final_byte»);
-      last = flatFinal (c .«final_byte»);
+      last = finalValue (c .«final_byte»);
     }
 
 abbrev pub noShort : FlatShort

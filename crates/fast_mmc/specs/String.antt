@@ -1,8 +1,9 @@
 -- Commands, fields and the answers of the splitter as flat records, and back. Assumes nothing.
 use Prim.Native.Nat.{ℕ}
 use mathlib.Core.Bool.{cond}
-use lib.Dec.{eqb}
+use lib.Dec.{eqb, ltb}
 use Rattle.fast_mmc.specs.Code.{codeOf, flatCode, noCode, shortOf, flatShort, noShort}
+use Rattle.fast_mmc.specs.Word.{commandWord, plainCommand}
 use Rattle.fast_mmc.specs.declared.code.FlatCode.{FlatCode}
 use Rattle.fast_mmc.specs.declared.code.FlatShort.{FlatShort}
 use Rattle.fast_mmc.specs.declared.string.FlatCommand.{FlatCommand}
@@ -38,36 +39,32 @@ abbrev pub plain : ℕ → ℕ → ℕ → FlatCommand
 plain kind first second =
     record { kind = kind; first = first; second = second; code = noCode; name = noPart; «data» = noPart }
 
+-- A command that is a name alone.
+abbrev pub alone : MmcCommand → FlatCommand
+alone c = plain (commandWord c) 0 0
+
 -- The command of a number; one above 13 is taken as 13.
 abbrev pub commandAt : ℕ → FlatCommand → MmcCommand
 commandAt kind c =
-    cond (eqb kind 0) Stop
-    (cond (eqb kind 1) Play
-    (cond (eqb kind 2) DeferredPlay
-    (cond (eqb kind 3) FastForward
-    (cond (eqb kind 4) Rewind
-    (cond (eqb kind 5) RecordStrobe
-    (cond (eqb kind 6) RecordExit
-    (cond (eqb kind 7) Pause
-    (cond (eqb kind 8) Reset
+    cond (ltb kind 9) (plainCommand kind)
     (cond (eqb kind 9) (Write (partAt (c .«data»)))
     (cond (eqb kind 10) (LocateField (c .first))
     (cond (eqb kind 11) (LocateTarget (codeOf (c .code)))
-    (cond (eqb kind 12) (Move (c .first) (c .second)) (Other (partAt (c .name)) (partAt (c .«data»)))))))))))))))
+    (cond (eqb kind 12) (Move (c .first) (c .second)) (Other (partAt (c .name)) (partAt (c .«data»)))))))
 
 unfoldable pub commandOf : FlatCommand → MmcCommand
 commandOf c = commandAt (c .kind) c
 
 unfoldable pub flatCommand : MmcCommand → FlatCommand
-flatCommand Stop = plain 0 0 0
-flatCommand Play = plain 1 0 0
-flatCommand DeferredPlay = plain 2 0 0
-flatCommand FastForward = plain 3 0 0
-flatCommand Rewind = plain 4 0 0
-flatCommand RecordStrobe = plain 5 0 0
-flatCommand RecordExit = plain 6 0 0
-flatCommand Pause = plain 7 0 0
-flatCommand Reset = plain 8 0 0
+flatCommand Stop = alone Stop
+flatCommand Play = alone Play
+flatCommand DeferredPlay = alone DeferredPlay
+flatCommand FastForward = alone FastForward
+flatCommand Rewind = alone Rewind
+flatCommand RecordStrobe = alone RecordStrobe
+flatCommand RecordExit = alone RecordExit
+flatCommand Pause = alone Pause
+flatCommand Reset = alone Reset
 flatCommand (Write d) = numbered 9 noCode noPart (flatPart d)
 flatCommand (LocateField r) = plain 10 r 0
 flatCommand (LocateTarget c) = numbered 11 (flatCode c) noPart noPart

@@ -1,45 +1,45 @@
--- A whole command message given as words: names alone, and Locates to a time. Assumes nothing.
-use Prim.Native.Nat.{ℕ, _/_, _%_}
-use mathlib.Core.Bool.{cond}
-use mathlib.Core.List.{List, [], map}
-use lib.Dec.{eqb}
+-- A whole command message given as words: opened, given what each word says, and closed, as a writing of commands is
+-- (`stringAnswer`, `stringLeft`); the law `words-as-commands` says so of the words of commands. Assumes nothing.
+use Prim.Native.Nat.{ℕ}
+use mathlib.Core.List.{List, [], _∷_, map}
+use lib.ListN.{length}
 use Rattle.mmc.specs.declared.command.MmcCommand.{MmcCommand}
-use Rattle.mmc.specs.declared.command.MmcCommand.the-variants.{LocateTarget}
 use Rattle.mmc.specs.declared.length.Kind.the-variants.{Commands}
-use Rattle.codes.specs.declared.time_code.FinalByte.the-variants.{Subframes, Status}
-use Rattle.codes.specs.declared.time_code.StandardTimeCode.{StandardTimeCode}
-use Rattle.mmc.specs.Strings.{Given, given}
-use Rattle.codes.specs.TimeCode.{bit, readStatus}
-use Rattle.fast_mmc.specs.Word.{plainCommand}
-use Rattle.labels.specs.St12.{label}
-use Rattle.labels.specs.Time.{typeOf}
+use Rattle.mmc.specs.Strings as S
+use Rattle.fast_mmc.specs.Word.{wordItem, OneWord}
+use Rattle.mmc.specs.Write.{Writing, openedCommands, begun, admitted, given, closedMessage, wholeMessage}
+use Rattle.mmc.specs.Writings.{State}
+use Rattle.universal.specs.Overlay.{overlay}
+use Rattle.universal.specs.Refusals.{Answer}
 
--- A time code by its counts, its last byte and a byte of marks: the rate in two bits, and above it the colour frame, the
--- blank, the sign, and whether the last byte is a status.
-unfoldable pub markedCode : ℕ → ℕ → ℕ → ℕ → ℕ → ℕ → StandardTimeCode
-markedCode h m s f last marks =
-    record {
-      time = label (typeOf marks) h m s f;
-      «color_frame» = bit 4 marks;
-      blank = bit 8 marks;
-      negative = bit 16 marks;
-      «final_byte» = cond (bit 32 marks) (Status (readStatus last)) (Subframes last);
-    }
+-- What a writing and its buffer become by words.
+unfoldable pub afterWords : Writing → List ℕ → List ℕ → State
+afterWords w out [] = record { writing = w; out = out }
+afterWords w out (x ∷ ws) =
+    afterWords (given w (wordItem x)) (overlay out (w .at) (admitted w (wordItem x) .bytes)) ws
 
--- The byte of a number that stands at a weight.
-abbrev pub byteAt : ℕ → ℕ → ℕ
-byteAt weight w = w / weight % 256
+-- The buffer that a close leaves.
+abbrev pub closedOut : State → List ℕ
+closedOut s = overlay (s .out) (s .writing .at) (closedMessage (s .writing) .bytes)
 
--- The time code in the six bytes above the case, all eight bits of each.
-abbrev pub wordCode : ℕ → StandardTimeCode
-wordCode w =
-    markedCode (byteAt 256 w) (byteAt 65536 w) (byteAt 16777216 w) (byteAt 4294967296 w) (byteAt 1099511627776 w)
-    (byteAt 281474976710656 w)
+-- The writing that a device's opening begins, given the words.
+abbrev pub wordsState : ℕ → List ℕ → List ℕ → State
+wordsState device ws out = afterWords (begun (openedCommands device)) (overlay out 0 (openedCommands device .bytes)) ws
 
--- Case 11 is a Locate to a time; any other is a name alone, and one above 8 is taken as 8.
-unfoldable pub wordCommand : ℕ → MmcCommand
-wordCommand w = cond (eqb (w % 256) 11) (LocateTarget (wordCode w)) (plainCommand (w % 256))
+-- The answer of a whole message of words, and the bytes that it leaves in a buffer.
+unfoldable pub wordsAnswer : ℕ → List ℕ → List ℕ → Answer ℕ
+wordsAnswer device ws out = wholeMessage (wordsState device ws out .writing) (length out)
 
--- The commands of a list of words, as they are given to be written.
-unfoldable pub wordItems : List ℕ → List (Given Commands)
-wordItems ws = map (λ w. given Commands [] (wordCommand w)) ws
+unfoldable pub wordsLeft : ℕ → List ℕ → List ℕ → List ℕ
+wordsLeft device ws out = closedOut (wordsState device ws out)
+
+-- ---- the words of commands
+
+-- Each of the commands has a word of its own.
+abbrev pub OneWords : List MmcCommand → Type 0
+OneWords [] = Unit
+OneWords (c ∷ cs) = OneWord c × OneWords cs
+
+-- Commands that have no parts, as they are given to be written.
+abbrev pub givenAll : List MmcCommand → List (S.Given Commands)
+givenAll cs = map (S.given Commands []) cs

@@ -12,9 +12,9 @@ use mmc::StandardBytes;
 use mmc::StandardTimeCode;
 use mmc::TimeCodeStatus;
 ghost use mathlib.Core.Path.{_≡_};
-ghost use Rattle.codes.specs.TimeCode.{standardBytes, standardBytesOf, shortBytes, shortBytesOf};
+ghost use Rattle.codes.specs.TimeCode.{finalValue, standardBytesOf, shortBytesOf};
 ghost use Rattle.fast_mtc.specs.Refusal.{refusalIn};
-ghost use Rattle.fast_mmc.specs.Code.{statusOf, flatStatus, finalOf, isStatus, flatFinal, codeOf, flatCode, noCode, shortOf, flatShort, noShort, flatName};
+ghost use Rattle.fast_mmc.specs.Code.{statusOf, flatStatus, finalOf, isStatus, codeOf, flatCode, noCode, shortOf, flatShort, noShort, flatName};
 
 #[repr(C)]
 pub struct FlatStatus {
@@ -107,7 +107,7 @@ pub fn is_status(f: FinalByte) -> bool
 }
 
 pub fn flat_final(f: FinalByte) -> u8
-    ensures { λ r. ⌜ r ≡ flatFinal f ⌝ }
+    ensures { λ r. ⌜ r ≡ finalValue f ⌝ }
 {
     match f {
         FinalByte::Subframes(s) => s,

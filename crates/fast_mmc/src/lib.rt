@@ -3,9 +3,11 @@
 // names the definition of the plain call that it equals.
 pub mod apply;
 pub mod code;
+mod command;
 mod locate;
 pub mod message;
 mod numbers;
+mod put;
 pub mod refusal;
 pub mod string;
 mod whole;
@@ -14,6 +16,9 @@ pub mod write;
 
 pub use numbers::WrittenNumbers;
 pub use numbers::written_numbers;
+pub use put::put_other;
+pub use put::put_word;
+pub use put::put_write;
 pub use whole::write_words;
 pub use word::NextWord;
 pub use word::next_word;

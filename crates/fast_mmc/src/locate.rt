@@ -16,6 +16,17 @@ fn put_locate_start(out: &mut [u8], at: usize)
     put(out, at + 2, 1);
 }
 
+// Four bytes: a Locate to a register, or a Move.
+pub(crate) fn put_four(out: &mut [u8], at: usize, bytes: [u8; 4])
+    requires { ⌜ at ≤ 40000 ⌝ }
+    ensures { λ _. ⌜ now (out .exit) ≡ overlay (now (out .entry)) at (getD bytes 0 0 ∷ getD bytes 1 0 ∷ getD bytes 2 0 ∷ getD bytes 3 0 ∷ []) ⌝ }
+{
+    put(out, at, bytes[0]);
+    put(out, at + 1, bytes[1]);
+    put(out, at + 2, bytes[2]);
+    put(out, at + 3, bytes[3]);
+}
+
 // The bytes of a time code.
 fn put_five(out: &mut [u8], at: usize, bytes: [u8; 5])
     requires { ⌜ at ≤ 40003 ⌝ }

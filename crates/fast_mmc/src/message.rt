@@ -138,7 +138,7 @@ pub fn flat_answer(answer: UserBitsAnswer, bits: UserBits) -> u8
     }
 }
 
-pub fn fast_mmc_message(read: ReadMmcMessage) -> FlatMmcMessage
+pub fn flat_mmc_message(read: ReadMmcMessage) -> FlatMmcMessage
     ensures { λ r. ⌜ r ≡ flatMmcMessage (readMessageOf read) ⌝ }
 {
     match read {

@@ -7,6 +7,7 @@ use crate::code::flat_short;
 use crate::code::no_code;
 use crate::code::no_short;
 use crate::code::short_of;
+use crate::command::plain_command;
 use mmc::CommandAnswer;
 use mmc::FieldAnswer;
 use mmc::InfoField;
@@ -108,16 +109,10 @@ pub fn command_of(c: FlatCommand) -> MmcCommand
     let code = c.code;
     let name = c.name;
     let data = c.data;
+    if kind < 9 {
+        return plain_command(kind);
+    }
     match kind {
-        0 => MmcCommand::Stop,
-        1 => MmcCommand::Play,
-        2 => MmcCommand::DeferredPlay,
-        3 => MmcCommand::FastForward,
-        4 => MmcCommand::Rewind,
-        5 => MmcCommand::RecordStrobe,
-        6 => MmcCommand::RecordExit,
-        7 => MmcCommand::Pause,
-        8 => MmcCommand::Reset,
         9 => MmcCommand::Write(part_at(data)),
         10 => MmcCommand::LocateField { register: c.first },
         11 => MmcCommand::LocateTarget(code_of(code)),

@@ -1,9 +1,16 @@
-// A whole command message from words, in one call: names alone, and Locates to a time. A usual word goes out with only the
-// position kept; from an unusual one on the writer does it.
+// A whole command message from words, in one call. A usual word goes out with only the position kept; from an unusual one on the
+// writer does it.
+use crate::command::LOCATE_FIELD;
+use crate::command::LOCATE_TARGET;
+use crate::command::MOVE;
+use crate::command::MaybeCommand;
+use crate::command::NAMES;
+use crate::command::plain_name;
+use crate::command::word_command;
+use crate::locate::put_four;
 use crate::locate::put_locate_bytes;
 use crate::numbers::WrittenNumbers;
 use crate::numbers::written_numbers;
-use crate::word::plain_name;
 use codes::Checked;
 use codes::FinalByte;
 use codes::StandardTimeCode;
@@ -14,128 +21,67 @@ use mmc::MmcCommand;
 use mmc::Writer;
 use universal::put;
 ghost use mathlib.Core.Path.{_≡_};
-ghost use mathlib.Core.Bool.{true, cond};
+ghost use mathlib.Core.Bool.{true};
 ghost use mathlib.Core.List.{_∷_, []};
 ghost use Prim.Native.Nat.{_+_, _%_, _≤_};
 ghost use lib.ListN.{length, drop};
+ghost use Rattle.universal.specs.Emission.{stopped};
 ghost use Rattle.universal.specs.Overlay.{overlay};
-ghost use Rattle.mmc.specs.declared.length.Kind.the-variants.{Commands};
-ghost use Rattle.codes.specs.declared.time_code.FinalByte.the-variants.{Subframes, Status};
-ghost use Rattle.codes.specs.TimeCode.{readStatus};
 ghost use Rattle.mmc.specs.Item.{commandItem};
-ghost use Rattle.fast_mmc.specs.Numbers.{writtenNumbers};
 ghost use Rattle.mmc.specs.Write.{writingOf, given, admitted, closedMessage, wholeMessage};
-ghost use Rattle.mmc.specs.Writings.{stringAnswer, stringLeft};
-ghost use Rattle.fast_mmc.specs.Word.{plainCommand};
-ghost use Rattle.fast_mmc.specs.Contracts.{numbersIn, afterWords, closedOut, going, PutWhole, LowBytes, InRange, Kept};
-ghost use Rattle.fast_mmc.specs.Words.{markedCode, byteAt, wordCode, wordCommand, wordItems};
+ghost use Rattle.fast_mmc.specs.Numbers.{writtenNumbers};
+ghost use Rattle.fast_mmc.specs.Word.{byteAt, wordItem};
+ghost use Rattle.fast_mmc.specs.Words.{afterWords, closedOut, wordsAnswer, wordsLeft};
+ghost use Rattle.fast_mmc.specs.Contracts.{going, PutWhole, LowBytes, InRange, Kept};
 
-// The case of a Locate to a time.
-const LOCATE_TARGET: u64 = 11;
 // 104, 68, 68, 98 and 28 in their bytes: above 23 hours, 59 minutes, 59 seconds, 29 frames and 99 subframes they make 128 or more.
 const ABOVE_RANGE: u64 = 0x1C62_4444_6800;
 // The most commands of a message, each a byte or more.
 const MOST_COMMANDS: usize = 48;
 
-// The last byte of a time code, a status or subframes.
-fn last_of(status: bool, last: u8) -> FinalByte
-    ensures { λ r. ⌜ r ≡ cond status (Status (readStatus last)) (Subframes last) ⌝ }
+// A command that every writer refuses with 3 before anything of it goes out: a Locate to a time with a status.
+fn refused_command() -> MmcCommand
+    ensures { λ r. ⌜ commandItem [] r ≡ stopped 3 ⌝ }
 {
-    if status {
-        return FinalByte::Status(TimeCodeStatus::from_byte(last));
-    }
-    FinalByte::Subframes(last)
-}
-
-// A time code by its counts, its last byte and its marks.
-fn marked_code(
-    hours: u8,
-    minutes: u8,
-    seconds: u8,
-    frames: u8,
-    last: u8,
-    marks: u8,
-) -> StandardTimeCode
-    ensures { λ r. ⌜ r ≡ markedCode hours minutes seconds frames last marks ⌝ }
-{
-    let rate = TimeCodeType::from_bits(marks);
-    StandardTimeCode {
+    let status = TimeCodeStatus::from_byte(0);
+    MmcCommand::LocateTarget(StandardTimeCode {
         time: MtcTime {
-            hours,
-            minutes,
-            seconds,
-            frames,
-            rate,
+            hours: 0,
+            minutes: 0,
+            seconds: 0,
+            frames: 0,
+            rate: TimeCodeType::Fps24,
         },
-        color_frame: marks / 4 % 2 == 1,
-        blank: marks / 8 % 2 == 1,
-        negative: marks / 16 % 2 == 1,
-        final_byte: last_of(marks / 32 % 2 == 1, last),
+        color_frame: false,
+        blank: false,
+        negative: false,
+        final_byte: FinalByte::Status(status),
+    })
+}
+
+// The command that a word is given to the writer as.
+fn given_command(word: u64) -> MmcCommand
+    ensures { λ r. ⌜ commandItem [] r ≡ wordItem word ⌝ }
+{
+    let said = word_command(word);
+    match said {
+        MaybeCommand::NoCommand => refused_command(),
+        MaybeCommand::Command(command) => command,
     }
 }
 
-// The time code of a word.
-fn word_code(word: u64) -> StandardTimeCode
-    ensures { λ r. ⌜ r ≡ wordCode word ⌝ }
+// What a word says, by the writer.
+pub(crate) fn give_word(out: &mut [u8], writer: Writer, word: u64) -> Writer
+    ensures { λ r. ⌜ writingOf r ≡ given (writingOf writer) (wordItem word) ⌝ }
+    ensures { λ _. ⌜ now (out .exit) ≡ overlay (now (out .entry)) (writer .at) (admitted (writingOf writer) (wordItem word) .bytes) ⌝ }
 {
-    marked_code(
-        (word / 0x100 % 256) as u8,
-        (word / 0x1_0000 % 256) as u8,
-        (word / 0x100_0000 % 256) as u8,
-        (word / 0x1_0000_0000 % 256) as u8,
-        (word / 0x100_0000_0000 % 256) as u8,
-        (word / 0x1_0000_0000_0000 % 256) as u8,
-    )
-}
-
-// A command that is a name alone, by its case; a number above 8 is taken as 8.
-fn plain_command(kind: u8) -> MmcCommand
-    ensures { λ r. ⌜ r ≡ plainCommand kind ⌝ }
-{
-    match kind {
-        0 => MmcCommand::Stop,
-        1 => MmcCommand::Play,
-        2 => MmcCommand::DeferredPlay,
-        3 => MmcCommand::FastForward,
-        4 => MmcCommand::Rewind,
-        5 => MmcCommand::RecordStrobe,
-        6 => MmcCommand::RecordExit,
-        7 => MmcCommand::Pause,
-        _ => MmcCommand::Reset,
-    }
-}
-
-// The command of a word.
-fn word_command(word: u64) -> MmcCommand
-    ensures { λ r. ⌜ r ≡ wordCommand word ⌝ }
-{
-    let case = word % 256;
-    if case == LOCATE_TARGET {
-        return MmcCommand::LocateTarget(word_code(word));
-    }
-    plain_command(case as u8)
-}
-
-// A word's command, by the writer.
-fn put_word(out: &mut [u8], writer: Writer, word: u64) -> Writer
-    ensures { λ r. ⌜ writingOf r ≡ given (writingOf writer) (commandItem [] (wordCommand word)) ⌝ }
-    ensures { λ _. ⌜ now (out .exit) ≡ overlay (now (out .entry)) (writer .at) (admitted (writingOf writer) (commandItem [] (wordCommand word)) .bytes) ⌝ }
-{
-    let wrote = writer.put_command(out, &[], word_command(word));
+    let wrote = writer.put_command(out, &[], given_command(word));
     wrote.writer
 }
 
-// A small answer in one number, which comes back in a register.
-fn one_number(numbers: WrittenNumbers) -> usize
-    requires { ⌜ numbers .length ≤ 53 ⌝ }
-    ensures { λ r. ⌜ numbersIn r ≡ numbers ⌝ }
-{
-    numbers.refusal as usize + numbers.length * 256
-}
-
 // The words from one on, by the writer, from a position on, and the close.
-fn put_rest(out: &mut [u8], words: &[u64], at: usize, from: usize) -> usize
-    ensures { λ r. ⌜ numbersIn r ≡ writtenNumbers (wholeMessage (afterWords (going at from) (now (out .entry)) (drop from (now (words .entry))) .writing) (length (now (out .entry)))) ⌝ }
+fn put_rest(out: &mut [u8], words: &[u64], at: usize, from: usize) -> WrittenNumbers
+    ensures { λ r. ⌜ r ≡ writtenNumbers (wholeMessage (afterWords (going at from) (now (out .entry)) (drop from (now (words .entry))) .writing) (length (now (out .entry)))) ⌝ }
     ensures { λ _. ⌜ now (out .exit) ≡ closedOut (afterWords (going at from) (now (out .entry)) (drop from (now (words .entry)))) ⌝ }
 {
     let mut w = Writer {
@@ -145,20 +91,10 @@ fn put_rest(out: &mut [u8], words: &[u64], at: usize, from: usize) -> usize
     };
     let mut i = from;
     while i < words.len() {
-        w = put_word(out, w, words[i]);
+        w = give_word(out, w, words[i]);
         i += 1;
     }
-    one_number(written_numbers(w.close_message(out)))
-}
-
-// The refusal and the length of such a number.
-fn numbers_of(number: usize) -> WrittenNumbers
-    ensures { λ r. ⌜ r ≡ numbersIn number ⌝ }
-{
-    WrittenNumbers {
-        refusal: (number % 256) as u8,
-        length: number / 256,
-    }
+    written_numbers(w.close_message(out))
 }
 
 // True only for a minute that skips no number.
@@ -250,23 +186,88 @@ fn put_locate(out: &mut [u8], at: usize, word: u64) -> usize
     next
 }
 
+// A Locate to a register that may be written, and the position after it; any other is left, and the position stays.
+fn put_register(out: &mut [u8], at: usize, word: u64) -> usize
+    requires { ⌜ (at ≤ 40000) × (word % 256 ≡ 10) ⌝ }
+    ensures { λ r. ⌜ r ≤ at + 8 ⌝ }
+    ensures { λ r. ⌜ PutWhole word at (now (out .entry)) r (now (out .exit)) ⌝ }
+{
+    let register = (word / 0x100 % 256) as u8;
+    if word / 0x1_0000 != 0 {
+        return at;
+    }
+    if register < 8 {
+        return at;
+    }
+    if register > 15 {
+        return at;
+    }
+    put_four(out, at, [0x44, 2, 0, register]);
+    at + 4
+}
+
+// A Move that may be written, likewise.
+fn put_move(out: &mut [u8], at: usize, word: u64) -> usize
+    requires { ⌜ (at ≤ 40000) × (word % 256 ≡ 12) ⌝ }
+    ensures { λ r. ⌜ r ≤ at + 8 ⌝ }
+    ensures { λ r. ⌜ PutWhole word at (now (out .entry)) r (now (out .exit)) ⌝ }
+{
+    let destination = (word / 0x100 % 256) as u8;
+    let source = (word / 0x1_0000 % 256) as u8;
+    if word / 0x100_0000 != 0 {
+        return at;
+    }
+    if destination == 0 {
+        return at;
+    }
+    if destination > 31 {
+        return at;
+    }
+    if source == 0 {
+        return at;
+    }
+    if source > 31 {
+        return at;
+    }
+    put_four(out, at, [0x4C, 2, destination, source]);
+    at + 4
+}
+
+// A name alone, or a Locate to a register or a Move that may be written, and the position after it; any other is left, and the
+// position stays.
+pub(crate) fn put_small(out: &mut [u8], at: usize, word: u64) -> usize
+    requires { ⌜ at ≤ 40000 ⌝ }
+    ensures { λ r. ⌜ r ≤ at + 8 ⌝ }
+    ensures { λ r. ⌜ PutWhole word at (now (out .entry)) r (now (out .exit)) ⌝ }
+{
+    if word < NAMES {
+        put(out, at, plain_name(word as u8));
+        return at + 1;
+    }
+    if word % 256 == LOCATE_FIELD {
+        return put_register(out, at, word);
+    }
+    if word % 256 == MOVE {
+        return put_move(out, at, word);
+    }
+    at
+}
+
 // A usual word, and the position after it; any other is left, and the position stays.
 fn put_whole(out: &mut [u8], at: usize, word: u64) -> usize
     requires { ⌜ at ≤ 40000 ⌝ }
     ensures { λ r. ⌜ r ≤ at + 8 ⌝ }
     ensures { λ r. ⌜ PutWhole word at (now (out .entry)) r (now (out .exit)) ⌝ }
 {
-    let case = word % 256;
-    // Stop to Record Exit, whose names are one more.
-    if case < 7 {
-        put(out, at, case as u8 + 1);
+    // Stop to Record Exit, whose names are one more, and a Locate to a time come most often.
+    if word < 7 {
+        put(out, at, word as u8 + 1);
         return at + 1;
     }
-    if case == LOCATE_TARGET {
+    if word % 256 == LOCATE_TARGET {
         return put_locate(out, at, word);
     }
-    put(out, at, plain_name(case as u8));
-    at + 1
+    put_small(out, at, word)
 }
 
 // The words of a message that was opened, and the close.
@@ -280,7 +281,7 @@ fn put_words(out: &mut [u8], words: &[u64]) -> WrittenNumbers
     while i < words.len() {
         let next = put_whole(out, at, words[i]);
         if next == at {
-            return numbers_of(put_rest(out, words, at, i));
+            return put_rest(out, words, at, i);
         }
         at = next;
         i += 1;
@@ -326,8 +327,8 @@ fn put_start(out: &mut [u8], device_id: u8)
 
 // Writes a whole command message: opened, given the commands of the words, and closed.
 pub fn write_words(out: &mut [u8], device_id: u8, words: &[u64]) -> WrittenNumbers
-    ensures { λ r. ⌜ r ≡ writtenNumbers (stringAnswer Commands «device_id» (wordItems (now (words .entry))) (now (out .entry))) ⌝ }
-    ensures { λ _. ⌜ now (out .exit) ≡ stringLeft Commands «device_id» (wordItems (now (words .entry))) (now (out .entry)) ⌝ }
+    ensures { λ r. ⌜ r ≡ writtenNumbers (wordsAnswer «device_id» (now (words .entry)) (now (out .entry))) ⌝ }
+    ensures { λ _. ⌜ now (out .exit) ≡ wordsLeft «device_id» (now (words .entry)) (now (out .entry)) ⌝ }
 {
     if device_id > 0x7F {
         return WrittenNumbers {
@@ -338,11 +339,11 @@ pub fn write_words(out: &mut [u8], device_id: u8, words: &[u64]) -> WrittenNumbe
     // Where the four bytes fit, none is checked for room.
     if out.len() < 4 {
         put_start(out, device_id);
-        return numbers_of(put_rest(out, words, 4, 0));
+        return put_rest(out, words, 4, 0);
     }
     put_start(out, device_id);
     if words.len() > MOST_COMMANDS {
-        return numbers_of(put_rest(out, words, 4, 0));
+        return put_rest(out, words, 4, 0);
     }
     put_words(out, words)
 }

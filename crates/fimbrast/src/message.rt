@@ -7,8 +7,8 @@ use fast_mmc::message::FlatUniversal;
 use fast_mmc::message::FlatUserBits;
 use fast_mmc::message::FourBytes;
 use fast_mmc::message::bits_of;
-use fast_mmc::message::fast_mmc_message;
 use fast_mmc::message::flat_full_message;
+use fast_mmc::message::flat_mmc_message;
 use fast_mmc::message::flat_user_bits;
 use fast_mmc::message::mmc_kind;
 use fast_mmc::message::universal_of;
@@ -118,7 +118,7 @@ pub extern "C" fn fimbrast_user_bits_bytes(bits: FlatUserBits) -> FourBytes
 pub extern "C" fn fimbrast_mmc_message_read(header: FlatUniversal, data: &[u8]) -> FlatMmcMessage
     ensures { λ r. ⌜ r ≡ flatMmcMessage (messageFrom (universalOf header) (now («data» .entry))) ⌝ }
 {
-    fast_mmc_message(MmcMessage::from_universal(universal_of(header), data))
+    flat_mmc_message(MmcMessage::from_universal(universal_of(header), data))
 }
 
 // The same without the device, which decides nothing, as one number.

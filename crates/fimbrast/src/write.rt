@@ -13,10 +13,11 @@ ghost use lib.ListN.{length};
 ghost use Rattle.universal.specs.Overlay.{overlay};
 ghost use Rattle.fast_mmc.specs.Numbers.{writtenNumbers};
 ghost use Rattle.mmc.specs.Item.{commandItem, fieldItem};
-ghost use Rattle.fast_mmc.specs.Words.{wordItems};
+ghost use Rattle.mmc.specs.declared.command.MmcCommand.the-variants.{Write, Other};
+ghost use Rattle.mmc.specs.Part.{part};
+ghost use Rattle.fast_mmc.specs.Word.{wordItem};
+ghost use Rattle.fast_mmc.specs.Words.{wordsAnswer, wordsLeft};
 ghost use Rattle.mmc.specs.Write.{openedCommands, openedResponses, openedFields, begun, admitted, given, closedMessage, wholeMessage, wholeFields};
-ghost use Rattle.mmc.specs.Writings.{stringAnswer, stringLeft};
-ghost use Rattle.mmc.specs.declared.length.Kind.the-variants.{Commands};
 ghost use Rattle.fast_mmc.specs.String.{commandOf, fieldOf};
 ghost use Rattle.fast_mmc.specs.Write.{writingAt, flatWriter};
 
@@ -62,6 +63,40 @@ pub extern "C" fn fimbrast_put_command(
     flat_writer(back)
 }
 
+// One command by its word, as `fimbrast_next_word` gives it. A number that is no word of a name alone, of a Locate or of a Move is
+// refused with 3, and nothing goes out of it.
+#[no_mangle]
+pub extern "C" fn fimbrast_put_word(writer: FlatWriter, out: &mut [u8], word: u64) -> FlatWriter
+    ensures { λ r. ⌜ r ≡ flatWriter (given (writingAt writer) (wordItem word)) ⌝ }
+    ensures { λ _. ⌜ now (out .exit) ≡ overlay (now (out .entry)) (writingAt writer .at) (admitted (writingAt writer) (wordItem word) .bytes) ⌝ }
+{
+    fast_mmc::put_word(writer, out, word)
+}
+
+// A Write of these fields.
+#[no_mangle]
+pub extern "C" fn fimbrast_put_write(writer: FlatWriter, out: &mut [u8], data: &[u8]) -> FlatWriter
+    ensures { λ r. ⌜ r ≡ flatWriter (given (writingAt writer) (commandItem (now («data» .entry)) (Write (part 0 (length (now («data» .entry))))))) ⌝ }
+    ensures { λ _. ⌜ now (out .exit) ≡ overlay (now (out .entry)) (writingAt writer .at) (admitted (writingAt writer) (commandItem (now («data» .entry)) (Write (part 0 (length (now («data» .entry)))))) .bytes) ⌝ }
+{
+    fast_mmc::put_write(writer, out, data)
+}
+
+// Another command, whose name and then its data stand at the front of the lent source.
+#[no_mangle]
+pub extern "C" fn fimbrast_put_other(
+    writer: FlatWriter,
+    out: &mut [u8],
+    source: &[u8],
+    name: usize,
+    data: usize,
+) -> FlatWriter
+    ensures { λ r. ⌜ r ≡ flatWriter (given (writingAt writer) (commandItem (now (source .entry)) (Other (part 0 name) (part name «data»)))) ⌝ }
+    ensures { λ _. ⌜ now (out .exit) ≡ overlay (now (out .entry)) (writingAt writer .at) (admitted (writingAt writer) (commandItem (now (source .entry)) (Other (part 0 name) (part name «data»))) .bytes) ⌝ }
+{
+    fast_mmc::put_other(writer, out, source, name, data)
+}
+
 // One field; its parts lie in the lent source.
 #[no_mangle]
 pub extern "C" fn fimbrast_put_field(
@@ -95,16 +130,16 @@ pub extern "C" fn fimbrast_close_fields(writer: FlatWriter, out: &[u8]) -> Writt
     written_numbers(writer_of(writer).close_fields(out))
 }
 
-// `write_commands` in one call, for commands that are words: a name alone by its kind, or 11 with the time code of a Locate above
-// it. A kind above 8 other than 11 is taken as 8.
+// `write_commands` in one call, for commands that are words, as `fimbrast_next_word` gives them. A number that is no word of a name
+// alone, of a Locate or of a Move is refused with 3, and nothing goes out of it.
 #[no_mangle]
 pub extern "C" fn fimbrast_write_words(
     out: &mut [u8],
     device_id: u8,
     words: &[u64],
 ) -> WrittenNumbers
-    ensures { λ r. ⌜ r ≡ writtenNumbers (stringAnswer Commands «device_id» (wordItems (now (words .entry))) (now (out .entry))) ⌝ }
-    ensures { λ _. ⌜ now (out .exit) ≡ stringLeft Commands «device_id» (wordItems (now (words .entry))) (now (out .entry)) ⌝ }
+    ensures { λ r. ⌜ r ≡ writtenNumbers (wordsAnswer «device_id» (now (words .entry)) (now (out .entry))) ⌝ }
+    ensures { λ _. ⌜ now (out .exit) ≡ wordsLeft «device_id» (now (words .entry)) (now (out .entry)) ⌝ }
 {
     fast_mmc::write_words(out, device_id, words)
 }

@@ -1,5 +1,5 @@
 -- `fast_mmc::code::flat_final` meets its contract. Assumes nothing.
-use Rattle.fast_mmc.specs.Code.{flatFinal}
+
 use borrow.Author.Needs.{needs}
 use Rattle.fast_mmc.proofs.code.flat_final.Statement.{statement}
 use Rattle.fast_mmc.proofs.code.flat_final.Tie as tie
@@ -14,11 +14,9 @@ to-byte-requires : tie.Need-to-byte-requires
 to-byte-requires c κs = search needs
 
 returns : tie.Need-returns
-unfolding flatFinal
 returns c = cc
 
 returns-2 : tie.Need-returns-2
-unfolding flatFinal
 returns-2 c = cc
 
 pub flat-final-spec : {M : Type 1} → statement M

@@ -1,8 +1,8 @@
--- `fast_mmc::message::fast_mmc_message` meets its contract. Assumes nothing.
+-- `fast_mmc::message::flat_mmc_message` meets its contract. Assumes nothing.
 use Rattle.fast_mmc.specs.Message.{flatMmcMessage}
 use borrow.Author.Needs.{needs}
-use Rattle.fast_mmc.proofs.message.fast_mmc_message.Statement.{statement}
-use Rattle.fast_mmc.proofs.message.fast_mmc_message.Tie as tie
+use Rattle.fast_mmc.proofs.message.flat_mmc_message.Statement.{statement}
+use Rattle.fast_mmc.proofs.message.flat_mmc_message.Tie as tie
 
 enum-known-read : tie.Need-enum-known-read
 enum-known-read c = search needs

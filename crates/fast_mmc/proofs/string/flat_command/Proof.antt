@@ -1,5 +1,6 @@
 -- `fast_mmc::string::flat_command` meets its contract. Assumes nothing.
 use Rattle.fast_mmc.specs.String.{flatCommand}
+use Rattle.fast_mmc.specs.Word.{commandWord}
 use borrow.Author.Needs.{needs}
 use Rattle.fast_mmc.proofs.string.flat_command.Statement.{statement}
 use Rattle.fast_mmc.proofs.string.flat_command.Tie as tie
@@ -98,39 +99,39 @@ flat-part-requires-3 : tie.Need-flat-part-requires-3
 flat-part-requires-3 c κs = search needs
 
 returns : tie.Need-returns
-unfolding flatCommand
+unfolding flatCommand commandWord
 returns c = rw (c .before .enum-told .given .1, c .plain .ensures)
 
 returns-2 : tie.Need-returns-2
-unfolding flatCommand
+unfolding flatCommand commandWord
 returns-2 c = rw (c .before .enum-told2 .given .1, c .plain2 .ensures)
 
 returns-3 : tie.Need-returns-3
-unfolding flatCommand
+unfolding flatCommand commandWord
 returns-3 c = rw (c .before .enum-told3 .given .1, c .plain3 .ensures)
 
 returns-4 : tie.Need-returns-4
-unfolding flatCommand
+unfolding flatCommand commandWord
 returns-4 c = rw (c .before .enum-told4 .given .1, c .plain4 .ensures)
 
 returns-5 : tie.Need-returns-5
-unfolding flatCommand
+unfolding flatCommand commandWord
 returns-5 c = rw (c .before .enum-told5 .given .1, c .plain5 .ensures)
 
 returns-6 : tie.Need-returns-6
-unfolding flatCommand
+unfolding flatCommand commandWord
 returns-6 c = rw (c .before .enum-told6 .given .1, c .plain6 .ensures)
 
 returns-7 : tie.Need-returns-7
-unfolding flatCommand
+unfolding flatCommand commandWord
 returns-7 c = rw (c .before .enum-told7 .given .1, c .plain7 .ensures)
 
 returns-8 : tie.Need-returns-8
-unfolding flatCommand
+unfolding flatCommand commandWord
 returns-8 c = rw (c .before .enum-told8 .given .1, c .plain8 .ensures)
 
 returns-9 : tie.Need-returns-9
-unfolding flatCommand
+unfolding flatCommand commandWord
 returns-9 c = rw (c .before .enum-told9 .given .1, c .plain9 .ensures)
 
 returns-10 : tie.Need-returns-10

@@ -1,32 +1,31 @@
 use Prim.Native.Nat.{_-_}
-use mathlib.Core.Path.{_∙_, ap, refl}
+use mathlib.Core.Path.{_∙_, ap}
 use borrow.Author.Needs.{needs}
 use lib.ListN.{length}
 use Rattle.fast_mmc.specs.Numbers.{writtenNumbers}
 use Rattle.fast_mmc.specs.Contracts.{going}
 use Rattle.mmc.specs.Write.{writingOf}
-use Rattle.fast_mmc.proofs.WordAnswers.{Bare, bare-next, whole-small}
 use Rattle.fast_mmc.proofs.WordPuts.{Gone, gone-none, gone-word, gone-all}
 use Rattle.fast_mmc.proofs.whole.put_rest.Statement.{statement}
 use Rattle.fast_mmc.proofs.whole.put_rest.Tie as tie
 
 abbrev Inv-loop : tie.InvT-loop
-Inv-loop out₀ words at from w₀ i₀ out w i = Gone (going at from) out₀ from words (writingOf w) out i × Bare (writingOf w .stop)
+Inv-loop out₀ words at from w₀ i₀ out w i = Gone (going at from) out₀ from words (writingOf w) out i
 
 abbrev μ-loop : tie.MeasureT-loop
 μ-loop out₀ words at from w₀ i₀ out w i = length words - i
 
 loop-holds : tie.Need-loop-holds Inv-loop μ-loop
-loop-holds c = (gone-none _ _ _ _, refl)
+loop-holds c = gone-none _ _ _ _
 
-mul-put-word : tie.Need-mul-put-word Inv-loop μ-loop
-mul-put-word c = search needs
+mul-give-word : tie.Need-mul-give-word Inv-loop μ-loop
+mul-give-word c = search needs
 
-shared-slice-read-put-word : tie.Need-shared-slice-read-put-word Inv-loop μ-loop
-shared-slice-read-put-word c = search needs
+shared-slice-read-give-word : tie.Need-shared-slice-read-give-word Inv-loop μ-loop
+shared-slice-read-give-word c = search needs
 
-put-word-requires : tie.Need-put-word-requires Inv-loop μ-loop
-put-word-requires c κs = search needs
+give-word-requires : tie.Need-give-word-requires Inv-loop μ-loop
+give-word-requires c κs = search needs
 
 add-i : tie.Need-add-i Inv-loop μ-loop
 add-i c = search needs
@@ -35,7 +34,7 @@ loop-less : tie.Need-loop-less Inv-loop μ-loop
 loop-less c = search needs
 
 loop-again : tie.Need-loop-again Inv-loop μ-loop
-loop-again c = (gone-word _ _ _ _ _ _ _ (c .before .before .before .before .before .before .loop .inv .0) _ _ (c .before .before .before .before .before .loop-test .taken) (c .before .before .put-word .ensures .0) (c .before .before .put-word .ensures .1), bare-next _ _ _ (c .before .before .put-word .ensures .0) (c .before .before .before .before .before .before .loop .inv .1))
+loop-again c = gone-word _ _ _ _ _ _ _ (c .before .before .before .before .before .before .loop .inv) _ _ (c .before .before .before .before .before .loop-test .taken) (c .before .before .give-word .ensures .0) (c .before .before .give-word .ensures .1)
 
 close-message-requires : tie.Need-close-message-requires Inv-loop μ-loop
 close-message-requires c κs = search needs
@@ -43,14 +42,11 @@ close-message-requires c κs = search needs
 written-numbers-requires : tie.Need-written-numbers-requires Inv-loop μ-loop
 written-numbers-requires c κs = search needs
 
-one-number-requires : tie.Need-one-number-requires Inv-loop μ-loop
-one-number-requires c κs = whole-small _ _ _ (c .written-numbers .ensures ∙ ap writtenNumbers (c .before .before .before .close-message .ensures .0)) (c .before .before .before .before .before .before .loop .inv .1)
-
 same-length : tie.Need-same-length Inv-loop μ-loop
 same-length c = search needs
 
 returns : tie.Need-returns Inv-loop μ-loop
-returns c = gone-all _ _ _ _ _ _ _ (c .before .before .before .before .before .before .before .loop .inv .0) _ _ (c .before .before .before .before .before .before .loop-test .left) (c .one-number .ensures ∙ c .before .written-numbers .ensures ∙ ap writtenNumbers (c .before .before .before .before .close-message .ensures .0), c .before .before .before .before .close-message .ensures .1)
+returns c = gone-all _ _ _ _ _ _ _ (c .before .before .before .before .before .before .loop .inv) _ _ (c .before .before .before .before .before .loop-test .left) (c .written-numbers .ensures ∙ ap writtenNumbers (c .before .before .before .close-message .ensures .0), c .before .before .before .close-message .ensures .1)
 
 pub put-rest-spec : {M : Type 1} → statement M
 put-rest-spec =
@@ -59,14 +55,13 @@ put-rest-spec =
     Inv-loop
     μ-loop
     loop-holds
-    mul-put-word
-    shared-slice-read-put-word
-    put-word-requires
+    mul-give-word
+    shared-slice-read-give-word
+    give-word-requires
     add-i
     loop-less
     loop-again
     close-message-requires
     written-numbers-requires
-    one-number-requires
     same-length
     returns)

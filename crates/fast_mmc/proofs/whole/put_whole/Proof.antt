@@ -1,7 +1,7 @@
-use native.Mathlib.Omega.{arith}
-use Rattle.fast_mmc.proofs.WordPuts.{put-name}
-use Rattle.fast_mmc.proofs.Words.{low-name}
 use borrow.Author.Needs.{needs}
+use native.Mathlib.Omega.{arith}
+use Rattle.fast_mmc.proofs.WordItems.{low-sent}
+use Rattle.fast_mmc.proofs.WordPuts.{put-name}
 use Rattle.fast_mmc.proofs.whole.put_whole.Statement.{statement}
 use Rattle.fast_mmc.proofs.whole.put_whole.Tie as tie
 
@@ -21,7 +21,7 @@ same-length : tie.Need-same-length
 same-length c = search needs
 
 returns : tie.Need-returns
-returns c = (search needs, put-name _ _ _ _ _ (λ e. omega (arith, c .before .before .before .before .if1 .taken, e)) (low-name _ (c .before .before .before .before .if1 .taken)) (c .before .before .put .ensures))
+returns c = (search needs, put-name _ _ _ _ _ (omega (arith, c .before .before .before .before .if1 .taken)) (low-sent _ (c .before .before .before .before .if1 .taken)) (c .before .before .put .ensures))
 
 put-locate-requires : tie.Need-put-locate-requires
 put-locate-requires c κs = search needs
@@ -32,40 +32,14 @@ same-length-2 c = search needs
 returns-2 : tie.Need-returns-2
 returns-2 c = search needs
 
-cast-plain-name : tie.Need-cast-plain-name
-cast-plain-name c = search needs
-
-plain-name-requires : tie.Need-plain-name-requires
-plain-name-requires c κs = search needs
-
-put-requires-2 : tie.Need-put-requires-2
-put-requires-2 c κs = search needs
-
-add-result-2 : tie.Need-add-result-2
-add-result-2 c = search needs
+put-small-requires : tie.Need-put-small-requires
+put-small-requires c κs = search needs
 
 same-length-3 : tie.Need-same-length-3
 same-length-3 c = search needs
 
 returns-3 : tie.Need-returns-3
-returns-3 c = (search needs, put-name _ _ _ _ _ (c .before .before .before .before .before .if2 .left) (c .before .before .before .plain-name .ensures) (c .before .before .put2 .ensures))
+returns-3 c = search needs
 
 pub put-whole-spec : {M : Type 1} → statement M
-put-whole-spec =
-    tie.close
-    (tie.spec
-    cast-put
-    add-put
-    put-requires
-    add-result
-    same-length
-    returns
-    put-locate-requires
-    same-length-2
-    returns-2
-    cast-plain-name
-    plain-name-requires
-    put-requires-2
-    add-result-2
-    same-length-3
-    returns-3)
+put-whole-spec = tie.close (tie.spec cast-put add-put put-requires add-result same-length returns put-locate-requires same-length-2 returns-2 put-small-requires same-length-3 returns-3)

@@ -1,5 +1,4 @@
 use Prim.Native.Nat.{_+_, _*_, _≤_, _-_}
-use mathlib.Core.Path.{_∙_}
 use native.Mathlib.Omega.{arith}
 use borrow.Author.Needs.{needs}
 use lib.ListN.{length}
@@ -32,11 +31,8 @@ put-rest-requires c κs = search needs
 same-length : tie.Need-same-length Inv-loop μ-loop
 same-length c = search needs
 
-numbers-of-requires : tie.Need-numbers-of-requires Inv-loop μ-loop
-numbers-of-requires c κs = search needs
-
 returns : tie.Need-returns Inv-loop μ-loop
-returns c = gone-rest _ _ _ _ _ _ _ (gone-still _ _ _ _ _ _ _ _ _ _ (c .before .before .before .before .before .before .before .before .before .before .before .before .loop .inv .1 .1) (c .before .before .before .before .before .before .before .before .put-whole .ensures .1) (c .before .before .before .before .before .if1 .taken)) _ _ (c .numbers-of .ensures ∙ c .before .before .before .put-rest .ensures .0, c .before .before .before .put-rest .ensures .1)
+returns c = gone-rest _ _ _ _ _ _ _ (gone-still _ _ _ _ _ _ _ _ _ _ (c .before .before .before .before .before .before .before .before .before .before .before .loop .inv .1 .1) (c .before .before .before .before .before .before .before .put-whole .ensures .1) (c .before .before .before .before .if1 .taken)) _ _ (c .before .before .put-rest .ensures)
 
 add-i : tie.Need-add-i Inv-loop μ-loop
 add-i c = search needs
@@ -67,7 +63,6 @@ put-words-spec =
     shared-slice-read-put-whole
     put-whole-requires
     put-rest-requires
-    numbers-of-requires
     same-length
     returns
     add-i

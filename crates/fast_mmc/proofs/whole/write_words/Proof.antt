@@ -1,5 +1,4 @@
 use Rattle.fast_mmc.proofs.WordPuts.{refused-words, opened-words}
-use mathlib.Core.Path.{_∙_}
 use borrow.Author.Needs.{needs}
 use Rattle.fast_mmc.proofs.whole.write_words.Statement.{statement}
 use Rattle.fast_mmc.proofs.whole.write_words.Tie as tie
@@ -13,14 +12,11 @@ put-start-requires c κs = search needs
 put-rest-requires : tie.Need-put-rest-requires
 put-rest-requires c κs = search needs
 
-numbers-of-requires : tie.Need-numbers-of-requires
-numbers-of-requires c κs = search needs
-
 same-length : tie.Need-same-length
 same-length c = search needs
 
 returns-2 : tie.Need-returns-2
-returns-2 c = opened-words _ _ _ _ _ _ (c .before .before .before .before .before .before .before .before .before .before .if1 .left) (c .before .before .before .before .before .before .before .put-start .ensures) (c .numbers-of .ensures ∙ c .before .before .before .put-rest .ensures .0, c .before .before .before .put-rest .ensures .1)
+returns-2 c = opened-words _ _ _ _ _ _ (c .before .before .before .before .before .before .before .before .before .if1 .left) (c .before .before .before .before .before .before .put-start .ensures) (c .before .before .put-rest .ensures)
 
 put-start-requires-2 : tie.Need-put-start-requires-2
 put-start-requires-2 c κs = search needs
@@ -28,14 +24,11 @@ put-start-requires-2 c κs = search needs
 put-rest-requires-2 : tie.Need-put-rest-requires-2
 put-rest-requires-2 c κs = search needs
 
-numbers-of-requires-2 : tie.Need-numbers-of-requires-2
-numbers-of-requires-2 c κs = search needs
-
 same-length-2 : tie.Need-same-length-2
 same-length-2 c = search needs
 
 returns-3 : tie.Need-returns-3
-returns-3 c = opened-words _ _ _ _ _ _ (c .before .before .before .before .before .before .before .before .before .before .before .if1 .left) (c .before .before .before .before .before .before .before .before .put-start2 .ensures) (c .numbers-of2 .ensures ∙ c .before .before .before .put-rest2 .ensures .0, c .before .before .before .put-rest2 .ensures .1)
+returns-3 c = opened-words _ _ _ _ _ _ (c .before .before .before .before .before .before .before .before .before .before .if1 .left) (c .before .before .before .before .before .before .before .put-start2 .ensures) (c .before .before .put-rest2 .ensures)
 
 put-words-requires : tie.Need-put-words-requires
 put-words-requires c κs = search needs
@@ -53,12 +46,10 @@ write-words-spec =
     returns
     put-start-requires
     put-rest-requires
-    numbers-of-requires
     same-length
     returns-2
     put-start-requires-2
     put-rest-requires-2
-    numbers-of-requires-2
     same-length-2
     returns-3
     put-words-requires

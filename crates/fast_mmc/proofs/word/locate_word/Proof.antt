@@ -4,7 +4,6 @@ use Rattle.fast_mmc.proofs.word.locate_word.Tie as tie
 use Rattle.mmc.proofs.ReadingLaws.{locate-short, locate-no-register, locate-register, locate-unknown, locate-cut, locate-target}
 use Rattle.fast_mmc.specs.Word.{commandWord}
 use mathlib.Core.Path.{_∙_, ap}
-use Prim.Native.Nat.{ℕ, _+_, _*_}
 
 other-word-requires : tie.Need-other-word-requires
 other-word-requires c κs = search needs
@@ -46,33 +45,27 @@ other-word-requires-4 c κs = search needs
 returns-5 : tie.Need-returns-5
 returns-5 c = c .other-word4 .ensures ∙ ap commandWord (locate-cut _ _ _ (c .before .before .before .before .before .before .if1 .left) (c .before .before .if4 .left) (c .before .if5 .taken))
 
-shared-slice-read-code-word : tie.Need-shared-slice-read-code-word
-shared-slice-read-code-word c = search needs
+shared-slice-read-target-read : tie.Need-shared-slice-read-target-read
+shared-slice-read-target-read c = search needs
 
-shared-slice-read-code-word-2 : tie.Need-shared-slice-read-code-word-2
-shared-slice-read-code-word-2 c = search needs
+shared-slice-read-target-read-2 : tie.Need-shared-slice-read-target-read-2
+shared-slice-read-target-read-2 c = search needs
 
-shared-slice-read-code-word-3 : tie.Need-shared-slice-read-code-word-3
-shared-slice-read-code-word-3 c = search needs
+shared-slice-read-target-read-3 : tie.Need-shared-slice-read-target-read-3
+shared-slice-read-target-read-3 c = search needs
 
-shared-slice-read-code-word-4 : tie.Need-shared-slice-read-code-word-4
-shared-slice-read-code-word-4 c = search needs
+shared-slice-read-target-read-4 : tie.Need-shared-slice-read-target-read-4
+shared-slice-read-target-read-4 c = search needs
 
-shared-slice-read-code-word-5 : tie.Need-shared-slice-read-code-word-5
-shared-slice-read-code-word-5 c = search needs
+shared-slice-read-target-read-5 : tie.Need-shared-slice-read-target-read-5
+shared-slice-read-target-read-5 c = search needs
 
-code-word-requires : tie.Need-code-word-requires
-code-word-requires c κs = search needs
-
-mul-result : tie.Need-mul-result
-mul-result c = search needs
-
-add-result : tie.Need-add-result
-add-result c = search needs
+target-read-requires : tie.Need-target-read-requires
+target-read-requires c κs = search needs
 
 returns-6 : tie.Need-returns-6
 unfolding commandWord
-returns-6 c = ap (λ (w : ℕ). 11 + w * 256) (c .code-word .ensures .0) ∙ ap commandWord (locate-target _ _ _ (c .before .before .before .before .before .before .before .before .before .before .before .if1 .left) (c .before .before .before .before .before .before .before .if4 .left) (c .before .before .before .before .before .before .if5 .left))
+returns-6 c = c .target-read .ensures ∙ ap commandWord (locate-target _ _ _ (c .before .before .before .before .before .before .before .before .before .before .before .if1 .left) (c .before .before .before .before .before .before .before .if4 .left) (c .before .before .before .before .before .before .if5 .left))
 
 pub locate-word-spec : {M : Type 1} → statement M
 locate-word-spec =
@@ -91,12 +84,10 @@ locate-word-spec =
     returns-4
     other-word-requires-4
     returns-5
-    shared-slice-read-code-word
-    shared-slice-read-code-word-2
-    shared-slice-read-code-word-3
-    shared-slice-read-code-word-4
-    shared-slice-read-code-word-5
-    code-word-requires
-    mul-result
-    add-result
+    shared-slice-read-target-read
+    shared-slice-read-target-read-2
+    shared-slice-read-target-read-3
+    shared-slice-read-target-read-4
+    shared-slice-read-target-read-5
+    target-read-requires
     returns-6)

@@ -1,7 +1,7 @@
 use borrow.Author.Needs.{needs}
 use Rattle.fast_mmc.proofs.word.prefixed_word.Statement.{statement}
 use Rattle.fast_mmc.proofs.word.prefixed_word.Tie as tie
-use Rattle.fast_mmc.proofs.Words.{prefixed-word, word-refused}
+use Rattle.fast_mmc.proofs.WordReading.{prefixed-word, word-refused}
 
 next-parts-requires : tie.Need-next-parts-requires
 next-parts-requires c κs = search needs

@@ -1,7 +1,7 @@
 use borrow.Author.Tests.{ne-eqb}
 use Rattle.fast_mmc.specs.Word.{plainCommand}
-use Rattle.fast_mmc.proofs.whole.plain_command.Statement.{statement}
-use Rattle.fast_mmc.proofs.whole.plain_command.Tie as tie
+use Rattle.fast_mmc.proofs.command.plain_command.Statement.{statement}
+use Rattle.fast_mmc.proofs.command.plain_command.Tie as tie
 
 returns : tie.Need-returns
 unfolding plainCommand

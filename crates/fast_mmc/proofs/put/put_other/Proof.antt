@@ -1,0 +1,23 @@
+use borrow.Author.Needs.{needs}
+use mathlib.Core.Path.{ap, _∙_}
+use Rattle.fast_mmc.specs.Write.{flatWriter}
+use Rattle.fast_mmc.proofs.put.put_other.Statement.{statement}
+use Rattle.fast_mmc.proofs.put.put_other.Tie as tie
+
+writer-of-requires : tie.Need-writer-of-requires
+writer-of-requires c κs = search needs
+
+put-command-requires : tie.Need-put-command-requires
+put-command-requires c κs = search needs
+
+flat-writer-requires : tie.Need-flat-writer-requires
+flat-writer-requires c κs = search needs
+
+same-length : tie.Need-same-length
+same-length c = search needs
+
+returns : tie.Need-returns
+returns c = (c .flat-writer .ensures ∙ ap flatWriter (rw (c .before .before .before .before .before .before .writer-of .ensures) at (c .before .before .before .before .put-command .ensures .0 .0)), rw (c .before .before .before .before .before .before .writer-of .ensures) at (c .before .before .before .before .put-command .ensures .1))
+
+pub put-other-spec : {M : Type 1} → statement M
+put-other-spec = tie.close (tie.spec writer-of-requires put-command-requires flat-writer-requires same-length returns)
