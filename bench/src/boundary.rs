@@ -4,12 +4,17 @@
 use std::hint::black_box;
 
 use super::lib::mmc::{write_commands, write_responses, InfoField, MmcCommand, MmcMessage};
-use super::lib::mtc::{MtcEvent, MtcGenerator, MtcReader, MtcTime, TimeCodeType};
+use super::lib::mtc::{FullMessage, MtcEvent, MtcGenerator, MtcReader, MtcTime, TimeCodeType};
 use super::lib::universal::{SysexError, Universal};
 
 #[inline(never)]
 pub fn receive(reader: &mut MtcReader, byte: u8) -> MtcEvent {
     reader.receive(byte)
+}
+
+#[inline(never)]
+pub fn full_message(reader: &mut MtcReader, message: &FullMessage) {
+    reader.full_message(message);
 }
 
 #[inline(never)]

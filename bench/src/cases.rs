@@ -6,7 +6,7 @@ use super::boundary;
 use super::lib::mmc::{
     FinalByte, InfoField, InfoFields, MmcCommand, ShortTimeCode, StandardTimeCode, TimeCodeStatus,
 };
-use super::lib::mtc::{Direction, MtcGenerator, MtcReader, MtcTime, TimeCodeType};
+use super::lib::mtc::{Direction, FullMessage, MtcGenerator, MtcReader, MtcTime, TimeCodeType};
 use super::lib::universal::Universal;
 use crate::case::Case;
 use crate::inputs::{
@@ -19,6 +19,13 @@ pub fn all() -> Vec<Case> {
     vec![
         receive("receive", inputs::stream(ROUND)),
         receive("receive_back", inputs::stream_back(ROUND)),
+        receive("receive_24", inputs::stream_at(FPS_24, ROUND)),
+        receive("receive_25", inputs::stream_at(FPS_25, ROUND)),
+        receive("receive_random", inputs::random_pieces(ROUND)),
+        receive("receive_turns", inputs::turns(ROUND)),
+        receive("receive_lost", inputs::lost(ROUND)),
+        receive("receive_jumps", inputs::jumps(ROUND)),
+        full_message(),
         receive_list(),
         next_byte(
             "next_byte",
@@ -90,6 +97,19 @@ fn receive(name: &'static str, bytes: Vec<u8>) -> Case {
         let byte = black_box(bytes[turn % ROUND]);
         let event = black_box(boundary::receive(black_box(&mut reader), byte));
         u64::from(event.piece) + event.sequence.map_or(0, |s| number(s.current))
+    })
+}
+
+/// A full message, with a label of the whole day each time.
+fn full_message() -> Case {
+    let messages = Box::new(inputs::labels(DROP_FRAME).map(|t| FullMessage {
+        device_id: 0x7F,
+        time: label(DROP_FRAME, t),
+    }));
+    let mut reader = MtcReader::new();
+    Case::new("full_message", move |turn| {
+        boundary::full_message(black_box(&mut reader), black_box(&messages[turn % ROUND]));
+        black_box(&reader).time().map_or(0, |t| u64::from(t.frames))
     })
 }
 

@@ -48,24 +48,76 @@ impl Rng {
 
 /// The data bytes of a running generator at 30 drop-frame, from 00:59:30:00.
 pub fn stream(length: usize) -> Vec<u8> {
-    running(length, Direction::Forward)
+    stream_at(DROP_FRAME, length)
+}
+
+/// The same at any rate.
+pub fn stream_at(rate: u8, length: usize) -> Vec<u8> {
+    running(rate, length, Direction::Forward)
 }
 
 /// The same in reverse.
 pub fn stream_back(length: usize) -> Vec<u8> {
-    running(length, Direction::Reverse)
+    running(DROP_FRAME, length, Direction::Reverse)
 }
 
-fn running(length: usize, direction: Direction) -> Vec<u8> {
+fn running(rate: u8, length: usize, direction: Direction) -> Vec<u8> {
+    let mut generator = generator(rate, direction);
+    (0..length).filter_map(|_| generator.next_byte()).collect()
+}
+
+fn generator(rate: u8, direction: Direction) -> MtcGenerator {
     let start = MtcTime {
         hours: 0,
         minutes: 59,
         seconds: 30,
         frames: 0,
-        rate: TimeCodeType::Fps30Drop,
+        rate: TimeCodeType::from_bits(rate),
     };
-    let mut generator = MtcGenerator::new(start, direction);
-    (0..length).filter_map(|_| generator.next_byte()).collect()
+    MtcGenerator::new(start, direction)
+}
+
+/// Data bytes in no order.
+pub fn random_pieces(length: usize) -> Vec<u8> {
+    let mut rng = Rng(4);
+    (0..length).map(|_| rng.below(128) as u8).collect()
+}
+
+/// A running stream that turns after every five pieces.
+pub fn turns(length: usize) -> Vec<u8> {
+    let mut generator = generator(DROP_FRAME, Direction::Forward);
+    let turned = |turn: usize| match turn / 5 % 2 {
+        0 => Direction::Forward,
+        _ => Direction::Reverse,
+    };
+    (0..length)
+        .filter_map(|turn| {
+            generator.set_direction(turned(turn));
+            generator.next_byte()
+        })
+        .collect()
+}
+
+/// A running stream with one piece lost in thirty.
+pub fn lost(length: usize) -> Vec<u8> {
+    let pieces = stream(length * 2).into_iter().enumerate();
+    let heard = pieces.filter(|(turn, _)| turn % 30 != 29);
+    heard.map(|(_, byte)| byte).take(length).collect()
+}
+
+/// Sequences of random labels of the day: each is a jump.
+pub fn jumps(length: usize) -> Vec<u8> {
+    let mut rng = Rng(5);
+    let mut generator = generator(DROP_FRAME, Direction::Forward);
+    (0..length)
+        .filter_map(|turn| {
+            if turn % 8 == 0 {
+                let count = rng.below(day(DROP_FRAME)) as u32;
+                generator.locate(MtcTime::from_frame_count(count, TimeCodeType::Fps30Drop));
+            }
+            generator.next_byte()
+        })
+        .collect()
 }
 
 /// Counts of the whole day at a rate.

@@ -98,7 +98,7 @@ int main(void)
     for (int i = 1; i <= 24; i++) {
         const fimbrast_next next = fimbrast_next_byte(&generator);
         const fimbrast_event event = fimbrast_receive(&reader, next.byte);
-        const fimbrast_maybe_sequence report = fimbrast_report_parts(FIMBRAST_EVENT_REPORT(event));
+        const fimbrast_maybe_sequence report = fimbrast_report_parts(reader, FIMBRAST_EVENT_REPORT(event));
         if (report.present) {
             const fimbrast_sequence sequence = report.sequence;
             printf("byte %d:", i);

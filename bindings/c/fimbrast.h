@@ -98,9 +98,9 @@ fimbrast_time fimbrast_generator_time(fimbrast_generator generator);
 
 /* ---- reader */
 
-/* A reader in four words. Any words are a reader in its ranges; fimbrast_reader_parts says which. */
+/* A reader in fifteen words. Any words are a reader in its ranges; fimbrast_reader_parts says which. */
 typedef struct {
-    uint32_t words[4];
+    uint32_t words[15];
 } fimbrast_reader;
 
 /* A reader field by field, with FIMBRAST_NONE for no last piece and no direction. */
@@ -117,8 +117,7 @@ typedef struct {
 } fimbrast_reader_fields;
 
 /* A report as one number, which comes back in a register; 0 is no report. From the lowest bit: 1, the direction, the
- * discontinuity, two bits of the rate, two zeros, the raw label and the current one, 24 bits each: six of the frames, six of
- * the seconds, six of the minutes, six of the hours. fimbrast_report_parts takes it apart. */
+ * discontinuity. Its labels stay in the reader; fimbrast_report_parts takes both together. */
 typedef uint64_t fimbrast_report;
 
 /* What a data byte gives, as one number: the piece, the boundary, and the report of the sequence that it ends. */
@@ -140,7 +139,8 @@ typedef struct {
     fimbrast_sequence sequence;
 } fimbrast_maybe_sequence;
 
-/* Of a list of data bytes: how many sequences it reported, how many of those with a discontinuity, and the last report. */
+/* Of a list of data bytes: how many sequences it reported, how many of those with a discontinuity, and the last report,
+ * whose labels stand in the reader. */
 typedef struct {
     size_t reports;
     size_t discontinuities;
@@ -151,8 +151,9 @@ fimbrast_reader fimbrast_reader_new(void);
 fimbrast_event fimbrast_receive(fimbrast_reader *reader, uint8_t byte);
 /* The bytes must not overlap the reader. */
 fimbrast_fed fimbrast_feed(fimbrast_reader *reader, const uint8_t *bytes, size_t length);
-fimbrast_maybe_sequence fimbrast_report_parts(fimbrast_report report);
-fimbrast_reader fimbrast_reader_full_message(fimbrast_reader reader, fimbrast_time time);
+/* The report with the labels of the reader that it left, before the reader gets anything more. */
+fimbrast_maybe_sequence fimbrast_report_parts(fimbrast_reader reader, fimbrast_report report);
+void fimbrast_reader_full_message(fimbrast_reader *reader, fimbrast_time time);
 bool fimbrast_is_locked(fimbrast_reader reader);
 bool fimbrast_is_running(fimbrast_reader reader);
 uint8_t fimbrast_reader_direction(fimbrast_reader reader);

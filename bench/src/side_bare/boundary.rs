@@ -5,7 +5,7 @@ use std::hint::black_box;
 use super::ffi::{
     fimbrast_add_frames, fimbrast_close_message, fimbrast_feed, fimbrast_from_frame_count,
     fimbrast_mmc_kind, fimbrast_next_byte, fimbrast_next_field, fimbrast_next_word, fimbrast_open_commands, fimbrast_open_responses,
-    fimbrast_put_field, fimbrast_put_other, fimbrast_put_word, fimbrast_put_write, fimbrast_receive, fimbrast_to_frame_count, fimbrast_write_words,
+    fimbrast_put_field, fimbrast_put_other, fimbrast_put_word, fimbrast_put_write, fimbrast_reader_full_message, fimbrast_receive, fimbrast_to_frame_count, fimbrast_write_words,
 };
 pub use super::ffi::{fimbrast_generator_forward, fimbrast_generator_reverse, fimbrast_reader_new};
 pub use super::ffi::{Code, Event, Field, Generator, Part, Reader, ShortCode, Time};
@@ -20,11 +20,16 @@ const RESPONSES: u8 = 128;
 /// The refusal of a read at the end.
 const AT_END: u8 = 9;
 /// An event's number from here on has a report.
-const REPORT: u64 = 512;
+pub const REPORT: u64 = 512;
 
 #[inline(never)]
 pub fn receive(reader: &mut Reader, byte: u8) -> Event {
     fimbrast_receive(reader, byte)
+}
+
+#[inline(never)]
+pub fn full_message(reader: &mut Reader, time: Time) {
+    fimbrast_reader_full_message(reader, time);
 }
 
 /// A list of data bytes in one call: how many reports.

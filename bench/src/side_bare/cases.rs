@@ -3,7 +3,7 @@
 use std::hint::black_box;
 
 use super::boundary::{
-    self, Code, Field, Part, ShortCode, Time, Universal, Written,
+    self, Code, Field, Part, Reader, ShortCode, Time, Universal, Written,
 };
 use crate::case::Case;
 use crate::inputs::{
@@ -33,6 +33,13 @@ pub fn all() -> Vec<Case> {
     vec![
         receive("receive", inputs::stream(ROUND)),
         receive("receive_back", inputs::stream_back(ROUND)),
+        receive("receive_24", inputs::stream_at(FPS_24, ROUND)),
+        receive("receive_25", inputs::stream_at(FPS_25, ROUND)),
+        receive("receive_random", inputs::random_pieces(ROUND)),
+        receive("receive_turns", inputs::turns(ROUND)),
+        receive("receive_lost", inputs::lost(ROUND)),
+        receive("receive_jumps", inputs::jumps(ROUND)),
+        full_message(),
         receive_list(),
         next_byte(
             "next_byte",
@@ -86,9 +93,13 @@ fn number(time: Time) -> u64 {
     u64::from(time.frames) + u64::from(time.seconds) * 32 + u64::from(time.hours) * 4096
 }
 
-/// The same of the current label in an event, which is all zeros without a report.
-fn current(event: u64) -> u64 {
-    (event >> 40) % 32 + (event >> 46) % 64 * 32 + (event >> 58) * 4096
+/// The same of the current label that an event leaves in the reader; 0 without a report.
+fn current(event: u64, reader: &Reader) -> u64 {
+    if event < boundary::REPORT {
+        return 0;
+    }
+    let [hours, _, seconds, frames] = reader.words[14].to_le_bytes();
+    u64::from(frames) + u64::from(seconds) * 32 + u64::from(hours) * 4096
 }
 
 fn receive(name: &'static str, bytes: Vec<u8>) -> Case {
@@ -97,7 +108,17 @@ fn receive(name: &'static str, bytes: Vec<u8>) -> Case {
     Case::new(name, move |turn| {
         let byte = black_box(bytes[turn % ROUND]);
         let event = black_box(boundary::receive(black_box(&mut reader), byte));
-        event % 8 + current(event)
+        event % 8 + current(event, &reader)
+    })
+}
+
+/// A full message, with a label of the whole day each time.
+fn full_message() -> Case {
+    let labels = Box::new(inputs::labels(DROP_FRAME).map(|t| label(DROP_FRAME, t)));
+    let mut reader = boundary::fimbrast_reader_new();
+    Case::new("full_message", move |turn| {
+        boundary::full_message(black_box(&mut reader), black_box(labels[turn % ROUND]));
+        u64::from(black_box(&reader).words[14] >> 24)
     })
 }
 

@@ -20,7 +20,7 @@ records! {
     Time { hours: u8, minutes: u8, seconds: u8, frames: u8, rate: u8 }
     Generator { time: Time, direction: u8, last: u8, running: bool }
     Next { refusal: u8, byte: u8 }
-    Reader { words: [u32; 4] }
+    Reader { words: [u32; 15] }
     Fed { reports: usize, discontinuities: usize, last: u64 }
     Universal { real_time: bool, device_id: u8, sub_id1: u8, has_sub_id2: bool, sub_id2: u8 }
     Written { refusal: u8, length: usize }
@@ -41,6 +41,7 @@ unsafe extern "C" {
     pub safe fn fimbrast_next_byte(generator: &mut Generator) -> Next;
     pub safe fn fimbrast_reader_new() -> Reader;
     pub safe fn fimbrast_receive(reader: &mut Reader, byte: u8) -> Event;
+    pub safe fn fimbrast_reader_full_message(reader: &mut Reader, time: Time);
     pub fn fimbrast_feed(reader: &mut Reader, bytes: *const u8, length: usize) -> Fed;
     pub fn fimbrast_mmc_kind(real_time: bool, sub_id1: u8, data: *const u8, length: usize) -> u8;
     pub fn fimbrast_next_word(body: *const u8, length: usize, place: usize) -> NextWord;

@@ -73,7 +73,7 @@ records! {
     EightBytes { bytes: [u8; 8] }
     Generator { time: Time, direction: u8, last: u8, running: bool }
     Next { refusal: u8, byte: u8 }
-    Reader { words: [u32; 4] }
+    Reader { words: [u32; 15] }
     ReaderFields {
         nibbles: [u8; 8],
         count: u8,
@@ -205,8 +205,8 @@ unsafe extern "C" {
     pub(crate) safe fn fimbrast_receive(reader: &mut Reader, byte: u8) -> u64;
     fn fimbrast_feed(reader: &mut Reader, bytes: *const u8, length: usize) -> Fed;
     #[cfg(test)]
-    pub(crate) safe fn fimbrast_report_parts(report: u64) -> MaybeSequence;
-    pub(crate) safe fn fimbrast_reader_full_message(reader: Reader, time: Time) -> Reader;
+    pub(crate) safe fn fimbrast_report_parts(reader: Reader, report: u64) -> MaybeSequence;
+    pub(crate) safe fn fimbrast_reader_full_message(reader: &mut Reader, time: Time);
     pub(crate) safe fn fimbrast_is_locked(reader: Reader) -> bool;
     pub(crate) safe fn fimbrast_is_running(reader: Reader) -> bool;
     pub(crate) safe fn fimbrast_reader_direction(reader: Reader) -> u8;

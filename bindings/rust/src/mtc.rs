@@ -162,15 +162,16 @@ impl MtcTime {
         }
     }
 
-    /// The label of a report: six bits each of frames, seconds, minutes and hours, from below.
+    /// The label of a reader's words: its mark, and a byte each of hours, minutes, seconds and frames.
     #[inline]
-    const fn of_sixes(label: u64, rate: TimeCodeType) -> Self {
+    const fn of_words(mark: u32, label: u32) -> Self {
+        let [hours, minutes, seconds, frames] = label.to_le_bytes();
         Self {
-            hours: (label >> 18 & 63) as u8,
-            minutes: (label >> 12 & 63) as u8,
-            seconds: (label >> 6 & 63) as u8,
-            frames: (label & 63) as u8,
-            rate,
+            hours,
+            minutes,
+            seconds,
+            frames,
+            rate: TimeCodeType::of((mark >> 1 & 3) as u8),
         }
     }
 
@@ -419,13 +420,13 @@ pub struct MtcSequence {
 }
 
 impl MtcSequence {
-    /// The report of a number.
+    /// The report of a number, with the labels of the reader that it left.
     #[inline]
-    const fn of(report: u64) -> Self {
-        let rate = TimeCodeType::of((report >> 3 & 3) as u8);
+    const fn of(report: u64, left: &ffi::Reader) -> Self {
+        let [.., previous_mark, previous, time_mark, time] = left.words;
         Self {
-            raw: MtcTime::of_sixes(report >> 7, rate),
-            current: MtcTime::of_sixes(report >> 31, rate),
+            raw: MtcTime::of_words(previous_mark, previous),
+            current: MtcTime::of_words(time_mark, time),
             direction: Direction::of((report >> 1 & 1) as u8),
             discontinuity: report & 4 != 0,
         }
@@ -452,11 +453,11 @@ impl MtcEvent {
 
     /// One byte in eight has a report; the others do not wait for it.
     #[inline(never)]
-    const fn reporting(event: u64) -> Self {
+    const fn reporting(event: u64, left: &ffi::Reader) -> Self {
         Self {
             piece: event as u8,
             boundary: event & Self::BOUNDARY != 0,
-            sequence: Some(MtcSequence::of(event / Self::REPORT)),
+            sequence: Some(MtcSequence::of(event / Self::REPORT, left)),
         }
     }
 }
@@ -472,7 +473,7 @@ pub struct Fed {
     pub last: Option<MtcSequence>,
 }
 
-/// The Quarter Frame reader. 16 bytes.
+/// The Quarter Frame reader. 60 bytes.
 ///
 /// ```
 /// use fimbrast::mtc::{Direction, MtcReader, MtcTime, TimeCodeType};
@@ -515,7 +516,7 @@ impl MtcReader {
     pub fn receive(&mut self, byte: u8) -> MtcEvent {
         let event = ffi::fimbrast_receive(&mut self.record, byte);
         if event >= MtcEvent::REPORT {
-            return MtcEvent::reporting(event);
+            return MtcEvent::reporting(event, &self.record);
         }
         MtcEvent {
             piece: event as u8,
@@ -541,14 +542,14 @@ impl MtcReader {
             discontinuities: fed.discontinuities,
             last: match fed.last {
                 0 => None,
-                report => Some(MtcSequence::of(report)),
+                report => Some(MtcSequence::of(report, &self.record)),
             },
         }
     }
 
     /// Takes a Full Message: its time, stopped. The next data byte sets the reader running.
     pub fn full_message(&mut self, message: &FullMessage) {
-        self.record = ffi::fimbrast_reader_full_message(self.record, message.time.flat());
+        ffi::fimbrast_reader_full_message(&mut self.record, message.time.flat());
     }
 
     /// True after a full sequence, until a broken order or a turn.

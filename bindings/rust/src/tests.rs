@@ -139,7 +139,7 @@ fn layout_is_the_headers() {
         "run" Run { generator, commands, refused, stop }
     }
     assert_eq!(text, include_str!("../../c/layout.out"));
-    assert_eq!(size_of::<MtcReader>(), 16);
+    assert_eq!(size_of::<MtcReader>(), 60);
 }
 
 #[test]
@@ -332,7 +332,7 @@ fn reports_are_the_librarys() {
             let byte = g.next_byte().unwrap();
             let sequence = r.receive(byte).sequence;
             let event = ffi::fimbrast_receive(&mut record, byte);
-            let report = ffi::fimbrast_report_parts(event >> 9);
+            let report = ffi::fimbrast_report_parts(record, event >> 9);
             assert_eq!(sequence.is_some(), report.present);
             let Some(s) = sequence else { continue };
             let parts = ffi::Sequence {

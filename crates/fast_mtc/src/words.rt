@@ -179,14 +179,14 @@ pub(crate) fn time_in(mark: u32, w: u32) -> MaybeTime
 }
 
 // The word of a label, a byte for each number.
-pub(crate) fn label_word(t: MtcTime) -> u32
+pub fn label_word(t: MtcTime) -> u32
     ensures { λ w. ⌜ labelIn (t .rate) w ≡ t ⌝ }
 {
     t.hours as u32 + t.minutes as u32 * 256 + t.seconds as u32 * 65536 + t.frames as u32 * 16777216
 }
 
 // The mark of a label that is there.
-pub(crate) fn rate_mark(rate: TimeCodeType) -> u32
+pub fn rate_mark(rate: TimeCodeType) -> u32
     ensures { λ r. ⌜ (r ≡ 1 + 2 * bitsOf rate) × (r ≤ 7) ⌝ }
 {
     1 + 2 * rate.into_bits() as u32

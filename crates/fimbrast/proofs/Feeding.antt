@@ -8,13 +8,13 @@ use native.Mathlib.Omega.{arith}
 use lib.Dec.{lit≤}
 use lib.ListN.{length, drop, getD, drop-of-length-le}
 use lib.Seq.{drop-cons}
-use Rattle.fast_mtc.proofs.Laws.{report-of, none-reported, some-reported, jump-reported}
-use Rattle.fast_mtc.specs.Reader.{flatReport, flatEvent, readerIn}
+use Rattle.fast_mtc.proofs.Laws.{report-of, none-reported, some-reported, jump-reported, report-back, kept-back}
+use Rattle.fast_mtc.specs.Reader.{flatReport, readerIn, reportIn, Received}
 use Rattle.fimbrast.specs.Feed.{Fed, unfed, counted, fedBy, fedAll, fed, flatFed, flatCounted, one, jump, later, total, lastOf, Feeds}
 use Rattle.fimbrast.specs.declared.feed.FlatFed.{FlatFed}
-use Rattle.mtc.proofs.Laws.{calls-none, calls-more, events-more}
+use Rattle.mtc.proofs.Laws.{Sound, as-is, byte-sound, report-labels, calls-none, calls-more, events-more}
 use Rattle.mtc.specs.QuarterFrame.{pieceOf}
-use Rattle.mtc.specs.Reader.{afterByte, eventOf}
+use Rattle.mtc.specs.Reader.{ReportLabels, afterByte, eventOf}
 use Rattle.mtc.specs.Stream.{byte, afterCalls, events}
 use Rattle.mtc.specs.declared.reader.MaybeSequence.{MaybeSequence}
 use Rattle.mtc.specs.declared.reader.MaybeSequence.the-variants.{NoSequence, Sequence}
@@ -101,7 +101,7 @@ before-all bs rs f e =
     }
 
 pub after-one : (r₀ : MtcReader) (bs rs qs : List ℕ) (f g : FlatFed) (i e : ℕ) → After r₀ bs rs f i → i < length bs
-    → (e ≡ flatEvent (eventOf (readerIn rs) (getD bs i 0))) × (readerIn qs ≡ afterByte (readerIn rs) (getD bs i 0))
+    → Received rs (getD bs i 0) e qs
     → g ≡ flatCounted f (e / 512) → After r₀ bs qs g (i + 1)
 unfolding fedBy flatFed
 after-one r₀ bs rs qs f g i e a h q eg =
@@ -109,7 +109,7 @@ after-one r₀ bs rs qs f g i e a h q eg =
     let s : Fed = a .state in
     let t : Fed = fedBy s b in
     let said : e / 512 ≡ flatReport (eventOf (s .reader) b .sequence)
-    = ap (λ (x : ℕ). x / 512) (q .0) ∙ report-of (pieceOf b) (eventOf (readerIn rs) b .sequence) (omega arith)
+    = ap (λ (x : ℕ). x / 512) (q .event) ∙ report-of (pieceOf b) (eventOf (readerIn rs) b .sequence) (omega arith)
     ∙ ap (λ (r : MtcReader). flatReport (eventOf r b .sequence)) (a .reader) in
     let same : g ≡ flatFed t
     = eg ∙ ap₂ flatCounted (a .flat) said ∙ flat-counted s (afterByte (s .reader) b) (eventOf (s .reader) b .sequence) in
@@ -120,7 +120,7 @@ after-one r₀ bs rs qs f g i e a h q eg =
     record {
       state = t;
       flat = same;
-      reader = q .1 ∙ ap (λ (r : MtcReader). afterByte r b) (a .reader) ∙ sym (counted-reader s (afterByte (s .reader) b) (eventOf (s .reader) b .sequence));
+      reader = q .reader ∙ ap (λ (r : MtcReader). afterByte r b) (a .reader) ∙ sym (counted-reader s (afterByte (s .reader) b) (eventOf (s .reader) b .sequence));
       reports = subst (λ (x : FlatFed). x .reports ≤ i + 1) (sym same) (omega (arith, n, n₀));
       discontinuities = subst (λ (x : FlatFed). x .discontinuities ≤ i + 1) (sym same) (omega (arith, d, d₀));
       rest = a .rest ∙ fed-turn s bs i h;
@@ -140,6 +140,27 @@ record From (f : Fed) (bs : List ℕ) : Type 0 where
   reports : fedAll f bs .reports ≡ f .reports + total one (events (f .reader) bs)
   discontinuities : fedAll f bs .discontinuities ≡ f .discontinuities + total jump (events (f .reader) bs)
   last : fedAll f bs .last ≡ lastOf (f .last) (events (f .reader) bs)
+
+-- The last report is whole in its number and the reader, after a byte and after all.
+abbrev Whole : MaybeSequence → MtcReader → Type 0
+Whole m r = reportIn r (flatReport m) ≡ m
+
+whole-later : (before left : MtcReader) (m s : MaybeSequence) → ReportLabels s before left → Whole m before → Whole (later m s) left
+whole-later before left m (Sequence s) h w = report-back (Sequence s) before left h
+whole-later before left NoSequence NoSequence h w = report-back NoSequence before left h
+whole-later before left (Sequence m) NoSequence h w = kept-back m before left h w
+
+whole-from : (f : Fed) → Sound (f .reader) → (bs : List ℕ) → Whole (f .last) (f .reader) → Whole (fedAll f bs .last) (fedAll f bs .reader)
+unfolding fedAll fedBy
+whole-from f s [] w = w
+whole-from f s (b ∷ bs) w =
+    let e : MaybeSequence = eventOf (f .reader) b .sequence in
+    let q : fedBy f b .reader ≡ afterByte (f .reader) b = counted-reader f (afterByte (f .reader) b) e in
+    let l : fedBy f b .last ≡ later (f .last) e = counted-last f (afterByte (f .reader) b) e in
+    let h : ReportLabels e (f .reader) (afterByte (f .reader) b)
+    = subst (λ (r : MtcReader). ReportLabels e r (afterByte (f .reader) b)) (as-is (f .reader) s) (report-labels (f .reader) b) in
+    whole-from (fedBy f b) (subst Sound (sym q) (byte-sound (f .reader) s b)) bs
+    (rw (q, l) (whole-later (f .reader) (afterByte (f .reader) b) (f .last) e h w))
 
 from : (f : Fed) (bs : List ℕ) → From f bs
 unfolding fedAll fedBy total lastOf
@@ -167,13 +188,14 @@ from f (b ∷ bs) =
       last = i .last ∙ rw (q, l, events-more);
     }
 
-pub feeds : (r : MtcReader) (bs : List ℕ) → Feeds r bs
+pub feeds : (r : MtcReader) → Sound r → (bs : List ℕ) → Feeds r bs
 unfolding fed
-feeds r bs =
+feeds r sound bs =
     let i = from (unfed r) bs in
     record {
       reader = i .reader;
       reports = i .reports ∙ omega arith;
       discontinuities = i .discontinuities ∙ omega arith;
       last = i .last;
+      labels = whole-from (unfed r) sound bs (report-back NoSequence r r (refl, refl));
     }

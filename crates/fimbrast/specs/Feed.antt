@@ -5,7 +5,7 @@ use mathlib.Core.Bool.{cond}
 use mathlib.Core.List.{List, [], _∷_, map}
 use mathlib.Core.Path.{_≡_}
 use Rattle.fast_mtc.specs.Generator.{isSet}
-use Rattle.fast_mtc.specs.Reader.{flatReport}
+use Rattle.fast_mtc.specs.Reader.{flatReport, reportIn}
 use Rattle.fimbrast.specs.declared.feed.FlatFed.{FlatFed}
 use Rattle.mtc.specs.Reader.{afterByte, eventOf}
 use Rattle.mtc.specs.Stream.{byte, afterCalls, events}
@@ -89,9 +89,11 @@ unfoldable pub lastOf : MaybeSequence → List MtcEvent → MaybeSequence
 lastOf l [] = l
 lastOf l (e ∷ es) = lastOf (later l (e .sequence)) es
 
--- The reader is the one that the calls leave, and the counts and the last report are those of the events that they give.
+-- The reader is the one that the calls leave, the counts and the last report are those of the events that they give, and the last
+-- report is whole in its number and that reader.
 pub record Feeds (r : MtcReader) (bs : List ℕ) : Type 0 where
   pub reader : fed r bs .reader ≡ afterCalls r (map byte bs)
   pub reports : fed r bs .reports ≡ total one (events r bs)
   pub discontinuities : fed r bs .discontinuities ≡ total jump (events r bs)
   pub last : fed r bs .last ≡ lastOf NoSequence (events r bs)
+  pub labels : reportIn (fed r bs .reader) (flatReport (fed r bs .last)) ≡ fed r bs .last

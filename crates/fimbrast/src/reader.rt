@@ -1,26 +1,26 @@
 // The quarter frame reader.
-use fast_mtc::reader::FlatMaybeSequence;
-use fast_mtc::reader::FlatMaybeTime;
-use fast_mtc::reader::FlatReader;
-use fast_mtc::reader::FlatReaderFields;
-use fast_mtc::reader::direction;
-use fast_mtc::reader::flat_maybe_time;
-use fast_mtc::reader::flat_way;
-use fast_mtc::reader::fresh;
-use fast_mtc::reader::informed;
-use fast_mtc::reader::is_locked;
-use fast_mtc::reader::is_running;
-use fast_mtc::reader::reader_fields;
-use fast_mtc::reader::reader_in;
-use fast_mtc::reader::receive;
-use fast_mtc::reader::report_at;
-use fast_mtc::reader::time;
+use fast_mtc::receive::receive;
+use fast_mtc::report::FlatMaybeSequence;
+use fast_mtc::report::report_in;
 use fast_mtc::time::FlatTime;
 use fast_mtc::time::time_of;
+use fast_mtc::words::FlatMaybeTime;
+use fast_mtc::words::FlatReader;
+use fast_mtc::words::FlatReaderFields;
+use fast_mtc::words::direction;
+use fast_mtc::words::flat_maybe_time;
+use fast_mtc::words::flat_way;
+use fast_mtc::words::fresh;
+use fast_mtc::words::full_message;
+use fast_mtc::words::is_locked;
+use fast_mtc::words::is_running;
+use fast_mtc::words::reader_fields;
+use fast_mtc::words::reader_in;
+use fast_mtc::words::time;
 ghost use mathlib.Core.Path.{_≡_};
 ghost use Rattle.mtc.specs.Reader.{fresh, afterByte, eventOf, afterFullMessage};
 ghost use Rattle.fast_mtc.specs.Time.{timeOf};
-ghost use Rattle.fast_mtc.specs.Reader.{flatWay, flatMaybeTime, readerIn, readerFields, flatEvent, reportAt, flatMaybeSequence};
+ghost use Rattle.fast_mtc.specs.Reader.{flatWay, flatMaybeTime, readerIn, readerFields, flatEvent, reportIn, flatMaybeSequence};
 
 // `MtcReader::new`.
 #[no_mangle]
@@ -32,7 +32,7 @@ pub extern "C" fn fimbrast_reader_new() -> FlatReader
 
 // `MtcReader::receive`, on the record's words. The event comes as one number.
 #[no_mangle]
-pub extern "C" fn fimbrast_receive(reader: &mut [u32; 4], byte: u8) -> u64
+pub extern "C" fn fimbrast_receive(reader: &mut [u32; 15], byte: u8) -> u64
     ensures { λ r. ⌜ (r ≡ flatEvent (eventOf (readerIn (now (reader .entry))) byte)) × (readerIn (now (reader .exit)) ≡ afterByte (readerIn (now (reader .entry))) byte) ⌝ }
 {
     receive(reader, byte)
@@ -40,13 +40,10 @@ pub extern "C" fn fimbrast_receive(reader: &mut [u32; 4], byte: u8) -> u64
 
 // `MtcReader::full_message`, with the message's time.
 #[no_mangle]
-pub extern "C" fn fimbrast_reader_full_message(reader: FlatReader, time: FlatTime) -> FlatReader
-    ensures { λ r. ⌜ readerIn (r .words) ≡ afterFullMessage (readerIn (reader .words)) (timeOf time) ⌝ }
+pub extern "C" fn fimbrast_reader_full_message(reader: &mut [u32; 15], time: FlatTime)
+    ensures { λ _. ⌜ readerIn (now (reader .exit)) ≡ afterFullMessage (readerIn (now (reader .entry))) (timeOf time) ⌝ }
 {
-    let words = reader.words;
-    FlatReader {
-        words: informed(words, time_of(time)),
-    }
+    full_message(reader, time_of(time));
 }
 
 // `MtcReader::is_locked`.
@@ -94,10 +91,11 @@ pub extern "C" fn fimbrast_reader_parts(reader: FlatReader) -> FlatReaderFields
     reader_fields(reader_in(words))
 }
 
-// The report of a number, which is none where its lowest bit is 0.
+// The report of a number, an event's from bit 9 on, with the labels of the reader that it left. It is none where its lowest bit is 0.
 #[no_mangle]
-pub extern "C" fn fimbrast_report_parts(report: u64) -> FlatMaybeSequence
-    ensures { λ r. ⌜ r ≡ flatMaybeSequence (reportAt report) ⌝ }
+pub extern "C" fn fimbrast_report_parts(reader: FlatReader, report: u64) -> FlatMaybeSequence
+    ensures { λ r. ⌜ r ≡ flatMaybeSequence (reportIn (readerIn (reader .words)) report) ⌝ }
 {
-    report_at(report)
+    let words = reader.words;
+    report_in(words, report)
 }

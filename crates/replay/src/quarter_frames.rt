@@ -9,13 +9,12 @@ use crate::case::time_at;
 use crate::case::time_is;
 use crate::case::two_are;
 use fast_mtc::generator::FlatGenerator;
-use fast_mtc::generator::piece_at;
-use fast_mtc::reader::FlatMaybeTime;
-use fast_mtc::reader::FlatReader;
-use fast_mtc::reader::way_at;
-use fast_mtc::reader::words_of;
 use fast_mtc::time::FlatFrame;
 use fast_mtc::time::time_of;
+use fast_mtc::words::FlatMaybeTime;
+use fast_mtc::words::FlatReader;
+use fast_mtc::words::label_word;
+use fast_mtc::words::rate_mark;
 use fimbrast::generator::fimbrast_generator_forward;
 use fimbrast::generator::fimbrast_generator_reverse;
 use fimbrast::generator::fimbrast_generator_time;
@@ -36,8 +35,6 @@ use fimbrast::reader::fimbrast_report_parts;
 use fimbrast::time::fimbrast_pieces;
 use fimbrast::time::fimbrast_quarter_frame_byte;
 use fimbrast::time::fimbrast_quarter_frame_read;
-use mtc::MaybeTime;
-use mtc::MtcReader;
 ghost use Prim.Native.Nat.{_<_};
 
 fn read_frame(byte: u8, answer: &[u8]) -> usize {
@@ -130,30 +127,68 @@ pub(crate) fn generated(call: u8, input: &[u8], answer: &[u8]) -> usize {
     }
 }
 
-fn maybe_time_at(input: &[u8], at: usize) -> MaybeTime
+// The mark and the word of a label that may be there.
+fn mark_at(input: &[u8], at: usize) -> u32
     requires { ⌜ at < 65535 ⌝ }
 {
-    if flag_at(input, at) {
-        return MaybeTime::Time(time_of(time_at(input, at + 1)));
+    if !flag_at(input, at) {
+        return 0;
     }
-    MaybeTime::NoTime
+    let time = time_of(time_at(input, at + 1));
+    let rate = time.rate;
+    rate_mark(rate)
+}
+
+fn word_at(input: &[u8], at: usize) -> u32
+    requires { ⌜ at < 65535 ⌝ }
+{
+    label_word(time_of(time_at(input, at + 1)))
+}
+
+// The order of a reader's words, by its direction, last piece and count.
+fn order_at(direction: u8, last: u8, count: u8) -> u32 {
+    let piece = (last % 8) as u32;
+    if last > 7 {
+        return match direction {
+            0 => 42,
+            1 => 43,
+            _ => 44,
+        };
+    }
+    if direction == 0 {
+        let next = (piece + 1) % 8;
+        return if count == 0 { 16 + next } else { next };
+    }
+    if direction == 1 {
+        let next = (piece + 7) % 8;
+        return if count == 0 { 24 + next } else { 8 + next };
+    }
+    if count == 0 {
+        return 32 + piece;
+    }
+    if piece == 0 { 40 } else { 41 }
 }
 
 fn reader_at(input: &[u8]) -> FlatReader {
-    let nibbles = eight_at(input, 0);
-    let reader = MtcReader {
-        nibbles,
-        count: byte_at(input, 8),
-        first: byte_at(input, 9),
-        last: piece_at(byte_at(input, 10)),
-        direction: way_at(byte_at(input, 11)),
-        locked: flag_at(input, 12),
-        running: flag_at(input, 13),
-        previous: maybe_time_at(input, 14),
-        time: maybe_time_at(input, 20),
-    };
+    let n = eight_at(input, 0);
     FlatReader {
-        words: words_of(reader),
+        words: [
+            n[0] as u32,
+            n[1] as u32,
+            n[2] as u32,
+            n[3] as u32,
+            n[4] as u32,
+            n[5] as u32,
+            n[6] as u32,
+            n[7] as u32,
+            order_at(byte_at(input, 11), byte_at(input, 10), byte_at(input, 8)),
+            byte_at(input, 9) as u32,
+            flag_at(input, 12) as u32,
+            mark_at(input, 14),
+            word_at(input, 14),
+            mark_at(input, 20),
+            word_at(input, 20),
+        ],
     }
 }
 
@@ -181,8 +216,8 @@ fn reader_is(record: FlatReader, answer: &[u8]) -> usize {
     maybe_time_is(time, answer, at)
 }
 
-fn event_is(event: u64, answer: &[u8], from: usize) -> usize {
-    let report = fimbrast_report_parts(event / 512);
+fn event_is(event: u64, left: FlatReader, answer: &[u8], from: usize) -> usize {
+    let report = fimbrast_report_parts(left, event / 512);
     let sequence = report.sequence;
     let raw = sequence.raw;
     let current = sequence.current;
@@ -196,18 +231,27 @@ fn event_is(event: u64, answer: &[u8], from: usize) -> usize {
 }
 
 // The words that a call left.
-fn four_of(w: &[u32; 4]) -> [u32; 4] {
-    [w[0], w[1], w[2], w[3]]
+fn left_in(w: &[u32; 15]) -> FlatReader {
+    FlatReader {
+        words: [
+            w[0], w[1], w[2], w[3], w[4], w[5], w[6], w[7], w[8], w[9], w[10], w[11], w[12], w[13], w[14],
+        ],
+    }
 }
 
 fn receive(input: &[u8], answer: &[u8]) -> usize {
     let record = reader_at(input);
     let mut words = record.words;
     let event = fimbrast_receive(&mut words, byte_at(input, 26));
-    let left = FlatReader {
-        words: four_of(&words),
-    };
-    event_is(event, answer, reader_is(left, answer))
+    let left = left_in(&words);
+    event_is(event, left, answer, reader_is(left, answer))
+}
+
+fn full_message(input: &[u8], answer: &[u8]) -> usize {
+    let record = reader_at(input);
+    let mut words = record.words;
+    fimbrast_reader_full_message(&mut words, time_at(input, 26));
+    reader_is(left_in(&words), answer)
 }
 
 fn state(reader: FlatReader, answer: &[u8]) -> usize {
@@ -222,10 +266,7 @@ pub(crate) fn heard(call: u8, input: &[u8], answer: &[u8]) -> usize {
     match call {
         0x30 => reader_is(fimbrast_reader_new(), answer),
         0x31 => receive(input, answer),
-        0x32 => reader_is(
-            fimbrast_reader_full_message(reader_at(input), time_at(input, 26)),
-            answer,
-        ),
+        0x32 => full_message(input, answer),
         0x33 => state(reader_at(input), answer),
         _ => WRONG,
     }
