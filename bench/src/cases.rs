@@ -183,7 +183,10 @@ fn writing<const N: usize>(name: &'static str, list: [MmcCommand<'static>; N]) -
 }
 
 fn write() -> Case {
-    writing("write", [MmcCommand::LocateTarget(target()), MmcCommand::Play])
+    writing(
+        "write",
+        [MmcCommand::LocateTarget(target()), MmcCommand::Play],
+    )
 }
 
 /// A Locate with a mark.

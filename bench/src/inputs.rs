@@ -15,7 +15,9 @@ pub const LOCATE_PLAY: [u8; 9] = [0x44, 0x06, 0x01, 0x41, 37, 52, 16, 0x00, 0x02
 /// Field GP0 at 01:02:03:04 at 25 frames with 5 subframes, as a Write's data.
 pub const GP0: [u8; 6] = [0x08, 0x21, 2, 3, 4, 5];
 /// A response: Selected Time Code at 01:37:52:16 at 30 drop-frame with a status, short GP0, and a field that the source does not know.
-pub const RESPONSE: [u8; 14] = [0x01, 0x41, 37, 52, 0x30, 0x08, 0x28, 16, 5, 0x48, 3, 1, 2, 3];
+pub const RESPONSE: [u8; 14] = [
+    0x01, 0x41, 37, 52, 0x30, 0x08, 0x28, 16, 5, 0x48, 3, 1, 2, 3,
+];
 /// The name and the data of another command, and the name of one without data.
 pub const OTHER: ([u8; 1], [u8; 3]) = ([0x50], [1, 2, 3]);
 pub const PREFIXED: [u8; 2] = [0x00, 0x0B];

@@ -4,8 +4,10 @@ use std::hint::black_box;
 
 use super::ffi::{
     fimbrast_add_frames, fimbrast_close_message, fimbrast_feed, fimbrast_from_frame_count,
-    fimbrast_mmc_kind, fimbrast_next_byte, fimbrast_next_field, fimbrast_next_word, fimbrast_open_commands, fimbrast_open_responses,
-    fimbrast_put_field, fimbrast_put_other, fimbrast_put_word, fimbrast_put_write, fimbrast_reader_full_message, fimbrast_receive, fimbrast_to_frame_count, fimbrast_write_words,
+    fimbrast_mmc_kind, fimbrast_next_byte, fimbrast_next_field, fimbrast_next_word,
+    fimbrast_open_commands, fimbrast_open_responses, fimbrast_put_field, fimbrast_put_other,
+    fimbrast_put_word, fimbrast_put_write, fimbrast_reader_full_message, fimbrast_receive,
+    fimbrast_to_frame_count, fimbrast_write_words,
 };
 pub use super::ffi::{fimbrast_generator_forward, fimbrast_generator_reverse, fimbrast_reader_new};
 pub use super::ffi::{Code, Event, Field, Generator, Part, Reader, ShortCode, Time};

@@ -2,9 +2,7 @@
 
 use std::hint::black_box;
 
-use super::boundary::{
-    self, Code, Field, Part, Reader, ShortCode, Time, Universal, Written,
-};
+use super::boundary::{self, Code, Field, Part, Reader, ShortCode, Time, Universal, Written};
 use crate::case::Case;
 use crate::inputs::{
     self, BODIES, BODY, DROP_FRAME, FPS_24, FPS_25, GP0, LIST, LOCATE_PLAY, OTHER, PREFIXED,
@@ -277,7 +275,10 @@ fn read_fields() -> Case {
         ..COMMANDS
     };
     Case::new("read_fields", move |_| {
-        black_box(boundary::read_fields(black_box(&header), black_box(&RESPONSE))) as u64
+        black_box(boundary::read_fields(
+            black_box(&header),
+            black_box(&RESPONSE),
+        )) as u64
     })
 }
 

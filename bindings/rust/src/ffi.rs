@@ -265,12 +265,7 @@ unsafe extern "C" {
         source_length: usize,
         command: Command,
     ) -> Writer;
-    fn fimbrast_put_word(
-        writer: Writer,
-        out: *mut u8,
-        out_length: usize,
-        word: u64,
-    ) -> Writer;
+    fn fimbrast_put_word(writer: Writer, out: *mut u8, out_length: usize, word: u64) -> Writer;
     fn fimbrast_put_write(
         writer: Writer,
         out: *mut u8,

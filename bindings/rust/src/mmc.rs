@@ -848,11 +848,7 @@ pub fn write_commands(
     device_id: u8,
     commands: &[MmcCommand<'_>],
 ) -> Result<usize, SysexError> {
-    match ffi::write_words(
-        out,
-        device_id,
-        commands.iter().map(MmcCommand::usual_word),
-    ) {
+    match ffi::write_words(out, device_id, commands.iter().map(MmcCommand::usual_word)) {
         Some(answer) => written(answer),
         None => write_unusual(out, device_id, commands),
     }
