@@ -24,7 +24,7 @@ const DAY_DROP: u32 = 2_589_408;
 
 const DAY_30: u32 = 86_400 * 30;
 
-// The two bits of a rate. It is told by them and not by a match, which goes by a table.
+// The two bits of a rate, by which it is told.
 const BITS_24: u8 = 0;
 
 const BITS_25: u8 = 1;
