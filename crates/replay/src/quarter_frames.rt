@@ -234,7 +234,21 @@ fn event_is(event: u64, left: FlatReader, answer: &[u8], from: usize) -> usize {
 fn left_in(w: &[u32; 15]) -> FlatReader {
     FlatReader {
         words: [
-            w[0], w[1], w[2], w[3], w[4], w[5], w[6], w[7], w[8], w[9], w[10], w[11], w[12], w[13], w[14],
+            w[0],
+            w[1],
+            w[2],
+            w[3],
+            w[4],
+            w[5],
+            w[6],
+            w[7],
+            w[8],
+            w[9],
+            w[10],
+            w[11],
+            w[12],
+            w[13],
+            w[14],
         ],
     }
 }
