@@ -20,8 +20,8 @@ use Rattle.mtc.specs.declared.reader.MtcReader.{MtcReader}
 use Rattle.labels.specs.Time.{bitsOf}
 use Rattle.labels.specs.declared.time.MtcTime.{MtcTime}
 use Rattle.fast_mtc.specs.Generator.{isSet}
-use Rattle.fast_mtc.specs.Inner.{FirstKept, Passed, Stopped}
-use Rattle.fast_mtc.specs.Reader.{wayIn, lastIn, countIn, firstIn, nibblesIn, labelIn, timeIn, readerIn, flatEvent, Received}
+use Rattle.fast_mtc.specs.Inner.{Received, FirstKept, Passed, Stopped}
+use Rattle.fast_mtc.specs.Reader.{wayIn, lastIn, countIn, firstIn, nibblesIn, labelIn, timeIn, readerIn, flatEvent}
 use Rattle.fast_mtc.proofs.LabelWords.{marked}
 use Rattle.fast_mtc.proofs.Orders.{standingIn, standing-none, first-small}
 use Rattle.fast_mtc.proofs.Receiving.{Alike, passes, kept, stand-in, count-at, own-order, sound-in}

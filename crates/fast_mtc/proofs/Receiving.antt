@@ -17,8 +17,8 @@ use Rattle.mtc.specs.declared.reader.MaybeDirection.the-variants.{NoDirection, 
 use Rattle.mtc.specs.declared.reader.MaybeSequence.the-variants.{NoSequence, Sequence}
 use Rattle.mtc.specs.declared.reader.MtcReader.{MtcReader}
 use Rattle.fast_mtc.specs.Generator.{isSet}
-use Rattle.fast_mtc.specs.Inner.{FirstKept, Passed, Ended}
-use Rattle.fast_mtc.specs.Reader.{wayIn, lastIn, countIn, firstIn, nibblesIn, readerIn, flatEvent, Received}
+use Rattle.fast_mtc.specs.Inner.{Received, FirstKept, Passed, Ended}
+use Rattle.fast_mtc.specs.Reader.{wayIn, lastIn, countIn, firstIn, nibblesIn, readerIn, flatEvent}
 use Rattle.fast_mtc.proofs.Orders.{standingIn, standing, standing-none, count-small, first-small, last-fits}
 use Rattle.fast_mtc.proofs.Spelled.{spelled, by-words, by-piece}
 

@@ -8,13 +8,18 @@ use lib.ListN.{length, getD}
 use Rattle.fast_mtc.specs.Reader.{flatEvent, wayIn, lastIn, countIn, firstIn, timeIn, readerIn}
 use Rattle.labels.specs.St12.{label}
 use Rattle.labels.specs.declared.time.MtcTime.{MtcTime}
-use Rattle.mtc.specs.Reader.{ordered, starts, numberAfter, readerBy, eventWith, reported, sequenceOf, completed}
+use Rattle.mtc.specs.Reader.{ordered, starts, numberAfter, readerBy, eventWith, reported, sequenceOf, completed, afterByte, eventOf}
 use Rattle.mtc.specs.declared.generator.Direction.{Direction}
 use Rattle.mtc.specs.declared.generator.Direction.the-variants.{Forward, Reverse}
 use Rattle.mtc.specs.declared.generator.MaybePiece.the-variants.{NoPiece}
 use Rattle.mtc.specs.declared.reader.MaybeDirection.{MaybeDirection}
 use Rattle.mtc.specs.declared.reader.MaybeSequence.the-variants.{NoSequence, Sequence}
 use Rattle.mtc.specs.declared.reader.MtcSequence.{MtcSequence}
+
+-- What a data byte gives, and the reader that it leaves, in words.
+pub record Received (before : List ℕ) (byte e : ℕ) (left : List ℕ) : Type 0 where
+  pub event : e ≡ flatEvent (eventOf (readerIn before) byte)
+  pub reader : readerIn left ≡ afterByte (readerIn before) byte
 
 -- What a piece that is not the next one gives, in the direction that it leaves.
 pub record Passed (direction : MaybeDirection) (before : List ℕ) (piece value e : ℕ) (left : List ℕ) : Type 0 where

@@ -2,7 +2,6 @@
 use Prim.Native.Nat.{ℕ, _+_, _-_, _*_, _/_, _%_}
 use mathlib.Core.Bool.{Bool, true, false, cond}
 use mathlib.Core.List.{List, [], _∷_}
-use mathlib.Core.Path.{_≡_}
 use lib.Dec.{ltb, eqb}
 use lib.ListN.{getD}
 use Rattle.fast_mtc.specs.Generator.{directionAt, flatDirection, flatPiece, isSet}
@@ -13,7 +12,6 @@ use Rattle.fast_mtc.specs.declared.report.FlatMaybeSequence.{FlatMaybeSe
 use Rattle.fast_mtc.specs.declared.report.FlatSequence.{FlatSequence}
 use Rattle.labels.specs.St12.{label}
 use Rattle.labels.specs.Time.{bitsOf, typeOf}
-use Rattle.mtc.specs.Reader.{afterByte, eventOf}
 use Rattle.mtc.specs.declared.generator.Direction.the-variants.{Forward, Reverse}
 use Rattle.mtc.specs.declared.generator.MaybePiece.{MaybePiece}
 use Rattle.mtc.specs.declared.generator.MaybePiece.the-variants.{NoPiece, Piece}
@@ -139,11 +137,6 @@ flatReport (Sequence s) = 1 + flatDirection (s .direction) * 2 + bit (s .discont
 -- An event: the piece in the lowest byte, the boundary in the bit above it, and from there on the report.
 unfoldable pub flatEvent : MtcEvent → ℕ
 flatEvent e = e .piece + bit (e .boundary) * 256 + flatReport (e .sequence) * 512
-
--- What a data byte gives, and the reader that it leaves, in words.
-pub record Received (before : List ℕ) (byte e : ℕ) (left : List ℕ) : Type 0 where
-  pub event : e ≡ flatEvent (eventOf (readerIn before) byte)
-  pub reader : readerIn left ≡ afterByte (readerIn before) byte
 
 -- A label, or all zeros.
 abbrev pub labelOr : MaybeTime → MtcTime

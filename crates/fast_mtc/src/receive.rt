@@ -10,10 +10,11 @@ ghost use mathlib.Core.Path.{_≡_};
 ghost use Prim.Native.Nat.{_+_, _≤_, _<_};
 ghost use lib.ListN.{length, getD};
 ghost use Rattle.mtc.specs.QuarterFrame.{pieceOf, valueOf};
+ghost use Rattle.mtc.specs.Reader.{afterByte, eventOf};
 ghost use Rattle.mtc.specs.declared.generator.Direction.the-variants.{Forward, Reverse};
 ghost use Rattle.mtc.specs.declared.reader.MaybeDirection.the-variants.{NoDirection, Going};
-ghost use Rattle.fast_mtc.specs.Reader.{Received};
-ghost use Rattle.fast_mtc.specs.Inner.{FirstKept, Passed};
+ghost use Rattle.fast_mtc.specs.Reader.{readerIn, flatEvent};
+ghost use Rattle.fast_mtc.specs.Inner.{Received, FirstKept, Passed};
 
 // In a sequence forward the order is below this one, in reverse below the next.
 const IN_REVERSE: u32 = 8;
@@ -37,7 +38,7 @@ const STOPPED_REVERSE: u32 = 43;
 
 // `MtcReader::receive` on the words.
 pub fn receive(r: &mut [u32; 15], byte: u8) -> u64
-    ensures { λ e. ⌜ Received (now (r .entry)) byte e (now (r .exit)) ⌝ }
+    ensures { λ e. ⌜ (e ≡ flatEvent (eventOf (readerIn (now (r .entry))) byte)) × (readerIn (now (r .exit)) ≡ afterByte (readerIn (now (r .entry))) byte) ⌝ }
 {
     let p = byte as u32 / 16 % 8;
     let order = r[ORDER];

@@ -9,7 +9,7 @@ use lib.Dec.{lit≤}
 use lib.ListN.{length, drop, getD, drop-of-length-le}
 use lib.Seq.{drop-cons}
 use Rattle.fast_mtc.proofs.Laws.{report-of, none-reported, some-reported, jump-reported, report-back, kept-back}
-use Rattle.fast_mtc.specs.Reader.{flatReport, readerIn, reportIn, Received}
+use Rattle.fast_mtc.specs.Reader.{flatReport, flatEvent, readerIn, reportIn}
 use Rattle.fimbrast.specs.Feed.{Fed, unfed, counted, fedBy, fedAll, fed, flatFed, flatCounted, one, jump, later, total, lastOf, Feeds}
 use Rattle.fimbrast.specs.declared.feed.FlatFed.{FlatFed}
 use Rattle.mtc.proofs.Laws.{Sound, as-is, byte-sound, report-labels, calls-none, calls-more, events-more}
@@ -101,7 +101,7 @@ before-all bs rs f e =
     }
 
 pub after-one : (r₀ : MtcReader) (bs rs qs : List ℕ) (f g : FlatFed) (i e : ℕ) → After r₀ bs rs f i → i < length bs
-    → Received rs (getD bs i 0) e qs
+    → (e ≡ flatEvent (eventOf (readerIn rs) (getD bs i 0))) × (readerIn qs ≡ afterByte (readerIn rs) (getD bs i 0))
     → g ≡ flatCounted f (e / 512) → After r₀ bs qs g (i + 1)
 unfolding fedBy flatFed
 after-one r₀ bs rs qs f g i e a h q eg =
@@ -109,7 +109,7 @@ after-one r₀ bs rs qs f g i e a h q eg =
     let s : Fed = a .state in
     let t : Fed = fedBy s b in
     let said : e / 512 ≡ flatReport (eventOf (s .reader) b .sequence)
-    = ap (λ (x : ℕ). x / 512) (q .event) ∙ report-of (pieceOf b) (eventOf (readerIn rs) b .sequence) (omega arith)
+    = ap (λ (x : ℕ). x / 512) (q .0) ∙ report-of (pieceOf b) (eventOf (readerIn rs) b .sequence) (omega arith)
     ∙ ap (λ (r : MtcReader). flatReport (eventOf r b .sequence)) (a .reader) in
     let same : g ≡ flatFed t
     = eg ∙ ap₂ flatCounted (a .flat) said ∙ flat-counted s (afterByte (s .reader) b) (eventOf (s .reader) b .sequence) in
@@ -120,7 +120,7 @@ after-one r₀ bs rs qs f g i e a h q eg =
     record {
       state = t;
       flat = same;
-      reader = q .reader ∙ ap (λ (r : MtcReader). afterByte r b) (a .reader) ∙ sym (counted-reader s (afterByte (s .reader) b) (eventOf (s .reader) b .sequence));
+      reader = q .1 ∙ ap (λ (r : MtcReader). afterByte r b) (a .reader) ∙ sym (counted-reader s (afterByte (s .reader) b) (eventOf (s .reader) b .sequence));
       reports = subst (λ (x : FlatFed). x .reports ≤ i + 1) (sym same) (omega (arith, n, n₀));
       discontinuities = subst (λ (x : FlatFed). x .discontinuities ≤ i + 1) (sym same) (omega (arith, d, d₀));
       rest = a .rest ∙ fed-turn s bs i h;
