@@ -1,4 +1,4 @@
--- What 001 reads and writes beyond the codes that RP-013 has (Rp013Code.antt, pp. 8, 9). proofs/Laws.antt says that it is this
+-- What mmc.rs reads and writes beyond the codes that RP-013 has (Rp013Code.antt, pp. 8, 9). proofs/Laws.antt says that it is this
 -- and no more. Assumes nothing.
 use Prim.Native.Nat.{ℕ, _≤_}
 use mathlib.Core.Path.{_≡_}

@@ -1,4 +1,4 @@
--- What 001 does with time code fields, on every input: five bytes or two, read and written. Assumes nothing.
+-- What mmc.rs does with time code fields, on every input: five bytes or two, read and written. Assumes nothing.
 use Prim.Native.Nat.{ℕ, _+_, _-_, _*_, _/_, _%_}
 use mathlib.Core.Bool.{Bool, true, false, cond, _&&_}
 use mathlib.Core.List.{List, [], _∷_}

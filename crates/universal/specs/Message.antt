@@ -1,4 +1,4 @@
--- What 002 does with Universal System Exclusive messages: the opening bytes, the data and the close, each with its check and
+-- What universal.rs does with Universal System Exclusive messages: the opening bytes, the data and the close, each with its check and
 -- its refusal. Which messages there are is said in Midi1.antt. Assumes nothing.
 use Prim.Native.Nat.{ℕ, _+_, min}
 use mathlib.Core.Bool.{Bool, true, _&&_, Bool·beq}
