@@ -109,7 +109,11 @@ fn full_message() -> Case {
     let mut reader = MtcReader::new();
     Case::new("full_message", move |turn| {
         boundary::full_message(black_box(&mut reader), black_box(&messages[turn % ROUND]));
-        black_box(&reader).time().map_or(0, |t| u64::from(t.frames))
+        // Asked once a round: it is no part of the call.
+        match turn % ROUND {
+            0 => reader.time().map_or(0, |t| u64::from(t.frames)),
+            _ => 0,
+        }
     })
 }
 
@@ -144,10 +148,10 @@ fn to_frame_count(name: &'static str, rate: u8) -> Case {
 
 fn from_frame_count(name: &'static str, rate: u8) -> Case {
     let counts = inputs::counts(rate);
+    let rate = TimeCodeType::from_bits(rate);
     Case::new(name, move |turn| {
         let count = black_box(counts[turn % ROUND]);
-        let rate = black_box(TimeCodeType::from_bits(rate));
-        number(black_box(boundary::from_frame_count(count, rate)))
+        number(black_box(boundary::from_frame_count(count, black_box(rate))))
     })
 }
 
