@@ -215,3 +215,44 @@ module _ (ws : List ℕ) (b : ℕ) (e : length ws ≡ 15) where
         let n : 8 - pieceOf b ≡ 8 = omega arith in
         ends (ordered true (Going Reverse) true) 0 x (set (set ws (pieceOf b) b) 8 (8 + (pieceOf b + 7) % 8)) left h reverse-stands (reverse-counts ∙ n)
         (reverse-left ∙ ap (λ (k : ℕ). stored R (ordered true (Going Reverse) true) k (pieceOf b) (valueOf b)) n)
+
+-- ---- as the code has the piece
+
+module _ (ws : List ℕ) (b p : ℕ) (e : length ws ≡ 15) (ep : p ≡ pieceOf b) where
+  at : (P : ℕ → Type 0) → P (pieceOf b) → P p
+  at P h = subst P (sym ep) h
+
+  module _ (k : getD ws 8 0 ≡ p) where
+    abbrev forward-words : ℕ → List ℕ
+    forward-words q = set (set ws q b) 8 ((q + 1) % 8)
+
+    pub next-forward-on : (x : ℕ) → (p ≡ 7 → ⊥) → x ≡ flatEvent (eventWith p NoSequence) → Received ws b x (forward-words p)
+    next-forward-on x h ex =
+        at (λ (q : ℕ). Received ws b x (forward-words q))
+        (forward-on ws b e (k ∙ ep) x (λ z. h (ep ∙ z)) (ex ∙ ap (λ (q : ℕ). flatEvent (eventWith q NoSequence)) ep))
+
+    pub next-forward-going : readerIn (forward-words p) .direction ≡ Going Forward
+    next-forward-going = at (λ (q : ℕ). readerIn (forward-words q) .direction ≡ Going Forward) (forward-going ws b e (k ∙ ep))
+
+    pub next-forward-ends : (x : ℕ) (left : List ℕ) → p ≡ 7 → Ended 7 (forward-words p) x left → Received ws b x left
+    next-forward-ends x left h q =
+        forward-ends ws b e (k ∙ ep) x left (sym ep ∙ h) (subst (λ (n : ℕ). Ended 7 (forward-words n) x left) ep q)
+
+  module _ (k : getD ws 8 0 ≡ p + 8) where
+    abbrev reverse-words : ℕ → List ℕ
+    reverse-words q = set (set ws q b) 8 (8 + (q + 7) % 8)
+
+    above : getD ws 8 0 ≡ pieceOf b + 8
+    above = k ∙ ap (λ (q : ℕ). q + 8) ep
+
+    pub next-reverse-on : (x : ℕ) → (p ≡ 0 → ⊥) → x ≡ flatEvent (eventWith p NoSequence) → Received ws b x (reverse-words p)
+    next-reverse-on x h ex =
+        at (λ (q : ℕ). Received ws b x (reverse-words q))
+        (reverse-on ws b e above x (λ z. h (ep ∙ z)) (ex ∙ ap (λ (q : ℕ). flatEvent (eventWith q NoSequence)) ep))
+
+    pub next-reverse-going : readerIn (reverse-words p) .direction ≡ Going Reverse
+    next-reverse-going = at (λ (q : ℕ). readerIn (reverse-words q) .direction ≡ Going Reverse) (reverse-going ws b e above)
+
+    pub next-reverse-ends : (x : ℕ) (left : List ℕ) → p ≡ 0 → Ended 0 (reverse-words p) x left → Received ws b x left
+    next-reverse-ends x left h q =
+        reverse-ends ws b e above x left (sym ep ∙ h) (subst (λ (n : ℕ). Ended 0 (reverse-words n) x left) ep q)

@@ -23,7 +23,7 @@ use Rattle.labels.specs.St12.{label, framesPerSecond}
 use Rattle.labels.specs.Time.{addFrames, bitsOf, rawTime}
 use Rattle.labels.specs.declared.time.MtcTime.{MtcTime}
 use Rattle.mtc.proofs.Laws.{sequence-of}
-use Rattle.mtc.specs.Generator.{final, move}
+use Rattle.mtc.specs.Generator.{final}
 use Rattle.mtc.specs.Reader.{rawOf, directionOf, reported, sameTime, jumps, sequenceOf, completed, eventWith}
 use Rattle.mtc.specs.declared.generator.Direction.{Direction}
 use Rattle.mtc.specs.declared.generator.Direction.the-variants.{Forward, Reverse}
@@ -170,9 +170,12 @@ completes ws d s x a b c w e ea eb ec ew ex es =
     }
 
 -- There is a previous label, moved on by a sequence.
-pub jumps-from : (m : MaybeTime) (t u raw : MtcTime) (d : Direction) (b : Bool) → m ≡ Time t → u ≡ addFrames t (move d) → b ≡ sameTime u raw
-    → not b ≡ jumps m d raw
-jumps-from m t u raw d b em eu eb = rw (em, eb, eu)
+module _ (m : MaybeTime) (t u raw : MtcTime) (d : Direction) (b : Bool) (em : m ≡ Time t) (eb : b ≡ sameTime u raw) where
+  pub jumps-forward : d ≡ Forward → u ≡ addFrames t (pos 2) → not b ≡ jumps m d raw
+  jumps-forward ed eu = rw (em, eb, eu, ed)
+
+  pub jumps-reverse : d ≡ Reverse → u ≡ addFrames t (negsuc 1) → not b ≡ jumps m d raw
+  jumps-reverse ed eu = rw (em, eb, eu, ed)
 
 -- ---- what the words hold
 

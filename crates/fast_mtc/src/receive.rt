@@ -46,21 +46,20 @@ pub fn receive(r: &mut [u32; 15], byte: u8) -> u64
         return outside(r, byte);
     }
     if order == p {
-        return next_forward(r, byte);
+        return next_forward(r, p, byte);
     }
     if order == p + IN_REVERSE {
-        return next_reverse(r, byte);
+        return next_reverse(r, p, byte);
     }
     dropped(r, byte)
 }
 
 // The next piece of a sequence forward.
-fn next_forward(r: &mut [u32; 15], byte: u8) -> u64
-    requires { ⌜ getD (now r) 8 0 ≡ pieceOf byte ⌝ }
+fn next_forward(r: &mut [u32; 15], p: u32, byte: u8) -> u64
+    requires { ⌜ (p ≡ pieceOf byte) × (getD (now r) 8 0 ≡ p) ⌝ }
     ensures { λ e. ⌜ Received (now (r .entry)) byte e (now (r .exit)) ⌝ }
 {
     has_words(*r);
-    let p = byte as u32 / 16 % 8;
     r[p as usize] = byte as u32;
     r[ORDER] = (p + 1) % 8;
     if p == 7 {
@@ -70,12 +69,11 @@ fn next_forward(r: &mut [u32; 15], byte: u8) -> u64
 }
 
 // The next piece of a sequence in reverse.
-fn next_reverse(r: &mut [u32; 15], byte: u8) -> u64
-    requires { ⌜ getD (now r) 8 0 ≡ pieceOf byte + 8 ⌝ }
+fn next_reverse(r: &mut [u32; 15], p: u32, byte: u8) -> u64
+    requires { ⌜ (p ≡ pieceOf byte) × (getD (now r) 8 0 ≡ p + 8) ⌝ }
     ensures { λ e. ⌜ Received (now (r .entry)) byte e (now (r .exit)) ⌝ }
 {
     has_words(*r);
-    let p = byte as u32 / 16 % 8;
     r[p as usize] = byte as u32;
     r[ORDER] = IN_REVERSE + (p + 7) % 8;
     if p == 0 {

@@ -142,7 +142,11 @@ pub(crate) fn complete(r: &mut [u32; 15], direction: Direction) -> u64
     if is_steady(*r, raw, direction) {
         return keep(r, steady(raw, direction), direction);
     }
-    complete_any(r, raw, direction)
+    // Two calls, so that it stays a function of its own and a steady label saves no registers for it.
+    match direction {
+        Direction::Forward => complete_any(r, raw, Direction::Forward),
+        Direction::Reverse => complete_any(r, raw, Direction::Reverse),
+    }
 }
 
 // The same of any label.
@@ -194,7 +198,10 @@ fn jumps(previous: MaybeTime, direction: Direction, raw: MtcTime) -> bool
     let MaybeTime::Time(t) = previous else {
         return false;
     };
-    !same(label::next_time(t, direction), raw)
+    match direction {
+        Direction::Forward => !same(label::two_later(t), raw),
+        Direction::Reverse => !same(label::two_earlier(t), raw),
+    }
 }
 
 // ---- a steady label: a sequence after the previous one, with the current one, all in one second and past the skipped numbers

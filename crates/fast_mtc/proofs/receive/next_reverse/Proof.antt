@@ -1,14 +1,11 @@
 -- `fast_mtc::receive::next_reverse` meets its contract. Assumes nothing.
-use Rattle.fast_mtc.proofs.Receiving.{reverse-on, reverse-going, reverse-ends}
+use Rattle.fast_mtc.proofs.Receiving.{next-reverse-on, next-reverse-going, next-reverse-ends}
 use borrow.Author.Needs.{needs}
 use Rattle.fast_mtc.proofs.receive.next_reverse.Statement.{statement}
 use Rattle.fast_mtc.proofs.receive.next_reverse.Tie as tie
 
 has-words-requires : tie.Need-has-words-requires
 has-words-requires c κs = search needs
-
-cast-r : tie.Need-cast-r
-cast-r c = search needs
 
 mul-r : tie.Need-mul-r
 mul-r c = search needs
@@ -26,16 +23,16 @@ element-write-r-2 : tie.Need-element-write-r-2
 element-write-r-2 c = search needs
 
 complete-requires : tie.Need-complete-requires
-complete-requires c κs = reverse-going (c .before .before .before .before .args .r .now) (c .before .before .before .before .args .byte) (c .before .before .has-words .ensures) (c .before .before .before .before .pre)
+complete-requires c κs = next-reverse-going (c .before .before .before .before .args .r .now) (c .before .before .before .before .args .byte) (c .before .before .before .before .args .p) (c .before .before .has-words .ensures) ((c .before .before .before .before .pre) .0) ((c .before .before .before .before .pre) .1)
 
 returns : tie.Need-returns
-returns c = reverse-ends _ _ (c .before .before .before .has-words .ensures) (c .before .before .before .before .before .pre) _ _ (c .before .before .if1 .taken) (c .complete .ensures)
+returns c = next-reverse-ends _ _ _ (c .before .before .before .has-words .ensures) ((c .before .before .before .before .before .pre) .0) ((c .before .before .before .before .before .pre) .1) _ _ (c .before .before .if1 .taken) (c .complete .ensures)
 
 quiet-requires : tie.Need-quiet-requires
 quiet-requires c κs = search needs
 
 returns-2 : tie.Need-returns-2
-returns-2 c = reverse-on _ _ (c .before .before .has-words .ensures) (c .before .before .before .before .pre) _ (c .before .if1 .left) (c .quiet .ensures)
+returns-2 c = next-reverse-on _ _ _ (c .before .before .has-words .ensures) ((c .before .before .before .before .pre) .0) ((c .before .before .before .before .pre) .1) _ (c .before .if1 .left) (c .quiet .ensures)
 
 pub next-reverse-spec : {M : Type 1} → statement M
-next-reverse-spec = tie.close (tie.spec has-words-requires cast-r mul-r element-write-r add-r add-r-2 element-write-r-2 complete-requires returns quiet-requires returns-2)
+next-reverse-spec = tie.close (tie.spec has-words-requires mul-r element-write-r add-r add-r-2 element-write-r-2 complete-requires returns quiet-requires returns-2)

@@ -1,4 +1,5 @@
 -- `fast_mtc::receive::receive` meets its contract. Assumes nothing.
+use mathlib.Core.Path.{refl}
 use borrow.Author.Needs.{needs}
 use Rattle.fast_mtc.proofs.receive.receive.Statement.{statement}
 use Rattle.fast_mtc.proofs.receive.receive.Tie as tie
@@ -13,7 +14,7 @@ returns : tie.Need-returns
 returns c = ((c .outside .ensures) .event, (c .outside .ensures) .reader)
 
 next-forward-requires : tie.Need-next-forward-requires
-next-forward-requires c κs = (c .before .if2 .taken)
+next-forward-requires c κs = (refl, (c .before .if2 .taken))
 
 returns-2 : tie.Need-returns-2
 returns-2 c = ((c .next-forward .ensures) .event, (c .next-forward .ensures) .reader)
@@ -22,7 +23,7 @@ add-if3 : tie.Need-add-if3
 add-if3 c = search needs
 
 next-reverse-requires : tie.Need-next-reverse-requires
-next-reverse-requires c κs = (c .before .if3 .taken)
+next-reverse-requires c κs = (refl, (c .before .if3 .taken))
 
 returns-3 : tie.Need-returns-3
 returns-3 c = ((c .next-reverse .ensures) .event, (c .next-reverse .ensures) .reader)

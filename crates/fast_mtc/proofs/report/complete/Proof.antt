@@ -1,5 +1,6 @@
 -- `fast_mtc::report::complete` meets its contract. Assumes nothing.
-use mathlib.Core.Path.{refl, sym, _∙_}
+use mathlib.Core.Path.{sym, ap, _∙_}
+use Rattle.mtc.specs.declared.reader.MaybeDirection.the-variants.{Going}
 use Rattle.fast_mtc.proofs.Steady.{reports, previous-at}
 use borrow.Author.Needs.{needs}
 use Rattle.fast_mtc.proofs.report.complete.Statement.{statement}
@@ -20,11 +21,23 @@ keep-requires c κs = search needs
 returns : tie.Need-returns
 returns c = (c .keep .ensures) (reports _ _ _ _ _ (c .before .before .before .before .before .before .before .before .pre) (c .before .before .before .before .before .before .raw-in .ensures) (previous-at _) ((c .before .steady .ensures) ∙ sym ((c .before .before .before .before .is-steady .ensures) (c .before .before .before .if1 .taken) .report)))
 
+enum-told : tie.Need-enum-told
+enum-told c = search needs
+
 complete-any-requires : tie.Need-complete-any-requires
-complete-any-requires c κs = (c .before .before .before .before .before .before .pre, (c .before .before .before .before .raw-in .ensures))
+complete-any-requires c κs = ((c .before .before .before .before .before .before .before .before .pre) ∙ ap Going (c .before .enum-told .given .1), (c .before .before .before .before .before .before .raw-in .ensures))
+
+enum-told-2 : tie.Need-enum-told-2
+enum-told-2 c = search needs
+
+complete-any-requires-2 : tie.Need-complete-any-requires-2
+complete-any-requires-2 c κs = ((c .before .before .before .before .before .before .before .before .pre) ∙ ap Going (c .before .enum-told2 .given .1), (c .before .before .before .before .before .before .raw-in .ensures))
 
 returns-2 : tie.Need-returns-2
-returns-2 c = (c .complete-any .ensures)
+returns-2 c = rw (c .before .before .enum-told .given .1) (c .complete-any .ensures)
+
+returns-3 : tie.Need-returns-3
+returns-3 c = rw (c .before .before .enum-told2 .given .1) (c .complete-any2 .ensures)
 
 pub complete-spec : {M : Type 1} → statement M
-complete-spec = tie.close (tie.spec raw-in-requires is-steady-requires steady-requires keep-requires returns complete-any-requires returns-2)
+complete-spec = tie.close (tie.spec raw-in-requires is-steady-requires steady-requires keep-requires returns enum-told complete-any-requires enum-told-2 complete-any-requires-2 returns-2 returns-3)
