@@ -18,7 +18,7 @@ use Rattle.labels.specs.declared.time.MtcTime.{MtcTime}
 use Rattle.labels.specs.declared.time.TimeCodeType.{TimeCodeType}
 use Rattle.labels.specs.declared.time.TimeCodeType.the-variants.{Fps30}
 use Rattle.labels.proofs.Laws.{fps-small, zero-valid}
-use Rattle.universal.proofs.Tests.{and-parts, and-first, and-second, and-all, holds}
+use Rattle.universal.proofs.Tests.{and-parts, and-first, and-second, and-all, true-holds}
 use Rattle.codes.proofs.Written.{fits-page, last-accepted, frames-accepted, short-last-accepted}
 
 -- ---- the last byte
@@ -63,9 +63,9 @@ beyond-code c (blankCounts k z) =
     and-second (page.lastAllowed (c .«final_byte»)) _ (and-second (isValid (c .time)) _ (rw (k, z)))
 
 -- A code that is read is kept from it by nothing else.
-pub read-beyond : (hr mn sc fr ff : ℕ) → page.allowed (readStandard hr mn sc fr ff) ≡ false → ReadBeyond (readStandard hr mn sc fr ff)
+pub beyond-read : (hr mn sc fr ff : ℕ) → page.allowed (readStandard hr mn sc fr ff) ≡ false → ReadBeyond (readStandard hr mn sc fr ff)
 unfolding readStandard
-read-beyond hr mn sc fr ff = code-beyond (readStandard hr mn sc fr ff) (read-most fr ff)
+beyond-read hr mn sc fr ff = code-beyond (readStandard hr mn sc fr ff) (read-most fr ff)
 
 module _ (r : TimeCodeType) where
   -- A short one likewise, at a rate.
@@ -124,7 +124,7 @@ module _ (c : StandardTimeCode) where
   allowed-last h = allowed-parts h .0
 
   pub allowed-label : page.allowed c ≡ true → T (isValid (c .time))
-  allowed-label h = holds _ (allowed-parts h .1)
+  allowed-label h = true-holds _ (allowed-parts h .1)
 
   -- It is written as it is.
   pub allowed-same : page.allowed c ≡ true → zeroed c ≡ c

@@ -68,7 +68,7 @@ read-only hr mn sc fr ff c k = Reading.code-read hr mn sc fr ff c (k .letters)
 -- What else is read: subframes 100 to 127, labels that ST 12-1 does not have, blank codes with counts; nothing more.
 pub read-beyond : (hr mn sc fr ff : ℕ)
     → (page.allowed (readStandard hr mn sc fr ff) ≡ false) ↔ ReadBeyond (readStandard hr mn sc fr ff)
-read-beyond hr mn sc fr ff = (Beyond.read-beyond hr mn sc fr ff, Beyond.beyond-code (readStandard hr mn sc fr ff))
+read-beyond hr mn sc fr ff = (Beyond.beyond-read hr mn sc fr ff, Beyond.beyond-code (readStandard hr mn sc fr ff))
 
 -- Bytes above 7FH are read as the same without bit 7.
 pub bit-7-unread : (hr mn sc fr ff : ℕ)

@@ -146,16 +146,16 @@ code-letters hr mn sc fr ff hh hm hs hf hl =
 
 -- ---- bytes that letters give
 
-pub last-low : (f : FinalByte) (byte : ℕ) → LastLetters f byte → byte ≤ 127
-last-low (Subframes b) byte (l, e) = omega arith
-last-low (Status s) byte (xxx, l, e) =
+pub last-letters-low : (f : FinalByte) (byte : ℕ) → LastLetters f byte → byte ≤ 127
+last-letters-low (Subframes b) byte (l, e) = omega arith
+last-letters-low (Status s) byte (xxx, l, e) =
     omega (arith, one-most (s .estimated), one-most (s .invalid), one-most (s .«video_field1»), one-most (s .«no_time_code»))
 
 -- Two bytes that are letters are at most 7FH.
 pub short-letters-low : (fr ff : ℕ) (c : ShortTimeCode) → ShortLetters fr ff c → allLow (fr ∷ ff ∷ []) ≡ true
 short-letters-low fr ff c k =
     all-low-cons _ _ (omega (arith, one-most (c .negative), form-most (c .«final_byte»)))
-    (all-low-cons _ _ (last-low (c .«final_byte») ff (k .last-byte)) all-low-none)
+    (all-low-cons _ _ (last-letters-low (c .«final_byte») ff (k .last-byte)) all-low-none)
 
 -- Five are, likewise.
 pub code-letters-low : (hr mn sc fr ff : ℕ) (c : StandardTimeCode) → Letters hr mn sc fr ff c

@@ -14,7 +14,7 @@ use Rattle.labels.specs.Time.{hoursByte}
 use Rattle.labels.specs.declared.time.MtcTime.{MtcTime}
 use Rattle.labels.proofs.Laws.{Widths, valid-widths}
 use Rattle.universal.specs.Refusals.{gives, refused, refusal}
-use Rattle.universal.proofs.Tests.{and-first, and-second, and-all, holds}
+use Rattle.universal.proofs.Tests.{and-first, and-second, and-all, true-holds}
 use Rattle.codes.proofs.Answers.{bytes-refused, bytes-given}
 
 -- ---- five bytes
@@ -49,7 +49,7 @@ module _ (c : StandardTimeCode) where
 
 -- A label that passed its check fits its widths.
 pub label-widths : (t : MtcTime) (valid : Bool) → valid ≡ isValid t → not valid ≡ false → Widths t
-label-widths t valid v n = valid-widths t (holds _ (sym v ∙ not-false _ n))
+label-widths t valid v n = valid-widths t (true-holds _ (sym v ∙ not-false _ n))
 
 -- ---- two bytes
 

@@ -22,7 +22,7 @@ use Rattle.labels.specs.declared.time.MtcTime.{MtcTime}
 use Rattle.labels.proofs.Laws.{Widths, valid-widths}
 use Rattle.universal.specs.Message.{allLow}
 use Rattle.universal.proofs.Laws.{all-low-none, all-low-cons}
-use Rattle.universal.proofs.Tests.{and-parts, holds}
+use Rattle.universal.proofs.Tests.{and-parts, true-holds}
 use Rattle.codes.proofs.Bits.{flag-one, flag-most, bits-most}
 use Rattle.codes.proofs.Reading.{yy-bits}
 
@@ -30,7 +30,7 @@ use Rattle.codes.proofs.Reading.{yy-bits}
 
 pub label-accepted : (c : StandardTimeCode) → standardFits c ≡ true → Widths (writtenLabel c)
 unfolding standardFits
-label-accepted c h = valid-widths (writtenLabel c) (holds _ (and-parts (finalFits (c .«final_byte»)) _ h .1))
+label-accepted c h = valid-widths (writtenLabel c) (true-holds _ (and-parts (finalFits (c .«final_byte»)) _ h .1))
 
 pub last-accepted : (c : StandardTimeCode) → standardFits c ≡ true → finalFits (c .«final_byte») ≡ true
 unfolding standardFits
@@ -69,9 +69,9 @@ pub mark-most : (f : FinalByte) → finalMark f ≤ 32
 mark-most (Subframes b) = lit≤ tt
 mark-most (Status s) = lit≤ tt
 
-pub value-low : (f : FinalByte) → finalFits f ≡ true → finalValue f ≤ 127
-value-low (Subframes b) h = omega (arith, leb-true b 99 h)
-value-low (Status s) h =
+pub final-value-low : (f : FinalByte) → finalFits f ≡ true → finalValue f ≤ 127
+final-value-low (Subframes b) h = omega (arith, leb-true b 99 h)
+final-value-low (Status s) h =
     omega (arith, flag-most 64 (s .estimated), flag-most 32 (s .invalid), flag-most 16 (s .«video_field1»), flag-most 8 (s .«no_time_code»))
 
 -- ---- the bytes by the page
@@ -131,10 +131,10 @@ standard-low c h =
     (all-low-cons _ _ (omega (arith, flag-most 64 (c .«color_frame»)))
     (all-low-cons _ _ (omega (arith, flag-most 64 (c .blank)))
     (all-low-cons _ _ (frames-low (c .«final_byte») (c .negative) (writtenLabel c .frames) (w .frames))
-    (all-low-cons _ _ (value-low (c .«final_byte») (last-accepted c h)) all-low-none))))
+    (all-low-cons _ _ (final-value-low (c .«final_byte») (last-accepted c h)) all-low-none))))
 
 pub short-low : (c : ShortTimeCode) → shortFits c ≡ true → allLow (shortList c) ≡ true
 unfolding shortList
 short-low c h =
     all-low-cons _ _ (frames-low (c .«final_byte») (c .negative) (c .frames) (omega (arith, frames-accepted c h)))
-    (all-low-cons _ _ (value-low (c .«final_byte») (short-last-accepted c h)) all-low-none)
+    (all-low-cons _ _ (final-value-low (c .«final_byte») (short-last-accepted c h)) all-low-none)

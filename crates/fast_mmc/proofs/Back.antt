@@ -31,66 +31,66 @@ use Rattle.fast_mtc.proofs.Laws.{time-back}
 abbrev marks : Bool → Bool → Bool → Bool → TimeCodeStatus
 marks e v d n = record { estimated = e; invalid = v; «video_field1» = d; «no_time_code» = n }
 
-marks-back : (e v d n : Bool) → readStatus (statusByte (marks e v d n)) ≡ marks e v d n
-marks-back true true true true = refl
-marks-back true true true false = refl
-marks-back true true false true = refl
-marks-back true true false false = refl
-marks-back true false true true = refl
-marks-back true false true false = refl
-marks-back true false false true = refl
-marks-back true false false false = refl
-marks-back false true true true = refl
-marks-back false true true false = refl
-marks-back false true false true = refl
-marks-back false true false false = refl
-marks-back false false true true = refl
-marks-back false false true false = refl
-marks-back false false false true = refl
-marks-back false false false false = refl
+status-marks-back : (e v d n : Bool) → readStatus (statusByte (marks e v d n)) ≡ marks e v d n
+status-marks-back true true true true = refl
+status-marks-back true true true false = refl
+status-marks-back true true false true = refl
+status-marks-back true true false false = refl
+status-marks-back true false true true = refl
+status-marks-back true false true false = refl
+status-marks-back true false false true = refl
+status-marks-back true false false false = refl
+status-marks-back false true true true = refl
+status-marks-back false true true false = refl
+status-marks-back false true false true = refl
+status-marks-back false true false false = refl
+status-marks-back false false true true = refl
+status-marks-back false false true false = refl
+status-marks-back false false false true = refl
+status-marks-back false false false false = refl
 
 status-back : (s : TimeCodeStatus) → readStatus (statusByte s) ≡ s
-status-back s = marks-back (s .estimated) (s .invalid) (s .«video_field1») (s .«no_time_code»)
+status-back s = status-marks-back (s .estimated) (s .invalid) (s .«video_field1») (s .«no_time_code»)
 
 pub final-back : (f : FinalByte) → finalOf (isStatus f) (finalValue f) ≡ f
 unfolding finalOf isStatus
 final-back (Subframes s) = refl
 final-back (Status s) = ap Status (status-back s)
 
-pub code-back : (c : StandardTimeCode) → codeOf (flatCode c) ≡ c
+pub flat-code-back : (c : StandardTimeCode) → codeOf (flatCode c) ≡ c
 unfolding codeOf flatCode
-code-back c = rw (time-back (c .time), final-back (c .«final_byte»))
+flat-code-back c = rw (time-back (c .time), final-back (c .«final_byte»))
 
-pub short-back : (c : ShortTimeCode) → shortOf (flatShort c) ≡ c
+pub flat-short-back : (c : ShortTimeCode) → shortOf (flatShort c) ≡ c
 unfolding shortOf flatShort
-short-back c = rw (final-back (c .«final_byte»))
+flat-short-back c = rw (final-back (c .«final_byte»))
 
 part-back : (p : Part) → partAt (flatPart p) ≡ p
 unfolding partAt flatPart
 part-back p = refl
 
-pub command-back : (c : MmcCommand) → commandOf (flatCommand c) ≡ c
+pub flat-command-back : (c : MmcCommand) → commandOf (flatCommand c) ≡ c
 unfolding commandOf flatCommand commandWord plainCommand
-command-back Stop = refl
-command-back Play = refl
-command-back DeferredPlay = refl
-command-back FastForward = refl
-command-back Rewind = refl
-command-back RecordStrobe = refl
-command-back RecordExit = refl
-command-back Pause = refl
-command-back Reset = refl
-command-back (Write d) = ap Write (part-back d)
-command-back (LocateField r) = refl
-command-back (LocateTarget c) = ap LocateTarget (code-back c)
-command-back (Move a b) = refl
-command-back (Other n d) = ap₂ Other (part-back n) (part-back d)
+flat-command-back Stop = refl
+flat-command-back Play = refl
+flat-command-back DeferredPlay = refl
+flat-command-back FastForward = refl
+flat-command-back Rewind = refl
+flat-command-back RecordStrobe = refl
+flat-command-back RecordExit = refl
+flat-command-back Pause = refl
+flat-command-back Reset = refl
+flat-command-back (Write d) = ap Write (part-back d)
+flat-command-back (LocateField r) = refl
+flat-command-back (LocateTarget c) = ap LocateTarget (flat-code-back c)
+flat-command-back (Move a b) = refl
+flat-command-back (Other n d) = ap₂ Other (part-back n) (part-back d)
 
-pub field-back : (f : InfoField) → fieldOf (flatField f) ≡ f
+pub flat-field-back : (f : InfoField) → fieldOf (flatField f) ≡ f
 unfolding fieldOf flatField
-field-back (F.TimeCode n c) = ap (F.TimeCode n) (code-back c)
-field-back (F.Short n c) = ap (F.Short n) (short-back c)
-field-back (F.Other n d) = ap₂ F.Other (part-back n) (part-back d)
+flat-field-back (F.TimeCode n c) = ap (F.TimeCode n) (flat-code-back c)
+flat-field-back (F.Short n c) = ap (F.Short n) (flat-short-back c)
+flat-field-back (F.Other n d) = ap₂ F.Other (part-back n) (part-back d)
 
 -- A message's kind and the header's device say all of it: no other part of the header decides anything.
 pub kind-says : (u : Universal) (d : List ℕ)

@@ -25,7 +25,7 @@ use Rattle.mmc.proofs.WritingSteps.{after-none, after-cons, string-answer, stri
 use Rattle.labels.specs.Time.{bitsOf, typeOf}
 use Rattle.labels.specs.declared.time.TimeCodeType.{TimeCodeType}
 use Rattle.labels.specs.declared.time.TimeCodeType.the-variants.{Fps24, Fps25, Fps30Drop, Fps30}
-use Rattle.universal.specs.Emission.{Emission, stopped}
+use Rattle.universal.specs.Emission.{Emission, refusing}
 use Rattle.universal.specs.Overlay.{overlay}
 use Rattle.fast_mmc.specs.Words.{afterWords, closedOut, wordsAnswer, wordsLeft, OneWords, givenAll}
 use Rattle.fast_mmc.specs.Code.{isStatus}
@@ -81,7 +81,7 @@ module _ (w : ℕ) where
   unfolding wordItem
   item-of c e = rw (sym e)
 
-  pub item-none : none ≡ wordCommand w → stopped 3 ≡ wordItem w
+  pub item-none : none ≡ wordCommand w → refusing 3 ≡ wordItem w
   unfolding wordItem
   item-none e = rw (sym e)
 
@@ -146,11 +146,11 @@ plain-not w l h =
 
 -- ---- the marks of a time code
 
-rate-back : (r : TimeCodeType) (x : ℕ) → typeOf ((bitsOf r + x * 8) % 256) ≡ r
-rate-back Fps24 x = let e : (0 + x * 8) % 256 % 4 ≡ 0 = omega arith in rw e
-rate-back Fps25 x = let e : (1 + x * 8) % 256 % 4 ≡ 1 = omega arith in rw e
-rate-back Fps30Drop x = let e : (2 + x * 8) % 256 % 4 ≡ 2 = omega arith in rw e
-rate-back Fps30 x = let e : (3 + x * 8) % 256 % 4 ≡ 3 = omega arith in rw e
+word-rate-back : (r : TimeCodeType) (x : ℕ) → typeOf ((bitsOf r + x * 8) % 256) ≡ r
+word-rate-back Fps24 x = let e : (0 + x * 8) % 256 % 4 ≡ 0 = omega arith in rw e
+word-rate-back Fps25 x = let e : (1 + x * 8) % 256 % 4 ≡ 1 = omega arith in rw e
+word-rate-back Fps30Drop x = let e : (2 + x * 8) % 256 % 4 ≡ 2 = omega arith in rw e
+word-rate-back Fps30 x = let e : (3 + x * 8) % 256 % 4 ≡ 3 = omega arith in rw e
 
 pub rate-low : (r : TimeCodeType) → bitsOf r < 4
 rate-low Fps24 = omega arith
@@ -158,8 +158,8 @@ rate-low Fps25 = omega arith
 rate-low Fps30Drop = omega arith
 rate-low Fps30 = omega arith
 
-abbrev four : Bool → Bool → Bool → Bool → ℕ
-four k b g s = flag 1 b + flag 64 k + flag 128 s + flag 256 g
+abbrev fourBits : Bool → Bool → Bool → Bool → ℕ
+fourBits k b g s = flag 1 b + flag 64 k + flag 128 s + flag 256 g
 
 pub record FourBack (x : ℕ) (k b g s : Bool) : Type 0 where
   pub color : bit 64 x ≡ k
@@ -167,7 +167,7 @@ pub record FourBack (x : ℕ) (k b g s : Bool) : Type 0 where
   pub sign : bit 256 x ≡ g
   pub status : bit 128 x ≡ s
 
-four-back : (k b g s : Bool) → FourBack (four k b g s) k b g s
+four-back : (k b g s : Bool) → FourBack (fourBits k b g s) k b g s
 four-back true true true true = record { color = refl; blank = refl; sign = refl; status = refl }
 four-back true true true false = record { color = refl; blank = refl; sign = refl; status = refl }
 four-back true true false true = record { color = refl; blank = refl; sign = refl; status = refl }
@@ -185,10 +185,10 @@ four-back false false true false = record { color = refl; blank = refl; sign = r
 four-back false false false true = record { color = refl; blank = refl; sign = refl; status = refl }
 four-back false false false false = record { color = refl; blank = refl; sign = refl; status = refl }
 
-marks-back : (c : StandardTimeCode)
+four-marks-back : (c : StandardTimeCode)
     → FourBack (fourMarks c) (c .«color_frame») (c .blank) (c .negative) (isStatus (c .«final_byte»))
 unfolding fourMarks
-marks-back c = four-back (c .«color_frame») (c .blank) (c .negative) (isStatus (c .«final_byte»))
+four-marks-back c = four-back (c .«color_frame») (c .blank) (c .negative) (isStatus (c .«final_byte»))
 
 -- A time code by its rate, counts, last byte and marks is itself.
 marked-back : (c : StandardTimeCode)
@@ -197,13 +197,13 @@ marked-back : (c : StandardTimeCode)
     ≡ c
 unfolding markedCode
 marked-back c =
-    let m = marks-back c in
-    rw (rate-back (c .time .rate) (fourMarks c), m .color, m .blank, m .sign, m .status, final-back (c .«final_byte»))
+    let m = four-marks-back c in
+    rw (word-rate-back (c .time .rate) (fourMarks c), m .color, m .blank, m .sign, m .status, final-back (c .«final_byte»))
 
 -- ---- the bytes of a Locate's word
 
 -- Its case and its six bytes are told from it.
-pub record Told (w h m s f l k : ℕ) : Type 0 where
+pub record WordTold (w h m s f l k : ℕ) : Type 0 where
   pub case : w % 256 ≡ 11
   pub hours : byteAt 256 w ≡ h
   pub minutes : byteAt 65536 w ≡ m
@@ -213,8 +213,8 @@ pub record Told (w h m s f l k : ℕ) : Type 0 where
   pub rate : byteAt 281474976710656 w ≡ k % 256
   pub marks : w / 2251799813685248 ≡ k / 8
 
-told : (h m s f l k : ℕ) → h < 256 → m < 256 → s < 256 → f < 256 → l < 256 → Told (targetBytes h m s f l k) h m s f l k
-told h m s f l k hh hm hs hf hl =
+word-told : (h m s f l k : ℕ) → h < 256 → m < 256 → s < 256 → f < 256 → l < 256 → WordTold (targetBytes h m s f l k) h m s f l k
+word-told h m s f l k hh hm hs hf hl =
     record {
       case = omega arith;
       hours = omega arith;
@@ -227,11 +227,11 @@ told h m s f l k hh hm hs hf hl =
     }
 
 target-told : (c : StandardTimeCode) → OneWord (LocateTarget c)
-    → Told (targetWord c) (c .time .hours) (c .time .minutes) (c .time .seconds) (c .time .frames) (finalValue (c .«final_byte»))
+    → WordTold (targetWord c) (c .time .hours) (c .time .minutes) (c .time .seconds) (c .time .frames) (finalValue (c .«final_byte»))
     (bitsOf (c .time .rate) + fourMarks c * 8)
 unfolding targetWord
 target-told c (h, (m, (s, (f, l)))) =
-    told _ _ _ _ _ _ h m s f l
+    word-told _ _ _ _ _ _ h m s f l
 
 target-code : (c : StandardTimeCode) → OneWord (LocateTarget c) → wordCode (targetWord c) ≡ c
 target-code c o =
@@ -270,9 +270,9 @@ told-two : (k a b : ℕ) → k < 256 → a < 256 → b < 256
     → (withBytes k a b % 256 ≡ k) × ((byteAt 256 (withBytes k a b) ≡ a) × (byteAt 65536 (withBytes k a b) ≡ b))
 told-two k a b hk ha hb = (omega arith, (omega arith, omega arith))
 
-field-back : (r : ℕ) → r < 256 → wordCommand (withBytes 10 r 0) ≡ some (LocateField r)
+word-field-back : (r : ℕ) → r < 256 → wordCommand (withBytes 10 r 0) ≡ some (LocateField r)
 unfolding commandWord
-field-back r h =
+word-field-back r h =
     let t = told-two 10 r 0 (lit≤ tt) h (lit≤ tt) in
     sym (is-word (withBytes 10 r 0) (LocateField r) (said-field (withBytes 10 r 0) (omega (arith, t .0)) (t .0) ∙ ap (λ (n : ℕ). some (LocateField n)) (t .1 .0)) refl)
 
@@ -282,9 +282,9 @@ target-back c o =
     let e : targetWord c % 256 ≡ 11 = target-told c o .case in
     sym (is-word (targetWord c) (LocateTarget c) (said-target (targetWord c) (omega (arith, e)) e ∙ ap (λ (d : StandardTimeCode). some (LocateTarget d)) (target-code c o)) refl)
 
-move-back : (a b : ℕ) → a < 256 → b < 256 → wordCommand (withBytes 12 a b) ≡ some (Move a b)
+word-move-back : (a b : ℕ) → a < 256 → b < 256 → wordCommand (withBytes 12 a b) ≡ some (Move a b)
 unfolding commandWord
-move-back a b h k =
+word-move-back a b h k =
     let t = told-two 12 a b (lit≤ tt) h k in
     sym (is-word (withBytes 12 a b) (Move a b) (said-move (withBytes 12 a b) (omega (arith, t .0)) (t .0) ∙ ap₂ (λ (m n : ℕ). some (Move m n)) (t .1 .0) (t .1 .1)) refl)
 
@@ -301,9 +301,9 @@ command-word-back RecordExit o = plain-back 6 RecordExit (lit≤ tt) refl
 command-word-back Pause o = plain-back 7 Pause (lit≤ tt) refl
 command-word-back Reset o = plain-back 8 Reset (lit≤ tt) refl
 command-word-back (Write d) o = absurd o
-command-word-back (LocateField r) o = field-back r o
+command-word-back (LocateField r) o = word-field-back r o
 command-word-back (LocateTarget c) o = target-back c o
-command-word-back (Move a b) o = move-back a b (o .0) (o .1)
+command-word-back (Move a b) o = word-move-back a b (o .0) (o .1)
 command-word-back (Other n d) o = absurd o
 
 status-low : (e v d n : Bool) → flag 64 e + flag 32 v + flag 16 d + flag 8 n < 256
@@ -313,8 +313,8 @@ status-low e v d n = omega (arith, low 64 e, low 32 v, low 16 d, low 8 n)
     low weight true = le-refl weight
     low weight false = omega arith
 
-last-low : (fr ff : ℕ) → finalValue (readFinal fr ff) < 256
-last-low fr ff = go (bit 32 fr)
+final-value-byte : (fr ff : ℕ) → finalValue (readFinal fr ff) < 256
+final-value-byte fr ff = go (bit 32 fr)
   where
     go : (b : Bool) → finalValue (cond b (Status (readStatus ff)) (Subframes (ff % 128))) < 256
     go true = status-low (bit 64 ff) (bit 32 ff) (bit 16 ff) (bit 8 ff)
@@ -325,7 +325,7 @@ pub read-target-back : (hr mn sc fr ff : ℕ)
     → wordCommand (commandWord (LocateTarget (readStandard hr mn sc fr ff))) ≡ some (LocateTarget (readStandard hr mn sc fr ff))
 read-target-back hr mn sc fr ff =
     command-word-back (LocateTarget (readStandard hr mn sc fr ff))
-    (rw (standard-parts hr mn sc fr ff) (omega arith, (omega arith, (omega arith, (omega arith, last-low fr ff)))))
+    (rw (standard-parts hr mn sc fr ff) (omega arith, (omega arith, (omega arith, (omega arith, final-value-byte fr ff)))))
 
 -- ---- a message of the words of commands
 
@@ -335,8 +335,8 @@ unfolding afterWords
 after-commands w out [] o = sym (after-none Commands (record { writing = w; out = out }))
 after-commands w out (c ∷ cs) o =
     let e : wordItem (commandWord c) ≡ commandItem [] c = sym (item-of (commandWord c) c (sym (command-word-back c (o .0)))) in
-    ap (λ (x : Emission). afterWords (W.given w x) (overlay out (w .at) (admitted w x .bytes)) (map commandWord cs)) e
-    ∙ after-commands (W.given w (commandItem [] c)) (overlay out (w .at) (admitted w (commandItem [] c) .bytes)) cs (o .1)
+    ap (λ (x : Emission). afterWords (W.writingAfter w x) (overlay out (w .at) (admitted w x .bytes)) (map commandWord cs)) e
+    ∙ after-commands (W.writingAfter w (commandItem [] c)) (overlay out (w .at) (admitted w (commandItem [] c) .bytes)) cs (o .1)
     ∙ sym (after-cons Commands (record { writing = w; out = out }) (given Commands [] c) (givenAll cs))
 
 -- A message of the words of commands is the writing of these commands.

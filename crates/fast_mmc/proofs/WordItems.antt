@@ -50,12 +50,12 @@ word-name w k h e = sym (item-of w (plainCommand w) (plain-is w h)) ∙ e
 
 -- ---- a byte of marks that is a rate
 
-four : (P : ℕ → Type 0) → P 0 → P 1 → P 2 → P 3 → (b : ℕ) → b ≤ 3 → P b
-four P p q r s zero h = p
-four P p q r s (suc zero) h = q
-four P p q r s (suc (suc zero)) h = r
-four P p q r s (suc (suc (suc zero))) h = s
-four P p q r s (suc (suc (suc (suc n)))) h = absurd (omega arith)
+four-cases : (P : ℕ → Type 0) → P 0 → P 1 → P 2 → P 3 → (b : ℕ) → b ≤ 3 → P b
+four-cases P p q r s zero h = p
+four-cases P p q r s (suc zero) h = q
+four-cases P p q r s (suc (suc zero)) h = r
+four-cases P p q r s (suc (suc (suc zero))) h = s
+four-cases P p q r s (suc (suc (suc (suc n)))) h = absurd (omega arith)
 
 true-of : (b : Bool) → T b → b ≡ true
 true-of true h = refl
@@ -68,10 +68,10 @@ slow-valid h m s f b hh hm hs hb hf =
     (in-range-valid (typeOf b) h m s f hh hm hs (omega (arith, fps b (omega arith) hb)) (λ d. absurd (true≢false (sym d ∙ drop b (omega arith) hb))))
   where
     fps : (b : ℕ) → b ≤ 3 → b < 2 → framesPerSecond (typeOf b) ≡ 24 + b
-    fps = four (λ b. b < 2 → framesPerSecond (typeOf b) ≡ 24 + b) (λ k. refl) (λ k. refl) (λ k. absurd (omega arith)) (λ k. absurd (omega arith))
+    fps = four-cases (λ b. b < 2 → framesPerSecond (typeOf b) ≡ 24 + b) (λ k. refl) (λ k. refl) (λ k. absurd (omega arith)) (λ k. absurd (omega arith))
 
     drop : (b : ℕ) → b ≤ 3 → b < 2 → isDropFrame (typeOf b) ≡ false
-    drop = four (λ b. b < 2 → isDropFrame (typeOf b) ≡ false) (λ k. refl) (λ k. refl) (λ k. absurd (omega arith)) (λ k. absurd (omega arith))
+    drop = four-cases (λ b. b < 2 → isDropFrame (typeOf b) ≡ false) (λ k. refl) (λ k. refl) (λ k. absurd (omega arith)) (λ k. absurd (omega arith))
 
 -- At 30 frames and drop-frame: where it is drop-frame, one that is kept.
 pub fast-valid : (h m s f b : ℕ) → h ≤ 23 → m ≤ 59 → s ≤ 59 → 2 ≤ b → b ≤ 3 → f ≤ 29
@@ -81,7 +81,7 @@ fast-valid h m s f b hh hm hs hl hb hf k =
     (in-range-valid (typeOf b) h m s f hh hm hs (omega (arith, fps b hb hl)) (λ d. k (λ e. true≢false (sym d ∙ ap (λ (x : ℕ). isDropFrame (typeOf x)) e))))
   where
     fps : (b : ℕ) → b ≤ 3 → 2 ≤ b → framesPerSecond (typeOf b) ≡ 30
-    fps = four (λ b. 2 ≤ b → framesPerSecond (typeOf b) ≡ 30) (λ k. absurd (omega arith)) (λ k. absurd (omega arith)) (λ k. refl) (λ k. refl)
+    fps = four-cases (λ b. 2 ≤ b → framesPerSecond (typeOf b) ≡ 30) (λ k. absurd (omega arith)) (λ k. absurd (omega arith)) (λ k. refl) (λ k. refl)
 
 -- A time code that is written as its counts are: a valid label with subframes, and no mark but the rate.
 pub record Usual (h m s f last marks : ℕ) : Type 0 where
@@ -92,7 +92,7 @@ pub record Usual (h m s f last marks : ℕ) : Type 0 where
 
 module _ (h m s f last b : ℕ) (u : Usual h m s f last b) where
   rate-bits : bitsOf (typeOf b) ≡ b
-  rate-bits = four (λ b. bitsOf (typeOf b) ≡ b) refl refl refl refl b (u .rate)
+  rate-bits = four-cases (λ b. bitsOf (typeOf b) ≡ b) refl refl refl refl b (u .rate)
 
   -- A usual time code goes out as its counts are, the rate above the hours.
   pub usual-item : commandItem [] (LocateTarget (markedCode b h m s f last 0))
@@ -170,10 +170,10 @@ field-sent w e z l h =
     (is-word w (LocateField (byteAt 256 w)) (said-field w (omega (arith, e)) e) (omega (arith, e, z))))
     ∙ command-written-by-page (LOCATE-FIELD (byteAt 256 w)) [] (LocateField (byteAt 256 w)) (l, h) refl
 
-pub move-sent : (w : ℕ) → w % 256 ≡ 12 → w / 16777216 ≡ 0 → 1 ≤ byteAt 256 w → byteAt 256 w ≤ 31 → 1 ≤ byteAt 65536 w
+pub word-move-sent : (w : ℕ) → w % 256 ≡ 12 → w / 16777216 ≡ 0 → 1 ≤ byteAt 256 w → byteAt 256 w ≤ 31 → 1 ≤ byteAt 65536 w
     → byteAt 65536 w ≤ 31 → wordItem w ≡ sent (76 ∷ 2 ∷ byteAt 256 w ∷ byteAt 65536 w ∷ [])
 unfolding commandWord
-move-sent w e z a b c d =
+word-move-sent w e z a b c d =
     sym
     (item-of w (Move (byteAt 256 w) (byteAt 65536 w))
     (is-word w (Move (byteAt 256 w) (byteAt 65536 w)) (said-move w (omega (arith, e)) e) (omega (arith, e, z))))

@@ -19,11 +19,11 @@ use Rattle.fast_mmc.specs.Refusal.{flatStop}
 use Rattle.fast_mmc.specs.Write.{checkedAt, writerOf, writingAt, flatWriter}
 use Rattle.fast_mmc.specs.Words.{afterWords, closedOut, wordsState, wordsAnswer, wordsLeft}
 use Rattle.mmc.specs.Length.{within}
-use Rattle.mmc.specs.Named.{summed}
+use Rattle.mmc.specs.Named.{extentOf}
 use Rattle.mmc.specs.declared.write.Writer.{Writer}
-use Rattle.mmc.specs.Write.{Writing, writingOf, openedCommands, begun, admitted, counted, moved, given, sound, closedMessage, ended, wholeMessage}
+use Rattle.mmc.specs.Write.{Writing, writingOf, openedCommands, begun, admitted, itemsAfter, writingPast, writingAfter, orFailed, closedMessage, closeAnswer, wholeMessage}
 use Rattle.mmc.specs.Writings.{State}
-use Rattle.universal.specs.Emission.{Emission, sent, stopped, check, resume, _then_}
+use Rattle.universal.specs.Emission.{Emission, sent, refusing, check, resume, _then_}
 use Rattle.universal.specs.Overlay.{overlay}
 use Rattle.universal.specs.Refusals.{Refusal, Answer, gives, refused, refusal, tooSmall}
 use Rattle.universal.proofs.Laws.{length-overlay, overlay-none}
@@ -34,10 +34,10 @@ use Rattle.mmc.proofs.WritingSteps.{as-it-is, ready-kept, ready-failed, repeats
 
 -- A command that goes out as the word does is given as it.
 pub given-word : (w v : Writing) (word : ℕ) (out left : List ℕ) (c : MmcCommand) → commandItem [] c ≡ wordItem word
-    → v ≡ given w (commandItem [] c) → left ≡ overlay out (w .at) (admitted w (commandItem [] c) .bytes)
-    → (v ≡ given w (wordItem word)) × (left ≡ overlay out (w .at) (admitted w (wordItem word) .bytes))
+    → v ≡ writingAfter w (commandItem [] c) → left ≡ overlay out (w .at) (admitted w (commandItem [] c) .bytes)
+    → (v ≡ writingAfter w (wordItem word)) × (left ≡ overlay out (w .at) (admitted w (wordItem word) .bytes))
 given-word w v word out left c q p l = (
-  p ∙ ap (given w) q,
+  p ∙ ap (writingAfter w) q,
   l ∙ ap (λ (e : Emission). overlay out (w .at) (admitted w e .bytes)) q,
 )
 
@@ -75,20 +75,20 @@ module _ (word at : ℕ) (out left : List ℕ) where
       → PutWhole word at out (at + 8) left
   put-usual n z u p = put-known _ (usual-sent word n z u) p
 
-no-bytes : (bs out : List ℕ) (at : ℕ) → at ≡ at + length bs → overlay out at bs ≡ out
-no-bytes [] out at e = overlay-none out at
-no-bytes (b ∷ bs) out at e = absurd (omega arith)
+no-bytes-put : (bs out : List ℕ) (at : ℕ) → at ≡ at + length bs → overlay out at bs ≡ out
+no-bytes-put [] out at e = overlay-none out at
+no-bytes-put (b ∷ bs) out at e = absurd (omega arith)
 
 -- Where the position stays the buffer is as found.
 pub put-nothing : (word at next : ℕ) (out left : List ℕ) → PutWhole word at out next left → next ≡ at → out ≡ left
 put-nothing word at next out left nothing e = refl
-put-nothing word at next out left (whole s l p) e = sym (p ∙ no-bytes _ out at (sym e ∙ l))
+put-nothing word at next out left (whole s l p) e = sym (p ∙ no-bytes-put _ out at (sym e ∙ l))
 
 -- ---- the list
 
 words-turn : (w : Writing) (out ws : List ℕ) (i : ℕ) → i < length ws
     → afterWords w out (drop i ws)
-    ≡ afterWords (given w (wordItem (getD ws i 0))) (overlay out (w .at) (admitted w (wordItem (getD ws i 0)) .bytes)) (drop (i + 1) ws)
+    ≡ afterWords (writingAfter w (wordItem (getD ws i 0))) (overlay out (w .at) (admitted w (wordItem (getD ws i 0)) .bytes)) (drop (i + 1) ws)
 unfolding afterWords
 words-turn w out ws i h = rw (add-one, drop-cons ws i 0 h)
 
@@ -97,8 +97,8 @@ unfolding afterWords
 words-end w out ws i h = rw (drop-of-length-le ws h)
 
 -- A close of a state gives this answer, and leaves this buffer.
-abbrev pub Ends : State → ℕ → WrittenNumbers → List ℕ → Type 0
-Ends s room a left = (a ≡ writtenNumbers (wholeMessage (s .writing) room)) × (left ≡ closedOut s)
+abbrev pub ClosesWith : State → ℕ → WrittenNumbers → List ℕ → Type 0
+ClosesWith s room a left = (a ≡ writtenNumbers (wholeMessage (s .writing) room)) × (left ≡ closedOut s)
 
 -- From a writing and its buffer the words from one on lead where those from another lead from where it has come to.
 pub record Gone (w₀ : Writing) (out₀ : List ℕ) (from : ℕ) (ws : List ℕ) (w : Writing) (out : List ℕ) (i : ℕ) : Type 0 where
@@ -111,7 +111,7 @@ module _ (w₀ : Writing) (out₀ : List ℕ) (from : ℕ) (ws : List ℕ) where
 
   module _ (w : Writing) (out : List ℕ) (i : ℕ) (g : Gone w₀ out₀ from ws w out i) where
     -- One more word, by its emission.
-    pub gone-word : (v : Writing) (left : List ℕ) → i < length ws → v ≡ given w (wordItem (getD ws i 0))
+    pub gone-word : (v : Writing) (left : List ℕ) → i < length ws → v ≡ writingAfter w (wordItem (getD ws i 0))
         → left ≡ overlay out (w .at) (admitted w (wordItem (getD ws i 0)) .bytes)
         → Gone w₀ out₀ from ws v left (i + 1)
     gone-word v left h p q =
@@ -124,33 +124,33 @@ module _ (w₀ : Writing) (out₀ : List ℕ) (from : ℕ) (ws : List ℕ) where
         }
 
     -- The rest of the words and the close are those of all.
-    pub gone-rest : (a : WrittenNumbers) (left : List ℕ) → Ends (afterWords w out (drop i ws)) (length out) a left
-        → Ends (afterWords w₀ out₀ (drop from ws)) (length out₀) a left
+    pub gone-rest : (a : WrittenNumbers) (left : List ℕ) → ClosesWith (afterWords w out (drop i ws)) (length out) a left
+        → ClosesWith (afterWords w₀ out₀ (drop from ws)) (length out₀) a left
     gone-rest a left p =
-        subst (λ (s : State). Ends s (length out₀) a left) (sym (g .rest))
-        (subst (λ (n : ℕ). Ends (afterWords w out (drop i ws)) n a left) (g .room) p)
+        subst (λ (s : State). ClosesWith s (length out₀) a left) (sym (g .rest))
+        (subst (λ (n : ℕ). ClosesWith (afterWords w out (drop i ws)) n a left) (g .room) p)
 
     -- After the last one the close is that of all.
-    pub gone-all : (a : WrittenNumbers) (left : List ℕ) → length ws ≤ i → Ends (record { writing = w; out = out }) (length out) a left
-        → Ends (afterWords w₀ out₀ (drop from ws)) (length out₀) a left
-    gone-all a left h p = gone-rest a left (subst (λ (s : State). Ends s (length out) a left) (sym (words-end w out ws i h)) p)
+    pub gone-all : (a : WrittenNumbers) (left : List ℕ) → length ws ≤ i → ClosesWith (record { writing = w; out = out }) (length out) a left
+        → ClosesWith (afterWords w₀ out₀ (drop from ws)) (length out₀) a left
+    gone-all a left h p = gone-rest a left (subst (λ (s : State). ClosesWith s (length out) a left) (sym (words-end w out ws i h)) p)
 
 -- ---- with the position alone
 
 module _ (at i : ℕ) (few : i < 256) (near : at ≤ 40000) where
   -- Nothing has refused it.
-  pub going-sound : sound (going at i) .stop ≡ none
+  pub going-sound : orFailed (going at i) .stop ≡ none
   going-sound = sym (as-it-is (going at i) (omega arith) near)
 
   going-takes : (e : Emission) → admitted (going at i) e ≡ e
   going-takes e = takes (going at i) e (sym (ready-kept (going at i) few near))
 
-  going-on : (e : Emission) → e .stop ≡ none → going (at + length (e .bytes)) (i + 1) ≡ given (going at i) e
+  going-on : (e : Emission) → e .stop ≡ none → going (at + length (e .bytes)) (i + 1) ≡ writingAfter (going at i) e
   going-on e n =
       sym
       (given-moves (going at i) e
-      ∙ ap (λ (x : Emission). moved (going at i) (summed x)) (going-takes e)
-      ∙ ap (λ (s : Option Refusal). record { at = at + length (e .bytes); items = counted s i; stop = s }) n)
+      ∙ ap (λ (x : Emission). writingPast (going at i) (extentOf x)) (going-takes e)
+      ∙ ap (λ (s : Option Refusal). record { at = at + length (e .bytes); items = itemsAfter s i; stop = s }) n)
 
   -- A word that went out whole moves the position.
   pub gone-whole : (w₀ : Writing) (out₀ : List ℕ) (from : ℕ) (ws out left : List ℕ) (next : ℕ) → Gone w₀ out₀ from ws (going at i) out i
@@ -180,10 +180,10 @@ put-one word v at next after out left z p h k n q (whole s l e) =
     let w : writingAt v ≡ going at (v / 4294967296) =
     writing-going v z ∙ ap (λ (x : ℕ). going x (v / 4294967296)) (sym p) in
     let few : v / 4294967296 < 256 = omega (arith, z) in
-    let g : going next (v / 4294967296 + 1) ≡ given (going at (v / 4294967296)) (wordItem word) =
+    let g : going next (v / 4294967296 + 1) ≡ writingAfter (going at (v / 4294967296)) (wordItem word) =
     ap (λ (x : ℕ). going x (v / 4294967296 + 1)) l ∙ going-on at (v / 4294967296) few h (wordItem word) s in
     one {after = after} {left = left} (more (at + length (wordItem word .bytes)) l)
-    (number v at next after z p h k q ∙ ap flatWriter (g ∙ ap (λ (x : Writing). given x (wordItem word)) (sym w)))
+    (number v at next after z p h k q ∙ ap flatWriter (g ∙ ap (λ (x : Writing). writingAfter x (wordItem word)) (sym w)))
     (e
     ∙ ap (λ (x : Emission). overlay out at (x .bytes)) (sym (going-takes at (v / 4294967296) few h (wordItem word)))
     ∙ ap (λ (x : Writing). overlay out (x .at) (admitted x (wordItem word) .bytes)) (sym w))
@@ -209,19 +209,19 @@ left-still word v out left e = subst (PutOne word v out v) e still
 
 -- By the writer it is put from where nothing was.
 pub one-by-writer : (word v after : ℕ) (w : Writer) (out found left : List ℕ) (x : Writing) → out ≡ found → after ≡ flatWriter x
-    → w ≡ writerOf v → x ≡ given (writingOf w) (wordItem word)
+    → w ≡ writerOf v → x ≡ writingAfter (writingOf w) (wordItem word)
     → left ≡ overlay found (w .at) (admitted (writingOf w) (wordItem word) .bytes)
-    → (after ≡ flatWriter (given (writingAt v) (wordItem word)))
+    → (after ≡ flatWriter (writingAfter (writingAt v) (wordItem word)))
     × (left ≡ overlay out (writingAt v .at) (admitted (writingAt v) (wordItem word) .bytes))
 one-by-writer word v after w out found left x o p q r l = (
-  p ∙ ap flatWriter (r ∙ ap (λ (y : Writer). given (writingOf y) (wordItem word)) q),
+  p ∙ ap flatWriter (r ∙ ap (λ (y : Writer). writingAfter (writingOf y) (wordItem word)) q),
   l
       ∙ ap₂ (λ (b : List ℕ) (y : Writer). overlay b (y .at) (admitted (writingOf y) (wordItem word) .bytes)) (sym o) q,
 )
 
 -- Any other was put.
 pub one-put : (word v after : ℕ) (out left : List ℕ) → PutOne word v out after left → (after ≡ v → ⊥)
-    → (after ≡ flatWriter (given (writingAt v) (wordItem word)))
+    → (after ≡ flatWriter (writingAfter (writingAt v) (wordItem word)))
     × (left ≡ overlay out (writingAt v .at) (admitted (writingAt v) (wordItem word) .bytes))
 one-put word v after out left still n = absurd (n refl)
 one-put word v after out left (one l p q) n = (p, q)
@@ -244,35 +244,35 @@ any-items at i few near =
 
 -- A close as that of a writing without items.
 pub ends-any : (at i : ℕ) (out : List ℕ) (a : WrittenNumbers) (left : List ℕ) → i < 256 → at ≤ 40000
-    → Ends (record { writing = going at 0; out = out }) (length out) a left
-    → Ends (record { writing = going at i; out = out }) (length out) a left
+    → ClosesWith (record { writing = going at 0; out = out }) (length out) a left
+    → ClosesWith (record { writing = going at i; out = out }) (length out) a left
 ends-any at i out a left few near p =
     let same : wholeMessage (going at 0) (length out) ≡ wholeMessage (going at i) (length out) =
     whole-ended (going at 0) (length out)
-    ∙ ap (λ (e : Emission). ended (e .stop) (at + 1) (length out)) (any-items at i few near)
+    ∙ ap (λ (e : Emission). closeAnswer (e .stop) (at + 1) (length out)) (any-items at i few near)
     ∙ sym (whole-ended (going at i) (length out)) in
     (p .0 ∙ ap writtenNumbers same, p .1 ∙ ap (λ (e : Emission). overlay out at (e .bytes)) (any-items at i few near))
 
 module _ (at : ℕ) (near : at ≤ 40000) (out : List ℕ) where
-  ends-as : (e : Emission) (a : Answer ℕ) (left : List ℕ) → closedMessage (going at 0) ≡ e → a ≡ ended (e .stop) (at + 1) (length out)
-      → left ≡ overlay out at (e .bytes) → Ends (record { writing = going at 0; out = out }) (length out) (writtenNumbers a) left
+  ends-as : (e : Emission) (a : Answer ℕ) (left : List ℕ) → closedMessage (going at 0) ≡ e → a ≡ closeAnswer (e .stop) (at + 1) (length out)
+      → left ≡ overlay out at (e .bytes) → ClosesWith (record { writing = going at 0; out = out }) (length out) (writtenNumbers a) left
   ends-as e a left q p l = (
     ap writtenNumbers
-        (p ∙ sym (whole-ended (going at 0) (length out) ∙ ap (λ (x : Emission). ended (x .stop) (at + 1) (length out)) q)),
+        (p ∙ sym (whole-ended (going at 0) (length out) ∙ ap (λ (x : Emission). closeAnswer (x .stop) (at + 1) (length out)) q)),
     l ∙ ap (λ (x : Emission). overlay out at (x .bytes)) (sym q),
   )
 
   -- 2 outside 5 to 52.
-  pub ends-short : at < 5 → Ends (record { writing = going at 0; out = out }) (length out) (record { refusal = 2; length = 0 }) out
+  pub ends-short : at < 5 → ClosesWith (record { writing = going at 0; out = out }) (length out) (record { refusal = 2; length = 0 }) out
   unfolding writtenNumbers neededOf
   ends-short h =
-      ends-as (stopped 2) (refused (refusal 2)) out (close-empty (going at 0) (going-sound at 0 (omega arith) near) h) refl
+      ends-as (refusing 2) (refused (refusal 2)) out (close-empty (going at 0) (going-sound at 0 (omega arith) near) h) refl
       (sym (overlay-none out at))
 
-  pub ends-long : 5 ≤ at → 52 < at → Ends (record { writing = going at 0; out = out }) (length out) (record { refusal = 2; length = 0 }) out
+  pub ends-long : 5 ≤ at → 52 < at → ClosesWith (record { writing = going at 0; out = out }) (length out) (record { refusal = 2; length = 0 }) out
   unfolding writtenNumbers neededOf
   ends-long l h =
-      ends-as (stopped 2) (refused (refusal 2)) out (close-long (going at 0) (going-sound at 0 (omega arith) near) l h) refl
+      ends-as (refusing 2) (refused (refusal 2)) out (close-long (going at 0) (going-sound at 0 (omega arith) near) l h) refl
       (sym (overlay-none out at))
 
   same-room : (left : List ℕ) → left ≡ overlay out at (247 ∷ []) → length left ≡ length out
@@ -280,14 +280,14 @@ module _ (at : ℕ) (near : at ≤ 40000) (out : List ℕ) where
 
   -- Else F7H, and the length where it fits.
   pub ends-fit : (left : List ℕ) → 5 ≤ at → at ≤ 52 → at < length left → left ≡ overlay out at (247 ∷ [])
-      → Ends (record { writing = going at 0; out = out }) (length out) (record { refusal = 0; length = at + 1 }) left
+      → ClosesWith (record { writing = going at 0; out = out }) (length out) (record { refusal = 0; length = at + 1 }) left
   unfolding writtenNumbers
   ends-fit left l h room p =
       ends-as (sent (247 ∷ [])) (gives (at + 1)) left (close-sent (going at 0) (going-sound at 0 (omega arith) near) l (omega arith))
       (rw (le-leb (at + 1) (length out) (omega (arith, same-room left p)))) p
 
   pub ends-full : (left : List ℕ) → 5 ≤ at → at ≤ 52 → length left ≤ at → left ≡ overlay out at (247 ∷ [])
-      → Ends (record { writing = going at 0; out = out }) (length out) (record { refusal = 4; length = at + 1 }) left
+      → ClosesWith (record { writing = going at 0; out = out }) (length out) (record { refusal = 4; length = at + 1 }) left
   unfolding writtenNumbers neededOf
   ends-full left l h room p =
       ends-as (sent (247 ∷ [])) (refused (tooSmall (at + 1))) left (close-sent (going at 0) (going-sound at 0 (omega arith) near) l (omega arith))
@@ -296,33 +296,33 @@ module _ (at : ℕ) (near : at ≤ 40000) (out : List ℕ) where
 -- ---- the whole message
 
 -- The answer and the buffer of a whole message of words.
-abbrev pub Whole : ℕ → List ℕ → List ℕ → WrittenNumbers → List ℕ → Type 0
-Whole device ws out a left = (a ≡ writtenNumbers (wordsAnswer device ws out)) × (left ≡ wordsLeft device ws out)
+abbrev pub WordsWhole : ℕ → List ℕ → List ℕ → WrittenNumbers → List ℕ → Type 0
+WordsWhole device ws out a left = (a ≡ writtenNumbers (wordsAnswer device ws out)) × (left ≡ wordsLeft device ws out)
 
 -- From the opening on the words lead where the message leads.
 message-words : (device : ℕ) (out₀ ws : List ℕ) (w : Writing) (out : List ℕ) (a : WrittenNumbers) (left : List ℕ)
     → w ≡ begun (openedCommands device) → out ≡ overlay out₀ 0 (openedCommands device .bytes)
-    → Ends (afterWords w out ws) (length out) a left → Whole device ws out₀ a left
+    → ClosesWith (afterWords w out ws) (length out) a left → WordsWhole device ws out₀ a left
 unfolding wordsAnswer wordsLeft
 message-words device out₀ ws w out a left p q r =
-    subst (λ (n : ℕ). Ends (wordsState device ws out₀) n a left) (ap length q ∙ length-overlay out₀ 0 _)
-    (subst (λ (s : State). Ends s (length out) a left) (ap₂ (λ (x : Writing) (l : List ℕ). afterWords x l ws) p q) r)
+    subst (λ (n : ℕ). ClosesWith (wordsState device ws out₀) n a left) (ap length q ∙ length-overlay out₀ 0 _)
+    (subst (λ (s : State). ClosesWith s (length out) a left) (ap₂ (λ (x : Writing) (l : List ℕ). afterWords x l ws) p q) r)
 
 -- A writing that was refused before anything went out.
 abbrev barred : Refusal → Writing
 barred r = record { at = 0; items = 0; stop = some r }
 
-barred-sound : (r : Refusal) → sound (barred r) .stop ≡ some r
+barred-sound : (r : Refusal) → orFailed (barred r) .stop ≡ some r
 barred-sound r = sym (as-it-is (barred r) (lit≤ tt) (lit≤ tt))
 
 -- No item changes it.
 barred-item : (r : Refusal) (out : List ℕ) (e : Emission)
-    → _≡_ {A = State} (record { writing = given (barred r) e; out = overlay out 0 (admitted (barred r) e .bytes) }) (record { writing = barred r; out = out })
+    → _≡_ {A = State} (record { writing = writingAfter (barred r) e; out = overlay out 0 (admitted (barred r) e .bytes) }) (record { writing = barred r; out = out })
 barred-item r out e =
     let a : admitted (barred r) e ≡ record { bytes = []; stop = some r } =
     repeats (barred r) e r (sym (ready-failed (barred r) r (barred-sound r))) in
     ap₂ (λ (w : Writing) (l : List ℕ). record { writing = w; out = l })
-    (given-moves (barred r) e ∙ ap (λ (x : Emission). moved (barred r) (summed x)) a)
+    (given-moves (barred r) e ∙ ap (λ (x : Emission). writingPast (barred r) (extentOf x)) a)
     (ap (λ (x : Emission). overlay out 0 (x .bytes)) a ∙ overlay-none out 0)
 
 barred-words : (r : Refusal) (out ws : List ℕ) → afterWords (barred r) out ws ≡ record { writing = barred r; out = out }
@@ -331,28 +331,28 @@ barred-words r out [] = refl
 barred-words r out (x ∷ ws) =
     ap (λ (s : State). afterWords (s .writing) (s .out) ws) (barred-item r out (wordItem x)) ∙ barred-words r out ws
 
-barred-ends : (out : List ℕ) → Ends (record { writing = barred (refusal 5); out = out }) (length out) (record { refusal = 5; length = 0 }) out
+barred-ends : (out : List ℕ) → ClosesWith (record { writing = barred (refusal 5); out = out }) (length out) (record { refusal = 5; length = 0 }) out
 unfolding writtenNumbers neededOf
 barred-ends out =
     let c = close-repeats (barred (refusal 5)) (refusal 5) (barred-sound (refusal 5)) in (
       ap writtenNumbers
-          (sym (whole-ended (barred (refusal 5)) (length out) ∙ ap (λ (x : Emission). ended (x .stop) 1 (length out)) c)),
+          (sym (whole-ended (barred (refusal 5)) (length out) ∙ ap (λ (x : Emission). closeAnswer (x .stop) 1 (length out)) c)),
       sym (ap (λ (x : Emission). overlay out 0 (x .bytes)) c ∙ overlay-none out 0),
     )
 
 -- A device above 127 is refused with 5 before anything goes out.
-pub refused-words : (device : ℕ) (out ws : List ℕ) → 127 < device → Whole device ws out (record { refusal = 5; length = 0 }) out
+pub refused-words : (device : ℕ) (out ws : List ℕ) → 127 < device → WordsWhole device ws out (record { refusal = 5; length = 0 }) out
 refused-words device out ws h =
-    let e : openedCommands device ≡ stopped 5 = commands-refused device h in
+    let e : openedCommands device ≡ refusing 5 = commands-refused device h in
     message-words device out ws (barred (refusal 5)) out (record { refusal = 5; length = 0 }) out
-    (sym (ap begun e ∙ begun-after (stopped 5)))
+    (sym (ap begun e ∙ begun-after (refusing 5)))
     (sym (overlay-none out 0) ∙ ap (λ (x : Emission). overlay out 0 (x .bytes)) (sym e))
-    (subst (λ (s : State). Ends s (length out) (record { refusal = 5; length = 0 }) out) (sym (barred-words (refusal 5) out ws)) (barred-ends out))
+    (subst (λ (s : State). ClosesWith s (length out) (record { refusal = 5; length = 0 }) out) (sym (barred-words (refusal 5) out ws)) (barred-ends out))
 
 -- For one up to 127 four bytes go out first.
 pub opened-words : (device : ℕ) (out₀ ws out : List ℕ) (a : WrittenNumbers) (left : List ℕ) → device ≤ 127
-    → out ≡ overlay out₀ 0 (240 ∷ 127 ∷ device ∷ 6 ∷ []) → Ends (afterWords (going 4 0) out ws) (length out) a left
-    → Whole device ws out₀ a left
+    → out ≡ overlay out₀ 0 (240 ∷ 127 ∷ device ∷ 6 ∷ []) → ClosesWith (afterWords (going 4 0) out ws) (length out) a left
+    → WordsWhole device ws out₀ a left
 opened-words device out₀ ws out a left h q =
     let e : openedCommands device ≡ sent (240 ∷ 127 ∷ device ∷ 6 ∷ []) = commands-opened device h in
     message-words device out₀ ws (going 4 0) out a left (sym (ap begun e ∙ begun-after (sent (240 ∷ 127 ∷ device ∷ 6 ∷ []))))

@@ -6,7 +6,7 @@ use mathlib.Core.Logic.{_⊎_}
 use native.Mathlib.Omega.{arith}
 use borrow.Author.Tests.{leb-true, leb-false, eqb-false, not-true}
 use lib.Dec.{leb, eqb}
-use Rattle.fast_mmc.specs.Contracts.{LowBytes, InRange, Kept}
+use Rattle.fast_mmc.specs.Contracts.{LowBytes, WordInRange, RateHas}
 use Rattle.fast_mmc.specs.Word.{byteAt}
 use Rattle.fast_mmc.proofs.WordItems.{Usual}
 use Rattle.labels.specs.St12.{label, isValid}
@@ -34,7 +34,7 @@ low-bytes n m a b c d e = record { most = m; first = at1 n a; second = at2 n b; 
     at5 n h = omega arith
 
 -- 104, 68, 68, 98 and 28 above 23, 59, 59, 29 and 99 are 128 or more; nothing is carried from a byte below 128.
-pub counts-in-range : (w : ℕ) → LowBytes w → LowBytes (w + 31208377706496) → InRange w
+pub counts-in-range : (w : ℕ) → LowBytes w → LowBytes (w + 31208377706496) → WordInRange w
 counts-in-range w l k =
     record {
       hours = omega (arith, l .first, k .first);
@@ -48,10 +48,10 @@ counts-in-range w l k =
 
 -- ---- a label that its rate has
 
-pub slow-kept : {m s f rate : ℕ} → rate < 2 → f < 24 + rate → Kept m s f rate
+pub slow-kept : {m s f rate : ℕ} → rate < 2 → f < 24 + rate → RateHas m s f rate
 slow-kept l h = record { slow = λ k. h; fast = λ g. absurd (omega (arith, l, g)) }
 
-pub fast-kept : {m s f rate : ℕ} → 2 ≤ rate → ((rate ≡ 3 → ⊥) → (m % 10 ≡ 0) ⊎ (2 ≤ s * 30 + f)) → Kept m s f rate
+pub fast-kept : {m s f rate : ℕ} → 2 ≤ rate → ((rate ≡ 3 → ⊥) → (m % 10 ≡ 0) ⊎ (2 ≤ s * 30 + f)) → RateHas m s f rate
 fast-kept g h = record { slow = λ l. absurd (omega (arith, l, g)); fast = λ k. h }
 
 -- From the third frame of a minute on no number is skipped.
@@ -74,8 +74,8 @@ late-second w e = on (w / 16777216) (byteAt 4294967296 w) (eqb-false (w / 167772
     on q f n = omega (arith, n)
 
 -- A word in range whose number its rate has goes out as its counts are.
-pub usual-of : (w : ℕ) → InRange w
-    → Kept (byteAt 65536 w) (byteAt 16777216 w) (byteAt 4294967296 w) (byteAt 281474976710656 w)
+pub usual-of : (w : ℕ) → WordInRange w
+    → RateHas (byteAt 65536 w) (byteAt 16777216 w) (byteAt 4294967296 w) (byteAt 281474976710656 w)
     → Usual (byteAt 256 w) (byteAt 65536 w) (byteAt 16777216 w) (byteAt 4294967296 w) (byteAt 1099511627776 w)
     (byteAt 281474976710656 w)
 usual-of w i k =

@@ -19,7 +19,7 @@ use Rattle.mmc.specs.declared.split.PartsAnswer.{PartsAnswer}
 use Rattle.mmc.specs.declared.split.PartsAnswer.the-variants.{Found, Refused}
 use Rattle.fast_mmc.specs.declared.word.NextWord.{NextWord}
 use Rattle.mmc.specs.Command as K
-use Rattle.mmc.specs.Command.{CommandCase, readByte, readCommand, located, nextCommand}
+use Rattle.mmc.specs.Command.{CommandCase, commandByName, readCommand, commandOfCase, nextCommand}
 use Rattle.mmc.specs.Length.{commandLength, within}
 use Rattle.mmc.specs.Part.{part, partOf}
 use Rattle.mmc.specs.Split.{Next, next, nextPartsOf}
@@ -44,10 +44,10 @@ bits-back (suc (suc (suc zero))) h = refl
 bits-back (suc (suc (suc (suc n)))) h = absurd (omega arith)
 
 -- A bit of a byte by its weight in another.
-flag-bit : (weight n : ℕ) → n < 2 → flag weight (eqb n 1) ≡ n * weight
-flag-bit weight zero h = omega arith
-flag-bit weight (suc zero) h = omega arith
-flag-bit weight (suc (suc n)) h = absurd (omega arith)
+flag-of-bit : (weight n : ℕ) → n < 2 → flag weight (eqb n 1) ≡ n * weight
+flag-of-bit weight zero h = omega arith
+flag-of-bit weight (suc zero) h = omega arith
+flag-of-bit weight (suc (suc n)) h = absurd (omega arith)
 
 status-told : (fr ff : ℕ) → isStatus (readFinal fr ff) ≡ bit 32 fr
 unfolding isStatus
@@ -93,11 +93,11 @@ unfolding targetWord fourMarks
 target-read hr mn sc fr ff four hh hm hs hf e =
     let k : Beside hr mn sc fr four = subst (Beside hr mn sc fr) (sym e) (beside hr mn sc fr hh hm hs hf) in
     let r : bitsOf (typeOf (hr / 32)) ≡ hr / 32 % 4 = bits-back (hr / 32 % 4) (omega arith) in
-    let c : flag 64 (bit 64 mn) ≡ mn / 64 % 2 * 64 = flag-bit 64 (mn / 64 % 2) (omega arith) in
-    let b : flag 1 (bit 64 sc) ≡ sc / 64 % 2 * 1 = flag-bit 1 (sc / 64 % 2) (omega arith) in
-    let g : flag 256 (bit 64 fr) ≡ fr / 64 % 2 * 256 = flag-bit 256 (fr / 64 % 2) (omega arith) in
+    let c : flag 64 (bit 64 mn) ≡ mn / 64 % 2 * 64 = flag-of-bit 64 (mn / 64 % 2) (omega arith) in
+    let b : flag 1 (bit 64 sc) ≡ sc / 64 % 2 * 1 = flag-of-bit 1 (sc / 64 % 2) (omega arith) in
+    let g : flag 256 (bit 64 fr) ≡ fr / 64 % 2 * 256 = flag-of-bit 256 (fr / 64 % 2) (omega arith) in
     let i : flag 128 (isStatus (readFinal fr ff)) ≡ fr / 32 % 2 * 128 =
-    ap (flag 128) (status-told fr ff) ∙ flag-bit 128 (fr / 32 % 2) (omega arith) in
+    ap (flag 128) (status-told fr ff) ∙ flag-of-bit 128 (fr / 32 % 2) (omega arith) in
     rw (standard-parts hr mn sc fr ff, r, c, b, g, i, k .hours, k .minutes, k .seconds, k .frames, k .rate, k .color, k .blank, k .upper)
     (sum (hr % 32) (mn % 64) (sc % 64) (fr % 32) (finalValue (readFinal fr ff)) (hr / 32 % 4) (mn / 64 % 2) (sc / 64 % 2) (fr / 32 % 4) (fr / 32 % 2)
     (fr / 64 % 2) (two fr))
@@ -112,19 +112,19 @@ target-read hr mn sc fr ff four hh hm hs hf e =
 
 -- ---- a name alone
 
-known : (name r : ℕ) (m : CommandCase) → ((d : List ℕ) → readByte name d ≡ m) → ((n a : Part) → r ≡ commandWord (located m n a)) → AloneWord name r
-known name r m e h d n a l z = h n a ∙ sym (ap (λ (c : CommandCase). commandWord (located c n a)) (e d))
+name-known : (name r : ℕ) (m : CommandCase) → ((d : List ℕ) → commandByName name d ≡ m) → ((n a : Part) → r ≡ commandWord (commandOfCase m n a)) → AloneWord name r
+name-known name r m e h d n a l z = h n a ∙ sym (ap (λ (c : CommandCase). commandWord (commandOfCase c n a)) (e d))
 
 -- The first seven names are one more than the case.
 pub alone-low : (r : ℕ) → r < 7 → AloneWord (r + 1) r
 unfolding commandWord
-alone-low zero h = known 1 0 K.stop (λ d. names-read d .stop) (λ n a. refl)
-alone-low (suc zero) h = known 2 1 K.play (λ d. names-read d .play) (λ n a. refl)
-alone-low (suc (suc zero)) h = known 3 2 K.deferredPlay (λ d. names-read d .deferred-play) (λ n a. refl)
-alone-low (suc (suc (suc zero))) h = known 4 3 K.fastForward (λ d. names-read d .fast-forward) (λ n a. refl)
-alone-low (suc (suc (suc (suc zero)))) h = known 5 4 K.rewind (λ d. names-read d .rewind) (λ n a. refl)
-alone-low (suc (suc (suc (suc (suc zero))))) h = known 6 5 K.recordStrobe (λ d. names-read d .record-strobe) (λ n a. refl)
-alone-low (suc (suc (suc (suc (suc (suc zero)))))) h = known 7 6 K.recordExit (λ d. names-read d .record-exit) (λ n a. refl)
+alone-low zero h = name-known 1 0 K.stop (λ d. names-read d .stop) (λ n a. refl)
+alone-low (suc zero) h = name-known 2 1 K.play (λ d. names-read d .play) (λ n a. refl)
+alone-low (suc (suc zero)) h = name-known 3 2 K.deferredPlay (λ d. names-read d .deferred-play) (λ n a. refl)
+alone-low (suc (suc (suc zero))) h = name-known 4 3 K.fastForward (λ d. names-read d .fast-forward) (λ n a. refl)
+alone-low (suc (suc (suc (suc zero)))) h = name-known 5 4 K.rewind (λ d. names-read d .rewind) (λ n a. refl)
+alone-low (suc (suc (suc (suc (suc zero))))) h = name-known 6 5 K.recordStrobe (λ d. names-read d .record-strobe) (λ n a. refl)
+alone-low (suc (suc (suc (suc (suc (suc zero)))))) h = name-known 7 6 K.recordExit (λ d. names-read d .record-exit) (λ n a. refl)
 alone-low (suc (suc (suc (suc (suc (suc (suc n))))))) h = absurd (omega arith)
 
 pub alone-first : (name r : ℕ) → r + 1 ≡ name → name < 8 → AloneWord name r
@@ -132,11 +132,11 @@ alone-first name r e h = subst (λ (n : ℕ). AloneWord n r) e (alone-low r (ome
 
 pub alone-pause : (name : ℕ) → name ≡ 9 → AloneWord name 7
 unfolding commandWord
-alone-pause name e = subst (λ (n : ℕ). AloneWord n 7) (sym e) (known 9 7 K.pause (λ d. names-read d .pause) (λ n a. refl))
+alone-pause name e = subst (λ (n : ℕ). AloneWord n 7) (sym e) (name-known 9 7 K.pause (λ d. names-read d .pause) (λ n a. refl))
 
 pub alone-reset : (name : ℕ) → name ≡ 13 → AloneWord name 8
 unfolding commandWord
-alone-reset name e = subst (λ (n : ℕ). AloneWord n 8) (sym e) (known 13 8 K.reset (λ d. names-read d .reset) (λ n a. refl))
+alone-reset name e = subst (λ (n : ℕ). AloneWord n 8) (sym e) (name-known 13 8 K.reset (λ d. names-read d .reset) (λ n a. refl))
 
 outside : (name k : ℕ) → within 64 120 name ≡ false → within 64 120 k ≡ true → name ≡ k → ⊥
 outside name k f t e = true≢false (sym t ∙ sym (ap (within 64 120) e) ∙ f)
@@ -146,7 +146,7 @@ alone-other : (name : ℕ) → (name ≡ 1 → ⊥) → (name ≡ 2 → ⊥) →
     → (name ≡ 7 → ⊥) → (name ≡ 9 → ⊥) → (name ≡ 13 → ⊥) → within 64 120 name ≡ false → AloneWord name 269
 unfolding commandWord
 alone-other name a₁ a₂ a₃ a₄ a₅ a₆ a₇ p r f d n a l z =
-    let other : readByte name d ≡ K.other =
+    let other : commandByName name d ≡ K.other =
     unknown-byte d n a name
     (((((((((((((tt, a₁), a₂), a₃), a₄), a₅), a₆), a₇), p), r), outside name 64 f refl), outside name 68 f refl), outside name 76 f refl)) in
     rw (other, l, z)
@@ -186,19 +186,19 @@ counted-bounds name h = let p = and-parts (leb 64 name) (ltb name 120) h in (leb
 -- ---- a name with a count
 
 -- By what its byte is read as.
-pub byte-word : (d : List ℕ) (n a : Part) (x k : ℕ) (m : CommandCase) → x ≡ k → readByte k d ≡ m
-    → commandWord (located m n a) ≡ commandWord (located (readByte x d) n a)
+pub byte-word : (d : List ℕ) (n a : Part) (x k : ℕ) (m : CommandCase) → x ≡ k → commandByName k d ≡ m
+    → commandWord (commandOfCase m n a) ≡ commandWord (commandOfCase (commandByName x d) n a)
 byte-word d n a x k m e r =
-    ap (λ (c : CommandCase). commandWord (located c n a)) (sym r ∙ ap (λ (y : ℕ). readByte y d) (sym e))
+    ap (λ (c : CommandCase). commandWord (commandOfCase c n a)) (sym r ∙ ap (λ (y : ℕ). commandByName y d) (sym e))
 
 pub counted-other : (d : List ℕ) (n a : Part) (x : ℕ) → 64 ≤ x → (x ≡ 64 → ⊥) → (x ≡ 68 → ⊥) → (x ≡ 76 → ⊥)
-    → commandWord (Other n a) ≡ commandWord (located (readByte x d) n a)
+    → commandWord (Other n a) ≡ commandWord (commandOfCase (commandByName x d) n a)
 counted-other d n a x h p q r =
     let apart : (k : ℕ) → k < 64 → x ≡ k → ⊥ = λ k l e. omega (arith, h, l, e) in
-    let other : readByte x d ≡ K.other =
+    let other : commandByName x d ≡ K.other =
     unknown-byte d n a x
     (((((((((((((tt, apart 1 (lit≤ tt)), apart 2 (lit≤ tt)), apart 3 (lit≤ tt)), apart 4 (lit≤ tt)), apart 5 (lit≤ tt)), apart 6 (lit≤ tt)), apart 7 (lit≤ tt)), apart 9 (lit≤ tt)), apart 13 (lit≤ tt)), p), q), r)) in
-    sym (ap (λ (c : CommandCase). commandWord (located c n a)) other)
+    sym (ap (λ (c : CommandCase). commandWord (commandOfCase c n a)) other)
 
 -- ---- the next command of a string
 
@@ -249,20 +249,20 @@ module _ (body : List ℕ) (place : ℕ) (l : place < length body) (k : commandL
 
   -- A name with a count is its one byte.
   pub counted-word : (y : List ℕ) (w : ℕ) → place + 1 < length body → getD body (place + 1) 0 ≤ length body - (place + 1 + 1)
-      → w ≡ commandWord (located (readByte (getD body place 0) y) (part place 1) (part (place + 1 + 1) (getD body (place + 1) 0)))
+      → w ≡ commandWord (commandOfCase (commandByName (getD body place 0) y) (part place 1) (part (place + 1 + 1) (getD body (place + 1) 0)))
       → y ≡ partOf body (part (place + 1 + 1) (getD body (place + 1) 0))
       → record { word = w; place = place + 1 + 1 + getD body (place + 1) 0 } ≡ nextWord (nextCommand body place)
   unfolding nextWord answerWord
   counted-word y w h f p t =
       let name : getD body place 0 ∷ [] ≡ partOf body (part place 1) =
       sym (ap (take 1) (drop-cons body place 0 l)) ∙ part-inside body place 1 (omega arith) in
-      let read : located (readByte (getD body place 0) y) (part place 1) (part (place + 1 + 1) (getD body (place + 1) 0))
-      ≡ located (readCommand (partOf body (part place 1)) y) (part place 1) (part (place + 1 + 1) (getD body (place + 1) 0)) =
+      let read : commandOfCase (commandByName (getD body place 0) y) (part place 1) (part (place + 1 + 1) (getD body (place + 1) 0))
+      ≡ commandOfCase (readCommand (partOf body (part place 1)) y) (part place 1) (part (place + 1 + 1) (getD body (place + 1) 0)) =
       by-byte y _ _ (partOf body (part place 1)) (getD body place 0) (ap length (sym name)) (ap (λ (x : List ℕ). getD x 0 0) (sym name)) in
       ap (λ (v : ℕ). record { word = v; place = place + 1 + 1 + getD body (place + 1) 0 })
       (p
       ∙ ap commandWord read
       ∙ ap
-      (λ (b : List ℕ). commandWord (located (readCommand (partOf body (part place 1)) b) (part place 1) (part (place + 1 + 1) (getD body (place + 1) 0))))
+      (λ (b : List ℕ). commandWord (commandOfCase (readCommand (partOf body (part place 1)) b) (part place 1) (part (place + 1 + 1) (getD body (place + 1) 0))))
       t)
       ∙ sym (ap nextWord (command-counted body place l k h f))

@@ -10,9 +10,9 @@ use Rattle.fast_mmc.specs.declared.command.MaybeCommand.{MaybeCommand}
 use Rattle.fast_mmc.specs.declared.command.MaybeCommand.the-variants.{NoCommand, Command}
 use Rattle.mmc.specs.declared.command.MmcCommand.{MmcCommand}
 use Rattle.mmc.specs.declared.part.Part.{Part}
-use Rattle.mmc.specs.Command.{readByte, located}
+use Rattle.mmc.specs.Command.{commandByName, commandOfCase}
 use Rattle.mmc.specs.Length.{within}
-use Rattle.mmc.specs.Write.{Writing, given, admitted}
+use Rattle.mmc.specs.Write.{Writing, writingAfter, admitted}
 use Rattle.fast_mmc.specs.Word.{byteAt, commandWord, wordItem}
 use Rattle.fast_mmc.specs.Write.{writingAt, flatWriter}
 use Rattle.universal.specs.Overlay.{overlay}
@@ -22,7 +22,7 @@ use Rattle.universal.specs.Overlay.{overlay}
 -- The word of a name without prefixes and data, wherever it stands.
 abbrev pub AloneWord : ℕ → ℕ → Type 0
 AloneWord name word =
-    (d : List ℕ) (n a : Part) → n .len ≡ 1 → a .len ≡ 0 → word ≡ commandWord (located (readByte name d) n a)
+    (d : List ℕ) (n a : Part) → n .len ≡ 1 → a .len ≡ 0 → word ≡ commandWord (commandOfCase (commandByName name d) n a)
 
 -- The word of a name, or 270 where it has prefixes or a count.
 pub data ShortWord (name : ℕ) : ℕ → Type 0 where
@@ -59,7 +59,7 @@ pub record LowBytes (n : ℕ) : Type 0 where
   pub fifth : byteAt 1099511627776 n ≤ 127
 
 -- A time code whose counts are in range at 30 frames, with subframes in range and no mark but the rate.
-pub record InRange (w : ℕ) : Type 0 where
+pub record WordInRange (w : ℕ) : Type 0 where
   pub hours : byteAt 256 w ≤ 23
   pub minutes : byteAt 65536 w ≤ 59
   pub seconds : byteAt 16777216 w ≤ 59
@@ -69,13 +69,13 @@ pub record InRange (w : ℕ) : Type 0 where
   pub top : w / 1125899906842624 ≡ 0
 
 -- A label in range at 30 frames that its rate, given in bits, has: frames below 24 or 25, and at drop-frame no skipped number.
-pub record Kept (m s f rate : ℕ) : Type 0 where
+pub record RateHas (m s f rate : ℕ) : Type 0 where
   pub slow : rate < 2 → f < 24 + rate
   pub fast : 2 ≤ rate → (rate ≡ 3 → ⊥) → (m % 10 ≡ 0) ⊎ (2 ≤ s * 30 + f)
 
 -- A word that was put whole, from a writer's number to one above it, or of which nothing was put, where the number stays.
 pub data PutOne (word writer : ℕ) (out : List ℕ) : ℕ → List ℕ → Type 0 where
   still : PutOne word writer out writer out
-  one : {after : ℕ} {left : List ℕ} → writer < after → after ≡ flatWriter (given (writingAt writer) (wordItem word))
+  one : {after : ℕ} {left : List ℕ} → writer < after → after ≡ flatWriter (writingAfter (writingAt writer) (wordItem word))
       → left ≡ overlay out (writingAt writer .at) (admitted (writingAt writer) (wordItem word) .bytes)
       → PutOne word writer out after left

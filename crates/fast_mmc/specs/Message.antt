@@ -27,8 +27,8 @@ subId2Of has s = cond has (SubId2 s) NoSubId2
 unfoldable pub universalOf : FlatUniversal → Universal
 universalOf u = header (u .«real_time») (u .«device_id») (u .«sub_id1») (subId2Of (u .«has_sub_id2») (u .«sub_id2»))
 
-unfoldable pub bitsOf : FlatUserBits → UserBits
-bitsOf b = userBits (b .«device_id») (b .groups) (b .flags)
+unfoldable pub userBitsOf : FlatUserBits → UserBits
+userBitsOf b = userBits (b .«device_id») (b .groups) (b .flags)
 
 unfoldable pub flatBits : UserBits → FlatUserBits
 flatBits b = record { «device_id» = b .«device_id»; groups = b .groups; flags = b .flags }

@@ -31,17 +31,17 @@ noPart = record { start = 0; length = 0 }
 
 -- ---- commands, by their number in the source's order
 
-abbrev pub numbered : ℕ → FlatCode → FlatPart → FlatPart → FlatCommand
-numbered kind code name d = record { kind = kind; first = 0; second = 0; code = code; name = name; «data» = d }
+abbrev pub flatNamed : ℕ → FlatCode → FlatPart → FlatPart → FlatCommand
+flatNamed kind code name d = record { kind = kind; first = 0; second = 0; code = code; name = name; «data» = d }
 
 -- A command with two values and no more.
-abbrev pub plain : ℕ → ℕ → ℕ → FlatCommand
-plain kind first second =
+abbrev pub flatValues : ℕ → ℕ → ℕ → FlatCommand
+flatValues kind first second =
     record { kind = kind; first = first; second = second; code = noCode; name = noPart; «data» = noPart }
 
 -- A command that is a name alone.
 abbrev pub alone : MmcCommand → FlatCommand
-alone c = plain (commandWord c) 0 0
+alone c = flatValues (commandWord c) 0 0
 
 -- The command of a number; one above 13 is taken as 13.
 abbrev pub commandAt : ℕ → FlatCommand → MmcCommand
@@ -65,16 +65,16 @@ flatCommand RecordStrobe = alone RecordStrobe
 flatCommand RecordExit = alone RecordExit
 flatCommand Pause = alone Pause
 flatCommand Reset = alone Reset
-flatCommand (Write d) = numbered 9 noCode noPart (flatPart d)
-flatCommand (LocateField r) = plain 10 r 0
-flatCommand (LocateTarget c) = numbered 11 (flatCode c) noPart noPart
-flatCommand (Move a b) = plain 12 a b
-flatCommand (Other n d) = numbered 13 noCode (flatPart n) (flatPart d)
+flatCommand (Write d) = flatNamed 9 noCode noPart (flatPart d)
+flatCommand (LocateField r) = flatValues 10 r 0
+flatCommand (LocateTarget c) = flatNamed 11 (flatCode c) noPart noPart
+flatCommand (Move a b) = flatValues 12 a b
+flatCommand (Other n d) = flatNamed 13 noCode (flatPart n) (flatPart d)
 
 -- Refusal 0 and the command, or the refusal and all zeros.
 unfoldable pub flatCommandAnswer : Answer MmcCommand → ℕ → FlatNextCommand
 flatCommandAnswer (gives c) place = record { refusal = 0; command = flatCommand c; place = place }
-flatCommandAnswer (refused r) place = record { refusal = r .number; command = plain 0 0 0; place = place }
+flatCommandAnswer (refused r) place = record { refusal = r .number; command = flatValues 0 0 0; place = place }
 
 unfoldable pub flatNextCommand : Next MmcCommand → FlatNextCommand
 flatNextCommand n = flatCommandAnswer (n .answer) (n .place)

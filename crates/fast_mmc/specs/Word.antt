@@ -15,7 +15,7 @@ use Rattle.mmc.specs.Split.{Next}
 use Rattle.codes.specs.TimeCode.{bit, flag, finalValue}
 use Rattle.labels.specs.St12.{label}
 use Rattle.labels.specs.Time.{bitsOf, typeOf}
-use Rattle.universal.specs.Emission.{Emission, stopped}
+use Rattle.universal.specs.Emission.{Emission, refusing}
 use Rattle.universal.specs.Refusals.{Answer, gives, refused}
 
 -- ---- the word of a command
@@ -120,7 +120,7 @@ wordCommand w = ifWord w (saidCommand w)
 
 -- What goes out of it; a number that is no command's word is refused with 3, and nothing goes out of it.
 abbrev pub optionItem : Option MmcCommand → Emission
-optionItem none = stopped 3
+optionItem none = refusing 3
 optionItem (some c) = commandItem [] c
 
 unfoldable pub wordItem : ℕ → Emission

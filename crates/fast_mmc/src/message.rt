@@ -14,7 +14,7 @@ ghost use mathlib.Core.Path.{_≡_};
 ghost use Rattle.mtc.specs.FullMessage.{readFullMessageOf};
 ghost use Rattle.mtc.specs.UserBits.{answerWith, readUserBitsOf};
 ghost use Rattle.mmc.specs.Message.{readMessageOf};
-ghost use Rattle.fast_mmc.specs.Message.{subId2Of, universalOf, bitsOf, flatBits, flatFullMessage, flatAnswer, flatReadBits, flatMmcMessage, mmcKind};
+ghost use Rattle.fast_mmc.specs.Message.{subId2Of, universalOf, userBitsOf, flatBits, flatFullMessage, flatAnswer, flatReadBits, flatMmcMessage, mmcKind};
 
 // The split parts of a Universal message but its data.
 #[repr(C)]
@@ -82,7 +82,7 @@ pub fn universal_of(u: FlatUniversal) -> Universal
 }
 
 pub fn bits_of(b: FlatUserBits) -> UserBits
-    ensures { λ r. ⌜ r ≡ bitsOf b ⌝ }
+    ensures { λ r. ⌜ r ≡ userBitsOf b ⌝ }
 {
     let groups = b.groups;
     UserBits {

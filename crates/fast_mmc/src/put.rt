@@ -12,7 +12,7 @@ ghost use Rattle.universal.specs.Overlay.{overlay};
 ghost use Rattle.mmc.specs.declared.command.MmcCommand.the-variants.{Write, Other};
 ghost use Rattle.mmc.specs.Item.{commandItem};
 ghost use Rattle.mmc.specs.Part.{part};
-ghost use Rattle.mmc.specs.Write.{given, admitted};
+ghost use Rattle.mmc.specs.Write.{writingAfter, admitted};
 ghost use Rattle.fast_mmc.specs.Contracts.{PutOne};
 ghost use Rattle.fast_mmc.specs.Word.{wordItem};
 ghost use Rattle.fast_mmc.specs.Write.{writingAt, flatWriter};
@@ -45,7 +45,7 @@ fn put_usual(writer: FlatWriter, out: &mut [u8], word: u64) -> FlatWriter
 
 // One word.
 pub fn put_word(writer: FlatWriter, out: &mut [u8], word: u64) -> FlatWriter
-    ensures { λ r. ⌜ r ≡ flatWriter (given (writingAt writer) (wordItem word)) ⌝ }
+    ensures { λ r. ⌜ r ≡ flatWriter (writingAfter (writingAt writer) (wordItem word)) ⌝ }
     ensures { λ _. ⌜ now (out .exit) ≡ overlay (now (out .entry)) (writingAt writer .at) (admitted (writingAt writer) (wordItem word) .bytes) ⌝ }
 {
     let after = put_usual(writer, out, word);
@@ -57,7 +57,7 @@ pub fn put_word(writer: FlatWriter, out: &mut [u8], word: u64) -> FlatWriter
 
 // A Write of these fields.
 pub fn put_write(writer: FlatWriter, out: &mut [u8], data: &[u8]) -> FlatWriter
-    ensures { λ r. ⌜ r ≡ flatWriter (given (writingAt writer) (commandItem (now («data» .entry)) (Write (part 0 (length (now («data» .entry))))))) ⌝ }
+    ensures { λ r. ⌜ r ≡ flatWriter (writingAfter (writingAt writer) (commandItem (now («data» .entry)) (Write (part 0 (length (now («data» .entry))))))) ⌝ }
     ensures { λ _. ⌜ now (out .exit) ≡ overlay (now (out .entry)) (writingAt writer .at) (admitted (writingAt writer) (commandItem (now («data» .entry)) (Write (part 0 (length (now («data» .entry)))))) .bytes) ⌝ }
 {
     let whole = Part {
@@ -77,7 +77,7 @@ pub fn put_other(
     name: usize,
     data: usize,
 ) -> FlatWriter
-    ensures { λ r. ⌜ r ≡ flatWriter (given (writingAt writer) (commandItem (now (source .entry)) (Other (part 0 name) (part name «data»)))) ⌝ }
+    ensures { λ r. ⌜ r ≡ flatWriter (writingAfter (writingAt writer) (commandItem (now (source .entry)) (Other (part 0 name) (part name «data»)))) ⌝ }
     ensures { λ _. ⌜ now (out .exit) ≡ overlay (now (out .entry)) (writingAt writer .at) (admitted (writingAt writer) (commandItem (now (source .entry)) (Other (part 0 name) (part name «data»))) .bytes) ⌝ }
 {
     let name_at = Part {

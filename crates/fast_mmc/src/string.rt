@@ -18,7 +18,7 @@ use mmc::Part;
 ghost use mathlib.Core.Path.{_≡_};
 ghost use Rattle.mmc.specs.Command.{nextCommand, nextCommandOf, commandAnswerOf};
 ghost use Rattle.mmc.specs.Field.{nextField, nextFieldOf, fieldAnswerOf};
-ghost use Rattle.fast_mmc.specs.String.{partAt, flatPart, plain, commandOf, flatCommand, flatCommandAnswer, flatNextCommand, fieldOf, coded, flatField, flatFieldAnswer, flatNextField};
+ghost use Rattle.fast_mmc.specs.String.{partAt, flatPart, flatValues, commandOf, flatCommand, flatCommandAnswer, flatNextCommand, fieldOf, coded, flatField, flatFieldAnswer, flatNextField};
 
 // A part of lent bytes.
 #[repr(C)]
@@ -84,7 +84,7 @@ pub fn flat_part(p: Part) -> FlatPart
 
 // A command with two values and no more.
 pub fn plain(kind: u8, first: u8, second: u8) -> FlatCommand
-    ensures { λ r. ⌜ r ≡ plain kind first second ⌝ }
+    ensures { λ r. ⌜ r ≡ flatValues kind first second ⌝ }
 {
     FlatCommand {
         kind,

@@ -25,14 +25,14 @@ ghost use mathlib.Core.Bool.{true};
 ghost use mathlib.Core.List.{_∷_, []};
 ghost use Prim.Native.Nat.{_+_, _%_, _≤_};
 ghost use lib.ListN.{length, drop};
-ghost use Rattle.universal.specs.Emission.{stopped};
+ghost use Rattle.universal.specs.Emission.{refusing};
 ghost use Rattle.universal.specs.Overlay.{overlay};
 ghost use Rattle.mmc.specs.Item.{commandItem};
-ghost use Rattle.mmc.specs.Write.{writingOf, given, admitted, closedMessage, wholeMessage};
+ghost use Rattle.mmc.specs.Write.{writingOf, writingAfter, admitted, closedMessage, wholeMessage};
 ghost use Rattle.fast_mmc.specs.Numbers.{writtenNumbers};
 ghost use Rattle.fast_mmc.specs.Word.{byteAt, wordItem};
 ghost use Rattle.fast_mmc.specs.Words.{afterWords, closedOut, wordsAnswer, wordsLeft};
-ghost use Rattle.fast_mmc.specs.Contracts.{going, PutWhole, LowBytes, InRange, Kept};
+ghost use Rattle.fast_mmc.specs.Contracts.{going, PutWhole, LowBytes, WordInRange, RateHas};
 
 // 104, 68, 68, 98 and 28 in their bytes: above 23 hours, 59 minutes, 59 seconds, 29 frames and 99 subframes they make 128 or more.
 const ABOVE_RANGE: u64 = 0x1C62_4444_6800;
@@ -41,7 +41,7 @@ const MOST_COMMANDS: usize = 48;
 
 // A command that every writer refuses with 3 before anything of it goes out: a Locate to a time with a status.
 fn refused_command() -> MmcCommand
-    ensures { λ r. ⌜ commandItem [] r ≡ stopped 3 ⌝ }
+    ensures { λ r. ⌜ commandItem [] r ≡ refusing 3 ⌝ }
 {
     let status = TimeCodeStatus::from_byte(0);
     MmcCommand::LocateTarget(StandardTimeCode {
@@ -72,7 +72,7 @@ fn given_command(word: u64) -> MmcCommand
 
 // What a word says, by the writer.
 pub(crate) fn give_word(out: &mut [u8], writer: Writer, word: u64) -> Writer
-    ensures { λ r. ⌜ writingOf r ≡ given (writingOf writer) (wordItem word) ⌝ }
+    ensures { λ r. ⌜ writingOf r ≡ writingAfter (writingOf writer) (wordItem word) ⌝ }
     ensures { λ _. ⌜ now (out .exit) ≡ overlay (now (out .entry)) (writer .at) (admitted (writingOf writer) (wordItem word) .bytes) ⌝ }
 {
     let wrote = writer.put_command(out, &[], given_command(word));
@@ -128,7 +128,7 @@ fn is_low(number: u64) -> bool
 
 // True only where counts, subframes and rate are in range: the highest bits of the word and of one sum say it of all at once.
 fn is_in_range(word: u64) -> bool
-    ensures { λ r. ⌜ (r ≡ true → InRange word) ⌝ }
+    ensures { λ r. ⌜ (r ≡ true → WordInRange word) ⌝ }
 {
     if !is_low(word) {
         return false;
@@ -138,7 +138,7 @@ fn is_in_range(word: u64) -> bool
 
 // True only for a label in range that its rate has. What is rarely asked comes first: the compiler asks it last.
 fn is_kept(word: u64) -> bool
-    ensures { λ r. ⌜ (r ≡ true → Kept (byteAt 65536 word) (byteAt 16777216 word) (byteAt 4294967296 word) (byteAt 281474976710656 word)) ⌝ }
+    ensures { λ r. ⌜ (r ≡ true → RateHas (byteAt 65536 word) (byteAt 16777216 word) (byteAt 4294967296 word) (byteAt 281474976710656 word)) ⌝ }
 {
     let marks = (word / 0x1_0000_0000_0000 % 256) as u8;
     if marks < 2 {

@@ -16,7 +16,7 @@ ghost use Prim.Native.Nat.{_≤_, _<_, _+_, _*_, _/_, _%_};
 ghost use lib.ListN.{length, getD};
 ghost use Rattle.universal.specs.Refusals.{refusalOf};
 ghost use Rattle.mmc.specs.declared.command.MmcCommand.the-variants.{Other};
-ghost use Rattle.mmc.specs.Command.{readByte, readLocate, readMove, located, nextCommand};
+ghost use Rattle.mmc.specs.Command.{commandByName, readLocate, readMove, commandOfCase, nextCommand};
 ghost use Rattle.codes.specs.TimeCode.{readFinal, finalValue, readStandard};
 ghost use Rattle.fast_mmc.specs.Word.{targetWord, commandWord, nextWord};
 ghost use Rattle.fast_mmc.specs.Contracts.{ShortWord};
@@ -102,7 +102,7 @@ fn other_word(name_at: Part, data_at: Part) -> u64
 // The command of a name that has a count, and of its data, which lie at these parts of the string.
 fn read_word(name: u8, data: &[u8], name_at: Part, data_at: Part) -> u64
     requires { ⌜ (64 ≤ name) × (name < 120) ⌝ }
-    ensures { λ r. ⌜ r ≡ commandWord (located (readByte name (now («data» .entry))) «name_at» «data_at») ⌝ }
+    ensures { λ r. ⌜ r ≡ commandWord (commandOfCase (commandByName name (now («data» .entry))) «name_at» «data_at») ⌝ }
 {
     match name {
         0x40 => with_bytes(WRITE, 0, (data_at.len % 256) as u8),
@@ -114,7 +114,7 @@ fn read_word(name: u8, data: &[u8], name_at: Part, data_at: Part) -> u64
 
 // Locate, by its sub-command.
 fn locate_word(data: &[u8], name_at: Part, data_at: Part) -> u64
-    ensures { λ r. ⌜ r ≡ commandWord (located (readLocate (now («data» .entry))) «name_at» «data_at») ⌝ }
+    ensures { λ r. ⌜ r ≡ commandWord (commandOfCase (readLocate (now («data» .entry))) «name_at» «data_at») ⌝ }
 {
     if data.len() < 2 {
         return other_word(name_at, data_at);
@@ -137,7 +137,7 @@ fn locate_word(data: &[u8], name_at: Part, data_at: Part) -> u64
 
 // Move, where both names are given.
 fn move_word(data: &[u8], name_at: Part, data_at: Part) -> u64
-    ensures { λ r. ⌜ r ≡ commandWord (located (readMove (now («data» .entry))) «name_at» «data_at») ⌝ }
+    ensures { λ r. ⌜ r ≡ commandWord (commandOfCase (readMove (now («data» .entry))) «name_at» «data_at») ⌝ }
 {
     if data.len() < 2 {
         return other_word(name_at, data_at);

@@ -9,6 +9,7 @@ use Rattle.labels.specs.St12.{isValid}
 use Rattle.labels.specs.Time.{bitsOf, typeOf}
 use Rattle.fast_mtc.specs.Label.{labelNumber}
 use Rattle.fast_mtc.proofs.ShortWays.{number-bytes}
+use Rattle.labels.proofs.Laws.{rate-back}
 use Rattle.mtc.specs.declared.generator.Direction.{Direction}
 use Rattle.mtc.specs.declared.generator.Direction.the-variants.{Forward, Reverse}
 use Rattle.mtc.specs.declared.generator.MaybePiece.{MaybePiece}
@@ -17,12 +18,6 @@ use Rattle.mtc.specs.declared.generator.MtcGenerator.{MtcGenerator}
 use Rattle.labels.specs.declared.time.MtcTime.{MtcTime}
 use Rattle.labels.specs.declared.time.TimeCodeType.{TimeCodeType}
 use Rattle.labels.specs.declared.time.TimeCodeType.the-variants.{Fps24, Fps25, Fps30Drop, Fps30}
-
-pub rate-back : (r : TimeCodeType) → typeOf (bitsOf r) ≡ r
-rate-back Fps24 = refl
-rate-back Fps25 = refl
-rate-back Fps30Drop = refl
-rate-back Fps30 = refl
 
 pub time-back : (t : MtcTime) → timeOf (flatTime t) ≡ t
 unfolding timeOf flatTime

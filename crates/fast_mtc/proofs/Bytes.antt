@@ -6,7 +6,7 @@ use mathlib.Core.Path.{_≡_, refl, sym, subst, ap, _∙_}
 use native.Mathlib.Omega.{arith}
 use borrow.Author.Tests.{le-leb, lt-leb, eq-eqb, ne-eqb}
 use lib.ListN.{length, getD, set}
-use Rattle.mtc.proofs.Laws.{sends, stops}
+use Rattle.mtc.proofs.Laws.{sends, stopped-refuses}
 use Rattle.mtc.specs.Generator.{first, after, final, move, known, pieceNext, timeNext, sentAt, nextByte, afterNextByte}
 use Rattle.mtc.specs.QuarterFrame.{pieces}
 use Rattle.labels.specs.Time.{addFrames}
@@ -106,4 +106,4 @@ still bs e = rw (eq-eqb (getD bs 7 0) 0 e)
 pub stopped-in : (bs : List ℕ) → getD bs 7 0 ≡ 0
     → (record { refusal = 8; byte = 0 } ≡ flatByte (nextByte (generatorIn bs))) × (generatorIn bs ≡ afterNextByte (generatorIn bs))
 unfolding flatByte
-stopped-in bs e = let s = stops (generatorIn bs) (still bs e) in (ap flatByte (s .0), s .1)
+stopped-in bs e = let s = stopped-refuses (generatorIn bs) (still bs e) in (ap flatByte (s .0), s .1)

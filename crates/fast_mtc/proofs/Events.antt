@@ -6,9 +6,9 @@ use native.Mathlib.Omega.{arith}
 use borrow.Author.Tests.{ne-eqb}
 use lib.Dec.{lit≤}
 use Rattle.fast_mtc.specs.Generator.{directionAt, flatDirection, isSet}
-use Rattle.fast_mtc.specs.Reader.{bit, flatReport, flatEvent, labelOr, reportIn}
+use Rattle.fast_mtc.specs.Reader.{bitOf, flatReport, flatEvent, labelOr, reportIn}
 use Rattle.mtc.proofs.Laws.{report-labels}
-use Rattle.mtc.specs.Reader.{eventWith, ReportLabels, afterByte, eventOf, taken}
+use Rattle.mtc.specs.Reader.{eventWith, ReportLabels, afterByte, eventOf, orFresh}
 use Rattle.mtc.specs.declared.generator.Direction.{Direction}
 use Rattle.mtc.specs.declared.generator.Direction.the-variants.{Forward, Reverse}
 use Rattle.mtc.specs.declared.reader.MaybeSequence.{MaybeSequence}
@@ -25,15 +25,15 @@ unfolding flatDirection
 direction-small Forward = lit≤ tt
 direction-small Reverse = lit≤ tt
 
-pub bit-small : (b : Bool) → bit b ≤ 1
+pub bit-small : (b : Bool) → bitOf b ≤ 1
 bit-small true = lit≤ tt
 bit-small false = lit≤ tt
 
-bit-back : (b : Bool) → isSet (bit b) ≡ b
+bit-back : (b : Bool) → isSet (bitOf b) ≡ b
 bit-back true = refl
 bit-back false = refl
 
-pub report-is : (s : MtcSequence) (d b : ℕ) → d ≡ flatDirection (s .direction) → b ≡ bit (s .discontinuity)
+pub report-is : (s : MtcSequence) (d b : ℕ) → d ≡ flatDirection (s .direction) → b ≡ bitOf (s .discontinuity)
     → (1 + d * 2 + b * 4 ≡ flatReport (Sequence s)) × (1 + d * 2 + b * 4 ≤ 7)
 unfolding flatReport
 report-is s d b ed eb =
@@ -41,11 +41,11 @@ report-is s d b ed eb =
     let lb : b ≤ 1 = rw eb (bit-small (s .discontinuity)) in
     (rw (ed, eb), omega (arith, ld, lb))
 
-pub quiet : (e : MtcEvent) (b : ℕ) → b ≡ bit (e .boundary) → e .sequence ≡ NoSequence → e .piece + b * 256 ≡ flatEvent e
+pub quiet : (e : MtcEvent) (b : ℕ) → b ≡ bitOf (e .boundary) → e .sequence ≡ NoSequence → e .piece + b * 256 ≡ flatEvent e
 unfolding flatEvent flatReport
 quiet e b eb es = rw (eb, es) (omega arith)
 
-pub said : (e : MtcEvent) (s : MtcSequence) (b r : ℕ) → b ≡ bit (e .boundary) → e .sequence ≡ Sequence s → r ≡ flatReport (Sequence s)
+pub said : (e : MtcEvent) (s : MtcSequence) (b r : ℕ) → b ≡ bitOf (e .boundary) → e .sequence ≡ Sequence s → r ≡ flatReport (Sequence s)
     → e .piece + b * 256 + r * 512 ≡ flatEvent e
 unfolding flatEvent
 said e s b r eb es er = rw (eb, er, es)
@@ -55,7 +55,7 @@ said e s b r eb es er = rw (eb, er, es)
 -- Of an event of a piece, its report.
 pub report-of : (p : ℕ) (s : MaybeSequence) → p ≤ 255 → flatEvent (eventWith p s) / 512 ≡ flatReport s
 unfolding flatEvent
-report-of p s h = let b : bit (eventWith p s .boundary) ≤ 1 = bit-small (eventWith p s .boundary) in omega (arith, h, b)
+report-of p s h = let b : bitOf (eventWith p s .boundary) ≤ 1 = bit-small (eventWith p s .boundary) in omega (arith, h, b)
 
 -- No report is 0; any other is not.
 pub none-reported : flatReport NoSequence ≡ 0
@@ -65,7 +65,7 @@ none-reported = refl
 pub some-reported : (s : MtcSequence) → isSet (flatReport (Sequence s)) ≡ true
 unfolding flatReport
 some-reported s =
-    rw (ne-eqb (flatReport (Sequence s)) 0 (above (flatDirection (s .direction) * 2 + bit (s .discontinuity) * 4) (omega arith)))
+    rw (ne-eqb (flatReport (Sequence s)) 0 (above (flatDirection (s .direction) * 2 + bitOf (s .discontinuity) * 4) (omega arith)))
   where
     above : (n : ℕ) → flatReport (Sequence s) ≡ n + 1 → flatReport (Sequence s) ≡ 0 → ⊥
     above n e x = omega arith
@@ -81,10 +81,10 @@ module _ (d b : ℕ) (hd : d ≤ 1) (hb : b ≤ 1) where
   jump-in = omega arith
 
 -- The discontinuity.
-pub jump-reported : (s : MtcSequence) → flatReport (Sequence s) / 4 % 2 ≡ bit (s .discontinuity)
+pub jump-reported : (s : MtcSequence) → flatReport (Sequence s) / 4 % 2 ≡ bitOf (s .discontinuity)
 unfolding flatReport
 jump-reported s =
-    jump-in (flatDirection (s .direction)) (bit (s .discontinuity)) (direction-small (s .direction)) (bit-small (s .discontinuity))
+    jump-in (flatDirection (s .direction)) (bitOf (s .discontinuity)) (direction-small (s .direction)) (bit-small (s .discontinuity))
 
 pub direction-low : (n : ℕ) → flatDirection (directionAt (n / 2 % 2)) ≡ n / 2 % 2
 unfolding flatDirection directionAt
@@ -103,14 +103,14 @@ unfolding reportIn flatReport
 report-back NoSequence before left h = refl
 report-back (Sequence s) before left h =
     let d : ℕ = flatDirection (s .direction) in
-    let b : ℕ = bit (s .discontinuity) in
+    let b : ℕ = bitOf (s .discontinuity) in
     let hd : d ≤ 1 = direction-small (s .direction) in
     let hb : b ≤ 1 = bit-small (s .discontinuity) in
     rw (one-in d b hd hb, direction-in d b hd hb, jump-in d b hd hb, direction-back (s .direction), bit-back (s .discontinuity), h .0, h .1)
 
 -- So every report is read back from its number and the reader that it left.
 pub reported-back : (r : MtcReader) (b : ℕ) → reportIn (afterByte r b) (flatReport (eventOf r b .sequence)) ≡ eventOf r b .sequence
-reported-back r b = report-back (eventOf r b .sequence) (taken r) (afterByte r b) (report-labels r b)
+reported-back r b = report-back (eventOf r b .sequence) (orFresh r) (afterByte r b) (report-labels r b)
 
 -- A later event without a report keeps the last one.
 pub kept-back : (s : MtcSequence) (before left : MtcReader) → ReportLabels NoSequence before left

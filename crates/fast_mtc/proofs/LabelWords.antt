@@ -31,12 +31,6 @@ unfolding labelIn
 label-back t h m s f =
     rw (hours-back (t .hours) (t .minutes) (t .seconds) (t .frames) h m s f, minutes-back (t .hours) (t .minutes) (t .seconds) (t .frames) h m s f, seconds-back (t .hours) (t .minutes) (t .seconds) (t .frames) h m s f, frames-back (t .hours) (t .minutes) (t .seconds) (t .frames) h m s f)
 
-pub bits-small : (r : TimeCodeType) → bitsOf r ≤ 3
-bits-small Fps24 = lit≤ tt
-bits-small Fps25 = lit≤ tt
-bits-small Fps30Drop = lit≤ tt
-bits-small Fps30 = lit≤ tt
-
 mark-set : (r : TimeCodeType) → isSet ((1 + 2 * bitsOf r) % 2) ≡ true
 mark-set Fps24 = refl
 mark-set Fps25 = refl

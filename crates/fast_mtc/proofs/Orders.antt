@@ -48,24 +48,24 @@ all : ℕ → (ℕ → Bool) → Bool
 all zero t = true
 all (suc n) t = t n && all n t
 
-both : (a b : Bool) → T (a && b) → T a × T b
-both true true h = (tt, tt)
-both true false h = absurd h
-both false b h = absurd h
+both-of : (a b : Bool) → T (a && b) → T a × T b
+both-of true true h = (tt, tt)
+both-of true false h = absurd h
+both-of false b h = absurd h
 
 all-at : (n : ℕ) (t : ℕ → Bool) → T (all n t) → (k : ℕ) → k < n → T (t k)
 unfolding all
 all-at zero t h k l = absurd (omega arith)
-all-at (suc n) t h k l = go (eqb k n) refl (λ m. all-at n t (both (t n) (all n t) h .1) k m)
+all-at (suc n) t h k l = go (eqb k n) refl (λ m. all-at n t (both-of (t n) (all n t) h .1) k m)
   where
     go : (b : Bool) → eqb k n ≡ b → (k < n → T (t k)) → T (t k)
-    go true e rest = rw (eqb-true k n e) (both (t n) (all n t) h .0)
+    go true e rest = rw (eqb-true k n e) (both-of (t n) (all n t) h .0)
     go false e rest = let x : k ≡ n → ⊥ = eqb-false k n e in rest (omega (arith, x))
 
-same : Bool → Bool → Bool
-same true b = b
-same false true = false
-same false false = true
+sameBool : Bool → Bool → Bool
+sameBool true b = b
+sameBool false true = false
+sameBool false false = true
 
 sameWay : MaybeDirection → MaybeDirection → Bool
 sameWay NoDirection NoDirection = true
@@ -77,10 +77,10 @@ sameWay (Going Reverse) (Going Reverse) = true
 sameWay (Going d) NoDirection = false
 
 sameStanding : Standing → Standing → Bool
-sameStanding a b = same (a .next) (b .next) && (sameWay (a .direction) (b .direction) && same (a .keeps) (b .keeps))
+sameStanding a b = sameBool (a .next) (b .next) && (sameWay (a .direction) (b .direction) && sameBool (a .keeps) (b .keeps))
 
-same-is : (a b : Bool) → T (same a b) → a ≡ b
-unfolding same
+same-is : (a b : Bool) → T (sameBool a b) → a ≡ b
+unfolding sameBool
 same-is true true h = refl
 same-is true false h = absurd h
 same-is false true h = absurd h
@@ -100,8 +100,8 @@ same-way (Going Reverse) NoDirection h = absurd h
 same-standing : (a b : Standing) → T (sameStanding a b) → a ≡ b
 unfolding sameStanding
 same-standing a b h =
-    let x = both (same (a .next) (b .next)) (sameWay (a .direction) (b .direction) && same (a .keeps) (b .keeps)) h in
-    let y = both (sameWay (a .direction) (b .direction)) (same (a .keeps) (b .keeps)) (x .1) in
+    let x = both-of (sameBool (a .next) (b .next)) (sameWay (a .direction) (b .direction) && sameBool (a .keeps) (b .keeps)) h in
+    let y = both-of (sameWay (a .direction) (b .direction)) (sameBool (a .keeps) (b .keeps)) (x .1) in
     rw (same-is (a .next) (b .next) (x .0), same-way (a .direction) (b .direction) (y .0), same-is (a .keeps) (b .keeps) (y .1))
 
 -- The part of a reader that decides, by the order and the first piece kept.
@@ -112,7 +112,7 @@ stands : ℕ → ℕ → ℕ → Bool
 stands kept k p = sameStanding (orderAfter (controlIn k kept) (lastIn k) (wayIn k) p) (standingIn k p)
 
 every : (kept : ℕ) → T (all 42 (λ k. all 8 (stands kept k)))
-unfolding stands wayIn lastIn countIn firstIn all sameStanding same sameWay
+unfolding stands wayIn lastIn countIn firstIn all sameStanding sameBool sameWay
 every kept = tt
 
 -- With a last piece.
@@ -130,35 +130,35 @@ standing-none k p kept h =
 
 -- ---- bounds
 
-at-most : {n : ℕ} (b : Bool) {x y : ℕ} → (b ≡ true → x ≤ n) → (b ≡ false → y ≤ n) → cond b x y ≤ n
-at-most true f g = f refl
-at-most false f g = g refl
+both-at-most : {n : ℕ} (b : Bool) {x y : ℕ} → (b ≡ true → x ≤ n) → (b ≡ false → y ≤ n) → cond b x y ≤ n
+both-at-most true f g = f refl
+both-at-most false f g = g refl
 
-pub count-small : (k : ℕ) → countIn k ≤ 7
+pub order-count-small : (k : ℕ) → countIn k ≤ 7
 unfolding countIn
-count-small k =
-    at-most (ltb k 8) (λ e. let x : k < 8 = ltb-true k 8 e in omega arith)
-    (λ e. at-most (ltb k 16) (λ d. let x : 8 ≤ k = ltb-false k 8 e in omega arith)
-    (λ d. at-most (eqb k 40) (λ c. lit≤ tt) (λ c. at-most (eqb k 41) (λ b. lit≤ tt) (λ b. lit≤ tt))))
+order-count-small k =
+    both-at-most (ltb k 8) (λ e. let x : k < 8 = ltb-true k 8 e in omega arith)
+    (λ e. both-at-most (ltb k 16) (λ d. let x : 8 ≤ k = ltb-false k 8 e in omega arith)
+    (λ d. both-at-most (eqb k 40) (λ c. lit≤ tt) (λ c. both-at-most (eqb k 41) (λ b. lit≤ tt) (λ b. lit≤ tt))))
 
-pub first-small : (k kept : ℕ) → firstIn k kept ≤ 7
+pub order-first-small : (k kept : ℕ) → firstIn k kept ≤ 7
 unfolding firstIn
-first-small k kept =
-    at-most (ltb k 8) (λ e. lit≤ tt)
-    (λ e. at-most (ltb k 16) (λ d. lit≤ tt)
-    (λ d. at-most (eqb k 40) (λ c. lit≤ tt) (λ c. at-most (eqb k 41) (λ b. lit≤ tt) (λ b. omega arith))))
+order-first-small k kept =
+    both-at-most (ltb k 8) (λ e. lit≤ tt)
+    (λ e. both-at-most (ltb k 16) (λ d. lit≤ tt)
+    (λ d. both-at-most (eqb k 40) (λ c. lit≤ tt) (λ c. both-at-most (eqb k 41) (λ b. lit≤ tt) (λ b. omega arith))))
 
 fits : (b : Bool) (x y : MaybePiece) → T (pieceFits x) → T (pieceFits y) → T (pieceFits (cond b x y))
 fits true x y f g = f
 fits false x y f g = g
 
-low : (n : ℕ) → T (pieceFits (Piece (n % 8)))
-low n = le→leb (n % 8) 7 (omega arith)
+piece-fits-mod : (n : ℕ) → T (pieceFits (Piece (n % 8)))
+piece-fits-mod n = le→leb (n % 8) 7 (omega arith)
 
 pub last-fits : (k : ℕ) → T (pieceFits (lastIn k))
 unfolding lastIn
 last-fits k =
-    fits (ltb k 8) _ _ (low (k + 7))
-    (fits (ltb k 16) _ _ (low (k + 1))
-    (fits (ltb k 24) _ _ (low (k + 7))
-    (fits (ltb k 32) _ _ (low (k + 1)) (fits (ltb k 40) _ _ (low k) (fits (eqb k 40) _ _ tt (fits (eqb k 41) _ _ tt tt))))))
+    fits (ltb k 8) _ _ (piece-fits-mod (k + 7))
+    (fits (ltb k 16) _ _ (piece-fits-mod (k + 1))
+    (fits (ltb k 24) _ _ (piece-fits-mod (k + 7))
+    (fits (ltb k 32) _ _ (piece-fits-mod (k + 1)) (fits (ltb k 40) _ _ (piece-fits-mod k) (fits (eqb k 40) _ _ tt (fits (eqb k 41) _ _ tt tt))))))

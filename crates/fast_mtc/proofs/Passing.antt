@@ -10,7 +10,7 @@ use lib.Dec.{ltb, eqb, lit≤}
 use lib.ListN.{length, getD, set, length-set}
 use Rattle.mtc.proofs.Laws.{as-is}
 use Rattle.mtc.specs.QuarterFrame.{pieceOf, valueOf}
-use Rattle.mtc.specs.Reader.{control, ordered, orderAfter, starts, numberAfter, stored, readerBy, eventWith, informed, afterFullMessage}
+use Rattle.mtc.specs.Reader.{control, ordered, orderAfter, starts, numberAfter, stored, readerByNumber, eventWith, informed, afterFullMessage}
 use Rattle.mtc.specs.declared.generator.Direction.the-variants.{Forward, Reverse}
 use Rattle.mtc.specs.declared.reader.MaybeDirection.{MaybeDirection}
 use Rattle.mtc.specs.declared.reader.MaybeDirection.the-variants.{NoDirection, Going}
@@ -20,25 +20,25 @@ use Rattle.mtc.specs.declared.reader.MtcReader.{MtcReader}
 use Rattle.labels.specs.Time.{bitsOf}
 use Rattle.labels.specs.declared.time.MtcTime.{MtcTime}
 use Rattle.fast_mtc.specs.Generator.{isSet}
-use Rattle.fast_mtc.specs.Inner.{Received, FirstKept, Passed, Stopped}
+use Rattle.fast_mtc.specs.Inner.{Received, FirstKept, PassedPiece, StoppedOrder}
 use Rattle.fast_mtc.specs.Reader.{wayIn, lastIn, countIn, firstIn, nibblesIn, labelIn, timeIn, readerIn, flatEvent}
 use Rattle.fast_mtc.proofs.LabelWords.{marked}
-use Rattle.fast_mtc.proofs.Orders.{standingIn, standing-none, first-small}
+use Rattle.fast_mtc.proofs.Orders.{standingIn, standing-none, order-first-small}
 use Rattle.fast_mtc.proofs.Receiving.{Alike, passes, kept, stand-in, count-at, own-order, sound-in}
 use Rattle.fast_mtc.proofs.Spelled.{spelled, by-words, by-piece}
 
 -- ---- a piece in the direction that it leaves
 
-abbrev pub Kept : List ℕ → Type 0
-Kept ws = firstIn (getD ws 8 0) (getD ws 9 0) ≡ getD ws 9 0 % 8
+abbrev pub FirstInWord : List ℕ → Type 0
+FirstInWord ws = firstIn (getD ws 8 0) (getD ws 9 0) ≡ getD ws 9 0 % 8
 
 -- The order x after a piece that belongs to no sequence.
 abbrev pub Passes : MaybeDirection → ℕ → ℕ → List ℕ → ℕ → Type 0
-Passes d x p ws v = Kept ws → readerIn (set ws 8 x) ≡ readerBy (readerIn ws) (ordered false d true) (numberAfter 0 (starts d p)) p (v % 16)
+Passes d x p ws v = FirstInWord ws → readerIn (set ws 8 x) ≡ readerByNumber (readerIn ws) (ordered false d true) (numberAfter 0 (starts d p)) p (v % 16)
 
 -- The order x after one that begins a sequence.
 abbrev pub Begins : MaybeDirection → ℕ → ℕ → List ℕ → ℕ → Type 0
-Begins d x p ws v = readerIn (set (set ws p v) 8 x) ≡ readerBy (readerIn ws) (ordered false d true) (numberAfter 0 (starts d p)) p (v % 16)
+Begins d x p ws v = readerIn (set (set ws p v) 8 x) ≡ readerByNumber (readerIn ws) (ordered false d true) (numberAfter 0 (starts d p)) p (v % 16)
 
 pub forward-passes : (ws : List ℕ) (v p : ℕ) → length ws ≡ 15 → p ≤ 7 → (p ≡ 0 → ⊥) → Passes (Going Forward) (16 + (p + 1) % 8) p ws v
 unfolding readerIn nibblesIn wayIn lastIn countIn firstIn
@@ -80,31 +80,31 @@ none-begins-7 ws v e = by-words (λ (l : List ℕ). Begins NoDirection 41 7 l v)
 -- As the code leaves it.
 module _ (ws : List ℕ) (b p x : ℕ) where
   pub forward-passed : p ≤ 7 → FirstKept ws → (p ≡ 0 → ⊥) → x ≡ flatEvent (eventWith p NoSequence)
-      → Passed (Going Forward) ws p (valueOf b) x (set ws 8 (16 + (p + 1) % 8))
+      → PassedPiece (Going Forward) ws p (valueOf b) x (set ws 8 (16 + (p + 1) % 8))
   forward-passed h k z ex = record { event = ex; reader = forward-passes ws b p (k .words) h z (k .first) }
 
   pub reverse-passed : p ≤ 7 → FirstKept ws → (p ≡ 7 → ⊥) → x ≡ flatEvent (eventWith p NoSequence)
-      → Passed (Going Reverse) ws p (valueOf b) x (set ws 8 (24 + (p + 7) % 8))
+      → PassedPiece (Going Reverse) ws p (valueOf b) x (set ws 8 (24 + (p + 7) % 8))
   reverse-passed h k z ex = record { event = ex; reader = reverse-passes ws b p (k .words) h z (k .first) }
 
   pub none-passed : p ≤ 7 → FirstKept ws → (p ≡ 0 → ⊥) → (p ≡ 7 → ⊥) → x ≡ flatEvent (eventWith p NoSequence)
-      → Passed NoDirection ws p (valueOf b) x (set ws 8 (32 + p))
+      → PassedPiece NoDirection ws p (valueOf b) x (set ws 8 (32 + p))
   none-passed h k y z ex = record { event = ex; reader = none-passes ws b p (k .words) h y z (k .first) }
 
   pub forward-begun : FirstKept ws → p ≡ 0 → x ≡ flatEvent (eventWith 0 NoSequence)
-      → Passed (Going Forward) ws p (valueOf b) x (set (set ws 0 b) 8 1)
+      → PassedPiece (Going Forward) ws p (valueOf b) x (set (set ws 0 b) 8 1)
   forward-begun k z ex = rw z (record { event = ex; reader = forward-begins ws b (k .words) })
 
   pub reverse-begun : FirstKept ws → p ≡ 7 → x ≡ flatEvent (eventWith 7 NoSequence)
-      → Passed (Going Reverse) ws p (valueOf b) x (set (set ws 7 b) 8 14)
+      → PassedPiece (Going Reverse) ws p (valueOf b) x (set (set ws 7 b) 8 14)
   reverse-begun k z ex = rw z (record { event = ex; reader = reverse-begins ws b (k .words) })
 
   pub none-begun-0 : FirstKept ws → p ≡ 0 → x ≡ flatEvent (eventWith 0 NoSequence)
-      → Passed NoDirection ws p (valueOf b) x (set (set ws 0 b) 8 40)
+      → PassedPiece NoDirection ws p (valueOf b) x (set (set ws 0 b) 8 40)
   none-begun-0 k z ex = rw z (record { event = ex; reader = none-begins-0 ws b (k .words) })
 
   pub none-begun-7 : FirstKept ws → p ≡ 7 → x ≡ flatEvent (eventWith 7 NoSequence)
-      → Passed NoDirection ws p (valueOf b) x (set (set ws 7 b) 8 41)
+      → PassedPiece NoDirection ws p (valueOf b) x (set (set ws 7 b) 8 41)
   none-begun-7 k z ex = rw z (record { event = ex; reader = none-begins-7 ws b (k .words) })
 
 -- ---- what the stores before it leave
@@ -163,7 +163,7 @@ module _ (ws : List ℕ) (e : length ws ≡ 15) where
   pub kept-unlocked : FirstKept ws → FirstKept (set ws 10 0)
   kept-unlocked h =
       record {
-        first = by-words (λ (l : List ℕ). Kept l → Kept (set l 10 0)) ws e (λ x. x) (h .first);
+        first = by-words (λ (l : List ℕ). FirstInWord l → FirstInWord (set l 10 0)) ws e (λ x. x) (h .first);
         words = length-set ws 10 0 ∙ e;
       }
 
@@ -182,14 +182,14 @@ module _ (ws : List ℕ) (e : length ws ≡ 15) where
   kept-first : (f : ℕ) → firstIn (getD ws 8 0) f ≡ f % 8 → FirstKept (set ws 9 f)
   kept-first f h =
       record {
-        first = by-words (λ (l : List ℕ). firstIn (getD l 8 0) f ≡ f % 8 → Kept (set l 9 f)) ws e (λ x. x) h;
+        first = by-words (λ (l : List ℕ). firstIn (getD l 8 0) f ≡ f % 8 → FirstInWord (set l 9 f)) ws e (λ x. x) h;
         words = length-set ws 9 f ∙ e;
       }
 
   kept-both : (f : ℕ) → firstIn (getD ws 8 0) f ≡ f % 8 → FirstKept (set (set ws 9 f) 10 0)
   kept-both f h =
       record {
-        first = by-words (λ (l : List ℕ). firstIn (getD l 8 0) f ≡ f % 8 → Kept (set (set l 9 f) 10 0)) ws e (λ x. x) h;
+        first = by-words (λ (l : List ℕ). firstIn (getD l 8 0) f ≡ f % 8 → FirstInWord (set (set l 9 f) 10 0)) ws e (λ x. x) h;
         words = length-set (set ws 9 f) 10 0 ∙ length-set ws 9 f ∙ e;
       }
 
@@ -228,12 +228,12 @@ module _ (ws : List ℕ) (b x : ℕ) (left : List ℕ) (e : length ws ≡ 15) wh
     same-0 : firstIn k 0 ≡ firstIn k (getD ws 9 0)
     same-0 = first-forward k 0 l ∙ sym (first-forward k (getD ws 9 0) l)
 
-    pub forward-turned : (k + 6) % 8 ≡ p → Passed (Going Reverse) (set (set ws 9 0) 10 0) p (valueOf b) x left → Received ws b x left
+    pub forward-turned : (k + 6) % 8 ≡ p → PassedPiece (Going Reverse) (set (set ws 9 0) 10 0) p (valueOf b) x left → Received ws b x left
     forward-turned t =
         passes ws (set (set ws 9 0) 10 0) left b x false false (Going Reverse)
         (stand-in ws b (omega arith) ∙ rw (lt-ltb k 8 l, ne-eqb k p z, eq-eqb ((k + 6) % 8) p t)) refl (alike-both ws 0 e same-0)
 
-    pub forward-broken : ((k + 6) % 8 ≡ p → ⊥) → Passed (Going Forward) (set (set ws 9 0) 10 0) p (valueOf b) x left → Received ws b x left
+    pub forward-broken : ((k + 6) % 8 ≡ p → ⊥) → PassedPiece (Going Forward) (set (set ws 9 0) 10 0) p (valueOf b) x left → Received ws b x left
     forward-broken t =
         passes ws (set (set ws 9 0) 10 0) left b x false false (Going Forward)
         (stand-in ws b (omega arith) ∙ rw (lt-ltb k 8 l, ne-eqb k p z, ne-eqb ((k + 6) % 8) p t)) refl (alike-both ws 0 e same-0)
@@ -243,87 +243,87 @@ module _ (ws : List ℕ) (b x : ℕ) (left : List ℕ) (e : length ws ≡ 15) wh
     same-7 : firstIn k 7 ≡ firstIn k (getD ws 9 0)
     same-7 = first-reverse k 7 h l ∙ sym (first-reverse k (getD ws 9 0) h l)
 
-    pub reverse-turned : (k + 2) % 8 ≡ p → Passed (Going Forward) (set (set ws 9 7) 10 0) p (valueOf b) x left → Received ws b x left
+    pub reverse-turned : (k + 2) % 8 ≡ p → PassedPiece (Going Forward) (set (set ws 9 7) 10 0) p (valueOf b) x left → Received ws b x left
     reverse-turned t =
         passes ws (set (set ws 9 7) 10 0) left b x false false (Going Forward)
         (stand-in ws b (omega arith) ∙ rw (le-ltb k 8 h, lt-ltb k 16 l, ne-eqb k (p + 8) z, eq-eqb ((k + 2) % 8) p t)) refl (alike-both ws 7 e same-7)
 
-    pub reverse-broken : ((k + 2) % 8 ≡ p → ⊥) → Passed (Going Reverse) (set (set ws 9 7) 10 0) p (valueOf b) x left → Received ws b x left
+    pub reverse-broken : ((k + 2) % 8 ≡ p → ⊥) → PassedPiece (Going Reverse) (set (set ws 9 7) 10 0) p (valueOf b) x left → Received ws b x left
     reverse-broken t =
         passes ws (set (set ws 9 7) 10 0) left b x false false (Going Reverse)
         (stand-in ws b (omega arith) ∙ rw (le-ltb k 8 h, lt-ltb k 16 l, ne-eqb k (p + 8) z, ne-eqb ((k + 2) % 8) p t)) refl (alike-both ws 7 e same-7)
 
   -- Forward, in no sequence.
   module _ (h : 16 ≤ k) (l : k < 24) where
-    pub out-forward-on : k ≡ 16 + p → Passed (Going Forward) ws p (valueOf b) x left → Received ws b x left
+    pub out-forward-on : k ≡ 16 + p → PassedPiece (Going Forward) ws p (valueOf b) x left → Received ws b x left
     out-forward-on t =
         passes ws ws left b x true true (Going Forward)
         (stand-in ws b (omega arith) ∙ rw (le-ltb k 8 (omega arith), le-ltb k 16 h, lt-ltb k 24 l, eq-eqb k (16 + p) t)) (count-outside ws h (omega arith)) (alike-same ws)
 
-    pub out-forward-turned : (k ≡ 16 + p → ⊥) → (k + 6) % 8 ≡ p → Passed (Going Reverse) (set ws 10 0) p (valueOf b) x left → Received ws b x left
+    pub out-forward-turned : (k ≡ 16 + p → ⊥) → (k + 6) % 8 ≡ p → PassedPiece (Going Reverse) (set ws 10 0) p (valueOf b) x left → Received ws b x left
     out-forward-turned z t =
         passes ws (set ws 10 0) left b x false false (Going Reverse)
         (stand-in ws b (omega arith) ∙ rw (le-ltb k 8 (omega arith), le-ltb k 16 h, lt-ltb k 24 l, ne-eqb k (16 + p) z, eq-eqb ((k + 6) % 8) p t)) refl (alike-unlocked ws e)
 
-    pub out-forward-broken : (k ≡ 16 + p → ⊥) → ((k + 6) % 8 ≡ p → ⊥) → Passed (Going Forward) (set ws 10 0) p (valueOf b) x left → Received ws b x left
+    pub out-forward-broken : (k ≡ 16 + p → ⊥) → ((k + 6) % 8 ≡ p → ⊥) → PassedPiece (Going Forward) (set ws 10 0) p (valueOf b) x left → Received ws b x left
     out-forward-broken z t =
         passes ws (set ws 10 0) left b x false false (Going Forward)
         (stand-in ws b (omega arith) ∙ rw (le-ltb k 8 (omega arith), le-ltb k 16 h, lt-ltb k 24 l, ne-eqb k (16 + p) z, ne-eqb ((k + 6) % 8) p t)) refl (alike-unlocked ws e)
 
   -- In reverse, in no sequence.
   module _ (h : 24 ≤ k) (l : k < 32) where
-    pub out-reverse-on : k ≡ 24 + p → Passed (Going Reverse) ws p (valueOf b) x left → Received ws b x left
+    pub out-reverse-on : k ≡ 24 + p → PassedPiece (Going Reverse) ws p (valueOf b) x left → Received ws b x left
     out-reverse-on t =
         passes ws ws left b x true true (Going Reverse)
         (stand-in ws b (omega arith) ∙ rw (le-ltb k 8 (omega arith), le-ltb k 16 (omega arith), le-ltb k 24 h, lt-ltb k 32 l, eq-eqb k (24 + p) t)) (count-outside ws (omega arith) (omega arith)) (alike-same ws)
 
-    pub out-reverse-turned : (k ≡ 24 + p → ⊥) → (k + 2) % 8 ≡ p → Passed (Going Forward) (set ws 10 0) p (valueOf b) x left → Received ws b x left
+    pub out-reverse-turned : (k ≡ 24 + p → ⊥) → (k + 2) % 8 ≡ p → PassedPiece (Going Forward) (set ws 10 0) p (valueOf b) x left → Received ws b x left
     out-reverse-turned z t =
         passes ws (set ws 10 0) left b x false false (Going Forward)
         (stand-in ws b (omega arith) ∙ rw (le-ltb k 8 (omega arith), le-ltb k 16 (omega arith), le-ltb k 24 h, lt-ltb k 32 l, ne-eqb k (24 + p) z, eq-eqb ((k + 2) % 8) p t)) refl (alike-unlocked ws e)
 
-    pub out-reverse-broken : (k ≡ 24 + p → ⊥) → ((k + 2) % 8 ≡ p → ⊥) → Passed (Going Reverse) (set ws 10 0) p (valueOf b) x left → Received ws b x left
+    pub out-reverse-broken : (k ≡ 24 + p → ⊥) → ((k + 2) % 8 ≡ p → ⊥) → PassedPiece (Going Reverse) (set ws 10 0) p (valueOf b) x left → Received ws b x left
     out-reverse-broken z t =
         passes ws (set ws 10 0) left b x false false (Going Reverse)
         (stand-in ws b (omega arith) ∙ rw (le-ltb k 8 (omega arith), le-ltb k 16 (omega arith), le-ltb k 24 h, lt-ltb k 32 l, ne-eqb k (24 + p) z, ne-eqb ((k + 2) % 8) p t)) refl (alike-unlocked ws e)
 
   -- No direction, in no sequence.
   module _ (h : 32 ≤ k) (l : k < 40) where
-    pub second-forward : (k + 1) % 8 ≡ p → Passed (Going Forward) ws p (valueOf b) x left → Received ws b x left
+    pub second-forward : (k + 1) % 8 ≡ p → PassedPiece (Going Forward) ws p (valueOf b) x left → Received ws b x left
     second-forward t =
         passes ws ws left b x false true (Going Forward)
         (stand-in ws b (omega arith) ∙ rw (le-ltb k 8 (omega arith), le-ltb k 16 (omega arith), le-ltb k 24 (omega arith), le-ltb k 32 h, lt-ltb k 40 l, eq-eqb ((k + 1) % 8) p t)) refl (alike-same ws)
 
-    pub second-reverse : ((k + 1) % 8 ≡ p → ⊥) → (k + 7) % 8 ≡ p → Passed (Going Reverse) ws p (valueOf b) x left → Received ws b x left
+    pub second-reverse : ((k + 1) % 8 ≡ p → ⊥) → (k + 7) % 8 ≡ p → PassedPiece (Going Reverse) ws p (valueOf b) x left → Received ws b x left
     second-reverse z t =
         passes ws ws left b x false true (Going Reverse)
         (stand-in ws b (omega arith) ∙ rw (le-ltb k 8 (omega arith), le-ltb k 16 (omega arith), le-ltb k 24 (omega arith), le-ltb k 32 h, lt-ltb k 40 l, ne-eqb ((k + 1) % 8) p z, eq-eqb ((k + 7) % 8) p t)) refl (alike-same ws)
 
-    pub second-apart : ((k + 1) % 8 ≡ p → ⊥) → ((k + 7) % 8 ≡ p → ⊥) → Passed NoDirection (set ws 10 0) p (valueOf b) x left → Received ws b x left
+    pub second-apart : ((k + 1) % 8 ≡ p → ⊥) → ((k + 7) % 8 ≡ p → ⊥) → PassedPiece NoDirection (set ws 10 0) p (valueOf b) x left → Received ws b x left
     second-apart z t =
         passes ws (set ws 10 0) left b x false false NoDirection
         (stand-in ws b (omega arith) ∙ rw (le-ltb k 8 (omega arith), le-ltb k 16 (omega arith), le-ltb k 24 (omega arith), le-ltb k 32 h, lt-ltb k 40 l, ne-eqb ((k + 1) % 8) p z, ne-eqb ((k + 7) % 8) p t)) refl (alike-unlocked ws e)
 
   -- Piece 0 alone.
   module _ (h : k ≡ 40) where
-    pub begun-0-reverse : p ≡ 7 → Passed (Going Reverse) (set ws 9 0) p (valueOf b) x left → Received ws b x left
+    pub begun-0-reverse : p ≡ 7 → PassedPiece (Going Reverse) (set ws 9 0) p (valueOf b) x left → Received ws b x left
     begun-0-reverse t =
         passes ws (set ws 9 0) left b x false true (Going Reverse)
         (stand-in ws b (omega arith) ∙ rw (h, t)) refl (alike-first ws 0 e (first-begun-0 k 0 h ∙ sym (first-begun-0 k (getD ws 9 0) h)))
 
-    pub begun-0-apart : (p ≡ 1 → ⊥) → (p ≡ 7 → ⊥) → Passed NoDirection (set (set ws 9 0) 10 0) p (valueOf b) x left → Received ws b x left
+    pub begun-0-apart : (p ≡ 1 → ⊥) → (p ≡ 7 → ⊥) → PassedPiece NoDirection (set (set ws 9 0) 10 0) p (valueOf b) x left → Received ws b x left
     begun-0-apart z t =
         passes ws (set (set ws 9 0) 10 0) left b x false false NoDirection
         (stand-in ws b (omega arith) ∙ rw (h, ne-eqb p 1 z, ne-eqb p 7 t)) refl (alike-both ws 0 e (first-begun-0 k 0 h ∙ sym (first-begun-0 k (getD ws 9 0) h)))
 
   -- Piece 7 alone.
   module _ (h : k ≡ 41) where
-    pub begun-7-forward : p ≡ 0 → Passed (Going Forward) (set ws 9 7) p (valueOf b) x left → Received ws b x left
+    pub begun-7-forward : p ≡ 0 → PassedPiece (Going Forward) (set ws 9 7) p (valueOf b) x left → Received ws b x left
     begun-7-forward t =
         passes ws (set ws 9 7) left b x false true (Going Forward)
         (stand-in ws b (omega arith) ∙ rw (h, t)) refl (alike-first ws 7 e (first-begun-7 k 7 h ∙ sym (first-begun-7 k (getD ws 9 0) h)))
 
-    pub begun-7-apart : (p ≡ 6 → ⊥) → (p ≡ 0 → ⊥) → Passed NoDirection (set (set ws 9 7) 10 0) p (valueOf b) x left → Received ws b x left
+    pub begun-7-apart : (p ≡ 6 → ⊥) → (p ≡ 0 → ⊥) → PassedPiece NoDirection (set (set ws 9 7) 10 0) p (valueOf b) x left → Received ws b x left
     begun-7-apart z t =
         passes ws (set (set ws 9 7) 10 0) left b x false false NoDirection
         (stand-in ws b (omega arith) ∙ rw (h, ne-eqb p 6 z, ne-eqb p 0 t)) refl (alike-both ws 7 e (first-begun-7 k 7 h ∙ sym (first-begun-7 k (getD ws 9 0) h)))
@@ -335,7 +335,7 @@ unfolding readerIn
 none-in ws b h = standing-none (getD ws 8 0) (pieceOf b) (getD ws 9 0) h
 
 pub first-of-all : (ws : List ℕ) (b x : ℕ) (left : List ℕ) (d : MaybeDirection) → 42 ≤ getD ws 8 0 → wayIn (getD ws 8 0) ≡ d
-    → Passed d ws (pieceOf b) (valueOf b) x left → Received ws b x left
+    → PassedPiece d ws (pieceOf b) (valueOf b) x left → Received ws b x left
 first-of-all ws b x left d h ed =
     passes ws ws left b x false true d (none-in ws b h ∙ ap (λ (w : MaybeDirection). ordered false w true) ed) refl (alike-same ws)
 
@@ -391,32 +391,32 @@ begun-7-on ws b x e h t ex =
 -- ---- a full message
 
 module _ (k : ℕ) where
-  pub stopped-none : wayIn k ≡ NoDirection → Stopped k 44
+  pub stopped-none : wayIn k ≡ NoDirection → StoppedOrder k 44
   unfolding wayIn lastIn countIn firstIn
   stopped-none h = record { direction = sym h; last = refl; count = refl; first = λ f. refl; running = refl }
 
-  pub stopped-forward : wayIn k ≡ Going Forward → Stopped k 42
+  pub stopped-forward : wayIn k ≡ Going Forward → StoppedOrder k 42
   unfolding wayIn lastIn countIn firstIn
   stopped-forward h = record { direction = sym h; last = refl; count = refl; first = λ f. refl; running = refl }
 
-  pub stopped-reverse : wayIn k ≡ Going Reverse → Stopped k 43
+  pub stopped-reverse : wayIn k ≡ Going Reverse → StoppedOrder k 43
   unfolding wayIn lastIn countIn firstIn
   stopped-reverse h = record { direction = sym h; last = refl; count = refl; first = λ f. refl; running = refl }
 
-low : (n : ℕ) → n ≤ 7 → n % 8 ≡ n
-low n h = omega arith
+small-mod : (n : ℕ) → n ≤ 7 → n % 8 ≡ n
+small-mod n h = omega arith
 
-informs-in : (ws : List ℕ) (t : MtcTime) (o f m w : ℕ) → length ws ≡ 15 → Stopped (getD ws 8 0) o
+informs-in : (ws : List ℕ) (t : MtcTime) (o f m w : ℕ) → length ws ≡ 15 → StoppedOrder (getD ws 8 0) o
     → f ≡ firstIn (getD ws 8 0) (getD (set ws 8 o) 9 0) → timeIn m w ≡ Time t
     → readerIn (set (set (set (set (set (set ws 8 o) 9 f) 10 0) 11 0) 13 m) 14 w) ≡ informed (readerIn ws) t
 unfolding readerIn nibblesIn timeIn
 informs-in ws t o f m w e =
     by-words
-    (λ (l : List ℕ). Stopped (getD l 8 0) o → f ≡ firstIn (getD l 8 0) (getD (set l 8 o) 9 0) → timeIn m w ≡ Time t → readerIn (set (set (set (set (set (set l 8 o) 9 f) 10 0) 11 0) 13 m) 14 w) ≡ informed (readerIn l) t)
+    (λ (l : List ℕ). StoppedOrder (getD l 8 0) o → f ≡ firstIn (getD l 8 0) (getD (set l 8 o) 9 0) → timeIn m w ≡ Time t → readerIn (set (set (set (set (set (set l 8 o) 9 f) 10 0) 11 0) 13 m) 14 w) ≡ informed (readerIn l) t)
     ws e
-    (λ s ef et. rw (s .direction, s .last, s .count, s .first f, s .running, et, ef) (rw (low (firstIn (getD (spelled 15 ws) 8 0) (getD (spelled 15 ws) 9 0)) (first-small (getD (spelled 15 ws) 8 0) (getD (spelled 15 ws) 9 0)))))
+    (λ s ef et. rw (s .direction, s .last, s .count, s .first f, s .running, et, ef) (rw (small-mod (firstIn (getD (spelled 15 ws) 8 0) (getD (spelled 15 ws) 9 0)) (order-first-small (getD (spelled 15 ws) 8 0) (getD (spelled 15 ws) 9 0)))))
 
-pub informs : (ws : List ℕ) (t : MtcTime) (o f m w : ℕ) → length ws ≡ 15 → Stopped (getD ws 8 0) o
+pub informs : (ws : List ℕ) (t : MtcTime) (o f m w : ℕ) → length ws ≡ 15 → StoppedOrder (getD ws 8 0) o
     → f ≡ firstIn (getD ws 8 0) (getD (set ws 8 o) 9 0) → m ≡ 1 + 2 * bitsOf (t .rate) → labelIn (t .rate) w ≡ t
     → readerIn (set (set (set (set (set (set ws 8 o) 9 f) 10 0) 11 0) 13 m) 14 w) ≡ afterFullMessage (readerIn ws) t
 informs ws t o f m w e s ef em ew =

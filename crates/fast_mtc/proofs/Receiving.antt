@@ -9,7 +9,7 @@ use lib.Dec.{T, ltb, eqb, lit≤}
 use lib.ListN.{length, getD, set}
 use Rattle.mtc.proofs.Laws.{Sound, sound-by, piece-stands}
 use Rattle.mtc.specs.QuarterFrame.{pieceOf, valueOf}
-use Rattle.mtc.specs.Reader.{Standing, control, ordered, orderAfter, starts, numberAfter, stored, completed, readerBy, reportBy, eventWith, sequenceOf, afterByte, eventOf}
+use Rattle.mtc.specs.Reader.{Standing, control, ordered, orderAfter, starts, numberAfter, stored, completed, readerByNumber, reportByNumber, eventWith, sequenceOf, afterByte, eventOf}
 use Rattle.mtc.specs.declared.generator.Direction.the-variants.{Forward, Reverse}
 use Rattle.mtc.specs.declared.generator.MaybePiece.the-variants.{NoPiece, Piece}
 use Rattle.mtc.specs.declared.reader.MaybeDirection.{MaybeDirection}
@@ -17,34 +17,34 @@ use Rattle.mtc.specs.declared.reader.MaybeDirection.the-variants.{NoDirection, 
 use Rattle.mtc.specs.declared.reader.MaybeSequence.the-variants.{NoSequence, Sequence}
 use Rattle.mtc.specs.declared.reader.MtcReader.{MtcReader}
 use Rattle.fast_mtc.specs.Generator.{isSet}
-use Rattle.fast_mtc.specs.Inner.{Received, FirstKept, Passed, Ended}
+use Rattle.fast_mtc.specs.Inner.{Received, FirstKept, PassedPiece, SequenceEnded}
 use Rattle.fast_mtc.specs.Reader.{wayIn, lastIn, countIn, firstIn, nibblesIn, readerIn, flatEvent}
-use Rattle.fast_mtc.proofs.Orders.{standingIn, standing, standing-none, count-small, first-small, last-fits}
+use Rattle.fast_mtc.proofs.Orders.{standingIn, standing, standing-none, order-count-small, order-first-small, last-fits}
 use Rattle.fast_mtc.proofs.Spelled.{spelled, by-words, by-piece}
 
 -- ---- any words stand for a sound reader
 
-nibble-small : (ws : List ℕ) (j : ℕ) → getD (nibblesIn ws) j 0 ≤ 15
+word-nibble-small : (ws : List ℕ) (j : ℕ) → getD (nibblesIn ws) j 0 ≤ 15
 unfolding nibblesIn
-nibble-small ws zero = omega arith
-nibble-small ws (suc zero) = omega arith
-nibble-small ws (suc (suc zero)) = omega arith
-nibble-small ws (suc (suc (suc zero))) = omega arith
-nibble-small ws (suc (suc (suc (suc zero)))) = omega arith
-nibble-small ws (suc (suc (suc (suc (suc zero))))) = omega arith
-nibble-small ws (suc (suc (suc (suc (suc (suc zero)))))) = omega arith
-nibble-small ws (suc (suc (suc (suc (suc (suc (suc zero))))))) = omega arith
-nibble-small ws (suc (suc (suc (suc (suc (suc (suc (suc j)))))))) = omega arith
+word-nibble-small ws zero = omega arith
+word-nibble-small ws (suc zero) = omega arith
+word-nibble-small ws (suc (suc zero)) = omega arith
+word-nibble-small ws (suc (suc (suc zero))) = omega arith
+word-nibble-small ws (suc (suc (suc (suc zero)))) = omega arith
+word-nibble-small ws (suc (suc (suc (suc (suc zero))))) = omega arith
+word-nibble-small ws (suc (suc (suc (suc (suc (suc zero)))))) = omega arith
+word-nibble-small ws (suc (suc (suc (suc (suc (suc (suc zero))))))) = omega arith
+word-nibble-small ws (suc (suc (suc (suc (suc (suc (suc (suc j)))))))) = omega arith
 
-eight : (ws : List ℕ) → length (nibblesIn ws) ≡ 8
+eight-nibbles : (ws : List ℕ) → length (nibblesIn ws) ≡ 8
 unfolding nibblesIn
-eight ws = refl
+eight-nibbles ws = refl
 
 pub sound-in : (ws : List ℕ) → Sound (readerIn ws)
 unfolding readerIn
 sound-in ws =
-    sound-by (readerIn ws) (count-small (getD ws 8 0)) (first-small (getD ws 8 0) (getD ws 9 0)) (last-fits (getD ws 8 0))
-    (nibble-small ws) (eight ws)
+    sound-by (readerIn ws) (order-count-small (getD ws 8 0)) (order-first-small (getD ws 8 0) (getD ws 9 0)) (last-fits (getD ws 8 0))
+    (word-nibble-small ws) (eight-nibbles ws)
 
 -- ---- a piece that is not the next one of a sequence
 
@@ -60,7 +60,7 @@ pub record Alike (keeps : Bool) (a r : MtcReader) : Type 0 where
   pub time : a .time ≡ r .time
 
 alike : (a r : MtcReader) (nx keeps : Bool) (d : MaybeDirection) (n p v : ℕ) → Alike keeps a r
-    → readerBy a (ordered false d true) n p v ≡ readerBy r (ordered nx d keeps) n p v
+    → readerByNumber a (ordered false d true) n p v ≡ readerByNumber r (ordered nx d keeps) n p v
 alike a r nx keeps d n p v h = rw (h .nibbles, h .first, h .locked, h .previous, h .time)
 
 no-end : (b : Bool) → eqb (numberAfter 0 b) 8 ≡ false
@@ -71,7 +71,7 @@ no-end false = refl
 pub passes : (ws before left : List ℕ) (b e : ℕ) (nx keeps : Bool) (d : MaybeDirection)
     → orderAfter (control (readerIn ws)) (readerIn ws .last) (readerIn ws .direction) (pieceOf b) ≡ ordered nx d keeps
     → cond nx (readerIn ws .count) 0 ≡ 0 → Alike keeps (readerIn before) (readerIn ws)
-    → Passed d before (pieceOf b) (valueOf b) e left → Received ws b e left
+    → PassedPiece d before (pieceOf b) (valueOf b) e left → Received ws b e left
 passes ws before left b e nx keeps d eo en al q =
     let n : ℕ = numberAfter 0 (starts d (pieceOf b)) in
     let s = piece-stands (readerIn ws) (sound-in ws) b n (ordered nx d keeps) eo (ap (λ (k : ℕ). numberAfter k (starts d (pieceOf b))) en) in
@@ -146,7 +146,7 @@ module _ (ws : List ℕ) (b : ℕ) (e : length ws ≡ 15) where
   ends : (o : Standing) (p x : ℕ) (mid left : List ℕ) → pieceOf b ≡ p
       → orderAfter (control R) (R .last) (R .direction) (pieceOf b) ≡ o
       → numberAfter (cond (o .next) (R .count) 0) (starts (o .direction) (pieceOf b)) ≡ 8
-      → readerIn mid ≡ stored R o 8 (pieceOf b) (valueOf b) → Ended p mid x left → Received ws b x left
+      → readerIn mid ≡ stored R o 8 (pieceOf b) (valueOf b) → SequenceEnded p mid x left → Received ws b x left
   ends o p x mid left ep eo en em q =
       let s = piece-stands R (sound-in ws) b 8 o eo en in
       record {
@@ -180,7 +180,7 @@ module _ (ws : List ℕ) (b : ℕ) (e : length ws ≡ 15) where
     pub forward-going : readerIn (set (set ws (pieceOf b) b) 8 ((pieceOf b + 1) % 8)) .direction ≡ Going Forward
     forward-going = ap (λ (r : MtcReader). r .direction) forward-left
 
-    pub forward-ends : (x : ℕ) (left : List ℕ) → pieceOf b ≡ 7 → Ended 7 (set (set ws (pieceOf b) b) 8 ((pieceOf b + 1) % 8)) x left → Received ws b x left
+    pub forward-ends : (x : ℕ) (left : List ℕ) → pieceOf b ≡ 7 → SequenceEnded 7 (set (set ws (pieceOf b) b) 8 ((pieceOf b + 1) % 8)) x left → Received ws b x left
     forward-ends x left h =
         let n : pieceOf b + 1 ≡ 8 = omega arith in
         ends (ordered true (Going Forward) true) 7 x (set (set ws (pieceOf b) b) 8 ((pieceOf b + 1) % 8)) left h forward-stands (forward-counts ∙ n)
@@ -210,7 +210,7 @@ module _ (ws : List ℕ) (b : ℕ) (e : length ws ≡ 15) where
     pub reverse-going : readerIn (set (set ws (pieceOf b) b) 8 (8 + (pieceOf b + 7) % 8)) .direction ≡ Going Reverse
     reverse-going = ap (λ (r : MtcReader). r .direction) reverse-left
 
-    pub reverse-ends : (x : ℕ) (left : List ℕ) → pieceOf b ≡ 0 → Ended 0 (set (set ws (pieceOf b) b) 8 (8 + (pieceOf b + 7) % 8)) x left → Received ws b x left
+    pub reverse-ends : (x : ℕ) (left : List ℕ) → pieceOf b ≡ 0 → SequenceEnded 0 (set (set ws (pieceOf b) b) 8 (8 + (pieceOf b + 7) % 8)) x left → Received ws b x left
     reverse-ends x left h =
         let n : 8 - pieceOf b ≡ 8 = omega arith in
         ends (ordered true (Going Reverse) true) 0 x (set (set ws (pieceOf b) b) 8 (8 + (pieceOf b + 7) % 8)) left h reverse-stands (reverse-counts ∙ n)
@@ -234,9 +234,9 @@ module _ (ws : List ℕ) (b p : ℕ) (e : length ws ≡ 15) (ep : p ≡ pieceOf 
     pub next-forward-going : readerIn (forward-words p) .direction ≡ Going Forward
     next-forward-going = at (λ (q : ℕ). readerIn (forward-words q) .direction ≡ Going Forward) (forward-going ws b e (k ∙ ep))
 
-    pub next-forward-ends : (x : ℕ) (left : List ℕ) → p ≡ 7 → Ended 7 (forward-words p) x left → Received ws b x left
+    pub next-forward-ends : (x : ℕ) (left : List ℕ) → p ≡ 7 → SequenceEnded 7 (forward-words p) x left → Received ws b x left
     next-forward-ends x left h q =
-        forward-ends ws b e (k ∙ ep) x left (sym ep ∙ h) (subst (λ (n : ℕ). Ended 7 (forward-words n) x left) ep q)
+        forward-ends ws b e (k ∙ ep) x left (sym ep ∙ h) (subst (λ (n : ℕ). SequenceEnded 7 (forward-words n) x left) ep q)
 
   module _ (k : getD ws 8 0 ≡ p + 8) where
     abbrev reverse-words : ℕ → List ℕ
@@ -253,6 +253,6 @@ module _ (ws : List ℕ) (b p : ℕ) (e : length ws ≡ 15) (ep : p ≡ pieceOf 
     pub next-reverse-going : readerIn (reverse-words p) .direction ≡ Going Reverse
     next-reverse-going = at (λ (q : ℕ). readerIn (reverse-words q) .direction ≡ Going Reverse) (reverse-going ws b e above)
 
-    pub next-reverse-ends : (x : ℕ) (left : List ℕ) → p ≡ 0 → Ended 0 (reverse-words p) x left → Received ws b x left
+    pub next-reverse-ends : (x : ℕ) (left : List ℕ) → p ≡ 0 → SequenceEnded 0 (reverse-words p) x left → Received ws b x left
     next-reverse-ends x left h q =
-        reverse-ends ws b e above x left (sym ep ∙ h) (subst (λ (n : ℕ). Ended 0 (reverse-words n) x left) ep q)
+        reverse-ends ws b e above x left (sym ep ∙ h) (subst (λ (n : ℕ). SequenceEnded 0 (reverse-words n) x left) ep q)

@@ -14,8 +14,8 @@ use Rattle.labels.specs.declared.time.MtcTime.{MtcTime}
 use Rattle.labels.specs.declared.time.TimeCodeType.{TimeCodeType}
 use Rattle.labels.specs.declared.time.TimeCodeType.the-variants.{Fps24, Fps25, Fps30Drop, Fps30}
 use Rattle.labels.specs.St12.{label, framesPerSecond, isDropFrame, isValid}
-use Rattle.labels.specs.Time.{bitsOf, typeOf, dayOf, formula, frameCount, digits, labelAt, modZ, addFrames}
-use Rattle.labels.proofs.Laws.{count-by-formula, count-below, even-label, drop-split, label-round, moved-by-count, moved-by-sum, moved-by-none, moved-valid, two-later, frames-later, in-range-valid, mod-below, valid-widths, fps-small, day-positive, day-small}
+use Rattle.labels.specs.Time.{bitsOf, typeOf, dayOf, formula, frameCount, labelAtSecond, labelAt, modZ, addFrames}
+use Rattle.labels.proofs.Laws.{count-by-formula, count-below, even-label, drop-split, label-round, moved-by-count, moved-by-sum, moved-by-none, moved-valid, two-later, frames-later, in-range-valid, mod-below, valid-widths, bits-small, rate-back, fps-small, day-positive, day-small}
 use Rattle.fast_mtc.specs.Label.{labelNumber}
 
 -- ---- rates by their bits
@@ -44,12 +44,6 @@ is-30 Fps25 d a b = absurd (b refl)
 is-30 Fps30Drop d a b = absurd (d refl)
 is-30 Fps30 d a b = refl
 
-bits-small : (r : TimeCodeType) → bitsOf r ≤ 3
-bits-small Fps24 = lit≤ tt
-bits-small Fps25 = lit≤ tt
-bits-small Fps30Drop = lit≤ tt
-bits-small Fps30 = lit≤ tt
-
 pub two-fit : (r : TimeCodeType) → 2 ≤ framesPerSecond r
 two-fit Fps24 = lit≤ tt
 two-fit Fps25 = lit≤ tt
@@ -59,15 +53,15 @@ two-fit Fps30 = lit≤ tt
 -- ---- counts
 
 -- 1798 frames for each minute, and two more for each tenth.
-drop-formula : (m s f : ℕ) → m * 1798 + s * 30 + f + m / 10 * 2 ≡ formula Fps30Drop m s f
-drop-formula m s f = omega arith
+drop-by-minutes : (m s f : ℕ) → m * 1798 + s * 30 + f + m / 10 * 2 ≡ formula Fps30Drop m s f
+drop-by-minutes m s f = omega arith
 
 pub drop-count : (t : MtcTime) (n : ℕ) → bitsOf (t .rate) ≡ 2
     → n ≡ ((t .hours * 60 + t .minutes) * 1798 + t .seconds * 30 + t .frames + (t .hours * 60 + t .minutes) / 10 * 2) % 2589408
     → n ≡ frameCount t
 drop-count t n e h =
     h
-    ∙ ap (λ (k : ℕ). k % 2589408) (drop-formula (t .hours * 60 + t .minutes) (t .seconds) (t .frames))
+    ∙ ap (λ (k : ℕ). k % 2589408) (drop-by-minutes (t .hours * 60 + t .minutes) (t .seconds) (t .frames))
     ∙ subst (λ (r : TimeCodeType). formula r (t .hours * 60 + t .minutes) (t .seconds) (t .frames) % dayOf r ≡ frameCount t)
     (is-drop (t .rate) e) (sym (count-by-formula t))
 
@@ -103,14 +97,14 @@ even-told a n f d r e h = rw (e, h)
 
 -- At drop-frame by the minute that the quotient gives, at a place past the first two.
 pub by-quotient : (n m x : ℕ) → n < 2589408 → m ≡ n * 5 / 8991 → x ≡ n - (m * 1798 + m / 10 * 2) → 2 ≤ x
-    → digits Fps30Drop (m * 60 + x / 30) (x % 30) ≡ labelAt n Fps30Drop
+    → labelAtSecond Fps30Drop (m * 60 + x / 30) (x % 30) ≡ labelAt n Fps30Drop
 by-quotient n m x k em ex h =
     let low : m * 8991 ≤ n * 5 = omega (arith, em) in
     let high : n * 5 < m * 8991 + 8991 = omega (arith, em) in
     let whole : n ≡ 17982 * (m / 10) + (1798 * (m % 10) + x) = omega (arith, low, ex) in
     let small : x < 1800 = omega (arith, low, high, ex) in
     let minute : m ≡ 10 * (m / 10) + m % 10 = omega arith in
-    ap (λ (k : ℕ). digits Fps30Drop (k * 60 + x / 30) (x % 30)) minute
+    ap (λ (k : ℕ). labelAtSecond Fps30Drop (k * 60 + x / 30) (x % 30)) minute
     ∙ sym (drop-split n (m / 10) (m % 10) x (mod-eq-of-lt k ∙ whole) (omega arith) small (inr h))
 
 pub drop-at : (n k : ℕ) (s : TimeCodeType) → bitsOf s ≡ 2 → k ≡ n % 2589408 → labelAt k Fps30Drop ≡ labelAt n s
@@ -123,9 +117,9 @@ even-at n k s r e h = rw (h, e) (label-round n r)
 -- ---- one number
 
 -- A minute of the day and a place in it are the label's numbers.
-pub in-minute : (m x : ℕ) → m < 1440 → x < 1800
-    → label Fps30Drop (m / 60) (m - m / 60 * 60) (x / 30) (x - x / 30 * 30) ≡ digits Fps30Drop (m * 60 + x / 30) (x % 30)
-in-minute m x hm hx =
+pub label-in-minute : (m x : ℕ) → m < 1440 → x < 1800
+    → label Fps30Drop (m / 60) (m - m / 60 * 60) (x / 30) (x - x / 30 * 30) ≡ labelAtSecond Fps30Drop (m * 60 + x / 30) (x % 30)
+label-in-minute m x hm hx =
     let hours : (m * 60 + x / 30) / 3600 ≡ m / 60 = omega arith in
     let minutes : (m * 60 + x / 30) / 60 % 60 ≡ m - m / 60 * 60 = omega arith in
     let seconds : (m * 60 + x / 30) % 60 ≡ x / 30 = omega arith in
@@ -135,10 +129,10 @@ in-minute m x hm hx =
 -- The same as one number.
 pub in-number : (m x : ℕ) → m < 1440 → x < 1800
     → m * 256 - m / 60 * 15359 + (x * 16777216 - x / 30 * 503250944) + 8589934592
-    ≡ labelNumber (digits Fps30Drop (m * 60 + x / 30) (x % 30))
+    ≡ labelNumber (labelAtSecond Fps30Drop (m * 60 + x / 30) (x % 30))
 unfolding labelNumber
 in-number m x hm hx =
-    numbers (m / 60) (m - m / 60 * 60) (x / 30) (x - x / 30 * 30) m x (omega arith) (omega arith) ∙ ap labelNumber (in-minute m x hm hx)
+    numbers (m / 60) (m - m / 60 * 60) (x / 30) (x - x / 30 * 30) m x (omega arith) (omega arith) ∙ ap labelNumber (label-in-minute m x hm hx)
   where
     numbers : (h u s f m x : ℕ) → m ≡ h * 60 + u → x ≡ s * 30 + f
         → m * 256 - h * 15359 + (x * 16777216 - s * 503250944) + 8589934592
@@ -149,8 +143,8 @@ in-number m x hm hx =
 pub parts-fit : (a b y z : ℕ) → a ≤ 400000 → y ≤ 40000000000 → Fits w64 (a - b + (y - z))
 parts-fit a b y z ha hy = record { fits = omega arith }
 
-pub number-fits : (a b y z k : ℕ) → a ≤ 400000 → y ≤ 40000000000 → k ≤ 20000000000 → Fits w64 (a - b + (y - z) + k)
-number-fits a b y z k ha hy hk = record { fits = omega arith }
+pub label-number-fits : (a b y z k : ℕ) → a ≤ 400000 → y ≤ 40000000000 → k ≤ 20000000000 → Fits w64 (a - b + (y - z) + k)
+label-number-fits a b y z k ha hy hk = record { fits = omega arith }
 
 -- The numbers of the labels of counts of the day at the other rates.
 pub number-24 : (n : ℕ) → n < 2073600
@@ -160,7 +154,7 @@ unfolding labelNumber
 number-24 n k =
     numbers (n / 1440) (n - n / 1440 * 1440) (n / 1440 / 60) ((n - n / 1440 * 1440) / 24) (n / 24 / 3600) (n / 24 / 60 % 60)
     (n / 24 % 60) (n % 24) (omega arith) (omega arith) (omega arith) (omega arith)
-    ∙ sym (ap labelNumber (even-label n Fps24 refl ∙ ap (λ (x : ℕ). digits Fps24 (x / 24) (x % 24)) (mod-eq-of-lt k)))
+    ∙ sym (ap labelNumber (even-label n Fps24 refl ∙ ap (λ (x : ℕ). labelAtSecond Fps24 (x / 24) (x % 24)) (mod-eq-of-lt k)))
   where
     numbers : (m x p q h u s f : ℕ) → p ≡ h → q ≡ s → m ≡ h * 60 + u → x ≡ s * 24 + f
         → m * 256 - p * 15359 + (x * 16777216 - q * 402587648) ≡ h + u * 256 + s * 65536 + f * 16777216 + 0 * 4294967296
@@ -173,7 +167,7 @@ unfolding labelNumber
 number-25 n k =
     numbers (n / 1500) (n - n / 1500 * 1500) (n / 1500 / 60) ((n - n / 1500 * 1500) / 25) (n / 25 / 3600) (n / 25 / 60 % 60)
     (n / 25 % 60) (n % 25) (omega arith) (omega arith) (omega arith) (omega arith)
-    ∙ sym (ap labelNumber (even-label n Fps25 refl ∙ ap (λ (x : ℕ). digits Fps25 (x / 25) (x % 25)) (mod-eq-of-lt k)))
+    ∙ sym (ap labelNumber (even-label n Fps25 refl ∙ ap (λ (x : ℕ). labelAtSecond Fps25 (x / 25) (x % 25)) (mod-eq-of-lt k)))
   where
     numbers : (m x p q h u s f : ℕ) → p ≡ h → q ≡ s → m ≡ h * 60 + u → x ≡ s * 25 + f
         → m * 256 - p * 15359 + (x * 16777216 - q * 419364864) + 4294967296 ≡ h + u * 256 + s * 65536 + f * 16777216 + 1 * 4294967296
@@ -186,7 +180,7 @@ unfolding labelNumber
 number-30 n k =
     numbers (n / 1800) (n - n / 1800 * 1800) (n / 1800 / 60) ((n - n / 1800 * 1800) / 30) (n / 30 / 3600) (n / 30 / 60 % 60)
     (n / 30 % 60) (n % 30) (omega arith) (omega arith) (omega arith) (omega arith)
-    ∙ sym (ap labelNumber (even-label n Fps30 refl ∙ ap (λ (x : ℕ). digits Fps30 (x / 30) (x % 30)) (mod-eq-of-lt k)))
+    ∙ sym (ap labelNumber (even-label n Fps30 refl ∙ ap (λ (x : ℕ). labelAtSecond Fps30 (x / 30) (x % 30)) (mod-eq-of-lt k)))
   where
     numbers : (m x p q h u s f : ℕ) → p ≡ h → q ≡ s → m ≡ h * 60 + u → x ≡ s * 30 + f
         → m * 256 - p * 15359 + (x * 16777216 - q * 503250944) + 12884901888 ≡ h + u * 256 + s * 65536 + f * 16777216 + 3 * 4294967296
@@ -237,8 +231,8 @@ moved-once n s z h e hk =
     let once : n + s - 2589408 ≡ (n + s) % 2589408 = omega (arith, below) in
     once ∙ ap (λ (k : ℕ). (n + k) % 2589408) e
 
-pub drop-below : (t : MtcTime) (n : ℕ) → bitsOf (t .rate) ≡ 2 → n ≡ frameCount t → n < 2589408
-drop-below t n e h = rw h (subst (λ (r : TimeCodeType). frameCount t < dayOf r) (is-drop (t .rate) e) (count-below t))
+pub drop-count-below : (t : MtcTime) (n : ℕ) → bitsOf (t .rate) ≡ 2 → n ≡ frameCount t → n < 2589408
+drop-count-below t n e h = rw h (subst (λ (r : TimeCodeType). frameCount t < dayOf r) (is-drop (t .rate) e) (count-below t))
 
 pub drop-added : (t : MtcTime) (z : ℤ) (n k : ℕ) → bitsOf (t .rate) ≡ 2 → n ≡ frameCount t → k ≡ (n + modZ z 2589408) % 2589408
     → labelAt k Fps30Drop ≡ addFrames t z
@@ -248,22 +242,12 @@ drop-added t z n k e h hk =
     ∙ ap (λ (x : ℕ). labelAt (x + modZ z 2589408) Fps30Drop) h
     ∙ subst (λ (r : TimeCodeType). labelAt (frameCount t + modZ z (dayOf r)) r ≡ addFrames t z) (is-drop (t .rate) e) (sym (moved-by-count t z))
 
--- At any rate a count and a residue.
-pub sum-fits : (t : MtcTime) (z : ℤ) (d k s : ℕ) → k ≡ frameCount t → d ≡ dayOf (t .rate) → s ≡ modZ z d → Fits w32 (k + s)
-sum-fits t z d k s ek ed es =
-    record { fits = omega (arith, ek, es, ed, count-below t, day-small (t .rate), mod-below z d (rw ed (day-positive (t .rate)))) }
-
+-- At any rate.
 pub added : (t : MtcTime) (z : ℤ) (d k s : ℕ) → k ≡ frameCount t → d ≡ dayOf (t .rate) → s ≡ modZ z d
     → labelAt (k + s) (t .rate) ≡ addFrames t z
 added t z d k s ek ed es = rw (ek, es, ed) (sym (moved-by-count t z))
 
 -- The label of a move's number.
-rate-back : (r : TimeCodeType) → typeOf (bitsOf r) ≡ r
-rate-back Fps24 = refl
-rate-back Fps25 = refl
-rate-back Fps30Drop = refl
-rate-back Fps30 = refl
-
 pub moved-numbered : (t : MtcTime) (z : ℤ) (n : ℕ) (r : TimeCodeType) → n ≡ labelNumber (addFrames t z) → r ≡ typeOf (n / 4294967296 % 256)
     → label r (n % 256) (n / 256 % 256) (n / 65536 % 256) (n / 16777216 % 256) ≡ addFrames t z
 moved-numbered t z n r e er =

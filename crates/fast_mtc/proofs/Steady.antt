@@ -10,7 +10,7 @@ use lib.Dec.{T, eqb, lit≤}
 use lib.IntN.{pos, negsuc}
 use lib.ListN.{length, getD, set}
 use Rattle.fast_mtc.specs.Generator.{isSet}
-use Rattle.fast_mtc.specs.Inner.{Ended, Steady, steady}
+use Rattle.fast_mtc.specs.Inner.{SequenceEnded, SteadyLabel, steady}
 use Rattle.fast_mtc.specs.Reader.{labelIn, timeIn, nibblesIn, readerIn, flatEvent, labelOr, reportIn, flatSequence, flatMaybeSequence}
 use Rattle.fast_mtc.specs.Time.{flatTime, noTime}
 use Rattle.fast_mtc.specs.declared.time.FlatTime.{FlatTime}
@@ -24,7 +24,7 @@ use Rattle.labels.specs.Time.{addFrames, bitsOf, rawTime}
 use Rattle.labels.specs.declared.time.MtcTime.{MtcTime}
 use Rattle.mtc.proofs.Laws.{sequence-of}
 use Rattle.mtc.specs.Generator.{final}
-use Rattle.mtc.specs.Reader.{rawOf, directionOf, reported, sameTime, jumps, sequenceOf, completed, eventWith}
+use Rattle.mtc.specs.Reader.{rawOf, directionOf, sequenceOfLabel, sameTime, jumps, sequenceOf, completed, eventWith}
 use Rattle.mtc.specs.declared.generator.Direction.{Direction}
 use Rattle.mtc.specs.declared.generator.Direction.the-variants.{Forward, Reverse}
 use Rattle.mtc.specs.declared.reader.MaybeDirection.{MaybeDirection}
@@ -35,8 +35,8 @@ use Rattle.mtc.specs.declared.reader.MaybeTime.the-variants.{NoTime, Time}
 use Rattle.mtc.specs.declared.reader.MtcReader.{MtcReader}
 use Rattle.mtc.specs.declared.reader.MtcSequence.{MtcSequence}
 
-same : (t : MtcTime) → sameTime t t ≡ true
-same t =
+same-time-self : (t : MtcTime) → sameTime t t ≡ true
+same-time-self t =
     rw (eq-eqb (t .hours) (t .hours) refl, eq-eqb (t .minutes) (t .minutes) refl, eq-eqb (t .seconds) (t .seconds) refl, eq-eqb (t .frames) (t .frames) refl, eq-eqb (bitsOf (t .rate)) (bitsOf (t .rate)) refl)
 
 -- ---- the previous label's word
@@ -49,18 +49,18 @@ frames-in t w e = ap (λ (u : MtcTime). u .frames) e
 byte-0 : (n : ℕ) → n % 256 ≡ n % 16777216 % 256
 byte-0 n = omega arith
 
-over : (x q : ℕ) → (x + q * 256) % 256 ≡ x % 256
-over x q = omega arith
+mod-over : (x q : ℕ) → (x + q * 256) % 256 ≡ x % 256
+mod-over x q = omega arith
 
 byte-1 : (n : ℕ) → n / 256 % 256 ≡ n % 16777216 / 256 % 256
 byte-1 n =
     let a : n / 256 ≡ n % 16777216 / 256 + n / 16777216 * 256 * 256 = omega arith in
-    ap (λ (x : ℕ). x % 256) a ∙ over (n % 16777216 / 256) (n / 16777216 * 256)
+    ap (λ (x : ℕ). x % 256) a ∙ mod-over (n % 16777216 / 256) (n / 16777216 * 256)
 
 byte-2 : (n : ℕ) → n / 65536 % 256 ≡ n % 16777216 / 65536 % 256
 byte-2 n =
     let a : n / 65536 ≡ n % 16777216 / 65536 + n / 16777216 * 256 = omega arith in
-    ap (λ (x : ℕ). x % 256) a ∙ over (n % 16777216 / 65536) (n / 16777216)
+    ap (λ (x : ℕ). x % 256) a ∙ mod-over (n % 16777216 / 65536) (n / 16777216)
 
 -- A word with other frames is that of the label with these.
 word-at : (t : MtcTime) (w v g : ℕ) → labelIn (t .rate) w ≡ t → v % 16777216 ≡ w % 16777216 → v / 16777216 % 256 ≡ g
@@ -88,7 +88,7 @@ module _ (t : MtcTime) (w m p : ℕ) (e : labelIn (t .rate) w ≡ t) (hh : t .ho
   few : framesPerSecond (t .rate) ≤ 30
   few = fps-small (t .rate)
 
-  steady-forward : p ≡ w - 33554432 → reported t Forward (timeIn m p) ≡ steady Forward t
+  steady-forward : p ≡ w - 33554432 → sequenceOfLabel t Forward (timeIn m p) ≡ steady Forward t
   unfolding steady
   steady-forward ep =
       let f : w / 16777216 % 256 ≡ t .frames = frames-in t w e in
@@ -99,9 +99,9 @@ module _ (t : MtcTime) (w m p : ℕ) (e : labelIn (t .rate) w ≡ t) (hh : t .ho
       = sym (two-later (t .rate) (t .hours) (t .minutes) (t .seconds) (t .frames - 2) hh hm hs (omega arith)) ∙ rw back in
       let next : addFrames t (pos 2) ≡ at (t .frames + 2)
       = sym (two-later (t .rate) (t .hours) (t .minutes) (t .seconds) (t .frames) hh hm hs hf) in
-      rw (before, here, next, same t)
+      rw (before, here, next, same-time-self t)
 
-  steady-reverse : p ≡ w + 33554432 → reported t Reverse (timeIn m p) ≡ steady Reverse t
+  steady-reverse : p ≡ w + 33554432 → sequenceOfLabel t Reverse (timeIn m p) ≡ steady Reverse t
   unfolding steady
   steady-reverse ep =
       let f : w / 16777216 % 256 ≡ t .frames = frames-in t w e in
@@ -112,12 +112,9 @@ module _ (t : MtcTime) (w m p : ℕ) (e : labelIn (t .rate) w ≡ t) (hh : t .ho
       = sym (two-earlier (t .rate) (t .hours) (t .minutes) (t .seconds) (t .frames + 2) hh hm hs (omega arith) hf) ∙ rw more in
       let next : addFrames t (negsuc 0) ≡ at (t .frames - 1)
       = sym (one-earlier (t .rate) (t .hours) (t .minutes) (t .seconds) (t .frames) hh hm hs hl (omega arith)) in
-      rw (before, here, next, same t)
+      rw (before, here, next, same-time-self t)
 
 -- ---- as the code finds it
-
-pub never : {P : Type 0} → false ≡ true → P
-never h = let z : _≡_ {A = ℕ} 0 1 = cc in absurd (omega arith)
 
 module _ (ws : List ℕ) (t : MtcTime) (w k x : ℕ) (d : Direction) (e : labelIn (t .rate) w ≡ t)
     (hd : (t .hours ≤ 23) × ((t .minutes ≤ 59) × (t .seconds ≤ 59))) (hl : 3 ≤ t .frames) (ek : k ≡ framesPerSecond (t .rate))
@@ -125,7 +122,7 @@ module _ (ws : List ℕ) (t : MtcTime) (w k x : ℕ) (d : Direction) (e : labelI
   more : t .frames + 2 < framesPerSecond (t .rate)
   more = omega (arith, two-fit (t .rate))
 
-  pub told-forward : d ≡ Forward → getD ws 12 0 ≡ w - 33554432 → Steady ws t d
+  pub told-forward : d ≡ Forward → getD ws 12 0 ≡ w - 33554432 → SteadyLabel ws t d
   told-forward ed ep =
       record {
         most = omega (arith, fps-small (t .rate));
@@ -133,7 +130,7 @@ module _ (ws : List ℕ) (t : MtcTime) (w k x : ℕ) (d : Direction) (e : labelI
         report = rw ed (steady-forward t w (getD ws 11 0) (getD ws 12 0) e (hd .0) (hd .1 .0) (hd .1 .1) hl more hw (em ∙ ex) ep);
       }
 
-  pub told-reverse : d ≡ Reverse → getD ws 12 0 ≡ w + 33554432 → Steady ws t d
+  pub told-reverse : d ≡ Reverse → getD ws 12 0 ≡ w + 33554432 → SteadyLabel ws t d
   told-reverse ed ep =
       record {
         most = omega (arith, fps-small (t .rate));
@@ -143,11 +140,11 @@ module _ (ws : List ℕ) (t : MtcTime) (w k x : ℕ) (d : Direction) (e : labelI
 
 -- ---- the report of words that hold eight pieces
 
-pub reports : (ws : List ℕ) (d : Direction) (raw : MtcTime) (m : MaybeTime) (s : MtcSequence) → readerIn ws .direction ≡ Going d
-    → raw ≡ rawOf (nibblesIn ws) → m ≡ readerIn ws .previous → s ≡ reported raw d m → s ≡ sequenceOf (readerIn ws)
+pub reports-sequence : (ws : List ℕ) (d : Direction) (raw : MtcTime) (m : MaybeTime) (s : MtcSequence) → readerIn ws .direction ≡ Going d
+    → raw ≡ rawOf (nibblesIn ws) → m ≡ readerIn ws .previous → s ≡ sequenceOfLabel raw d m → s ≡ sequenceOf (readerIn ws)
 unfolding readerIn
-reports ws d raw m s ed er em es =
-    es ∙ rw (er, em) (sym (sym (sequence-of (readerIn ws)) ∙ ap (λ (x : MaybeDirection). reported (rawOf (nibblesIn ws)) (directionOf x) (readerIn ws .previous)) ed))
+reports-sequence ws d raw m s ed er em es =
+    es ∙ rw (er, em) (sym (sym (sequence-of (readerIn ws)) ∙ ap (λ (x : MaybeDirection). sequenceOfLabel (rawOf (nibblesIn ws)) (directionOf x) (readerIn ws .previous)) ed))
 
 -- The words with both labels.
 with-labels : (ws : List ℕ) (a b c d : ℕ) (t u : MtcTime) → length ws ≡ 15 → timeIn a b ≡ Time t → timeIn c d ≡ Time u
@@ -162,7 +159,7 @@ with-labels ws a b c d t u e et eu =
 pub completes : (ws : List ℕ) (d : Direction) (s : MtcSequence) (x a b c w : ℕ) → length ws ≡ 15
     → a ≡ 1 + 2 * bitsOf (s .raw .rate) → labelIn (s .raw .rate) b ≡ s .raw → c ≡ 1 + 2 * bitsOf (s .current .rate)
     → labelIn (s .current .rate) w ≡ s .current → x ≡ flatEvent (eventWith (final d) (Sequence s)) → s ≡ sequenceOf (readerIn ws)
-    → Ended (final d) ws x (set (set (set (set (set ws 10 1) 11 a) 12 b) 13 c) 14 w)
+    → SequenceEnded (final d) ws x (set (set (set (set (set ws 10 1) 11 a) 12 b) 13 c) 14 w)
 completes ws d s x a b c w e ea eb ec ew ex es =
     record {
       event = ex ∙ ap (λ (q : MtcSequence). flatEvent (eventWith (final d) (Sequence q))) es;

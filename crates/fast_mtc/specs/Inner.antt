@@ -8,7 +8,7 @@ use lib.ListN.{length, getD}
 use Rattle.fast_mtc.specs.Reader.{flatEvent, wayIn, lastIn, countIn, firstIn, timeIn, readerIn}
 use Rattle.labels.specs.St12.{label}
 use Rattle.labels.specs.declared.time.MtcTime.{MtcTime}
-use Rattle.mtc.specs.Reader.{ordered, starts, numberAfter, readerBy, eventWith, reported, sequenceOf, completed, afterByte, eventOf}
+use Rattle.mtc.specs.Reader.{ordered, starts, numberAfter, readerByNumber, eventWith, sequenceOfLabel, sequenceOf, completed, afterByte, eventOf}
 use Rattle.mtc.specs.declared.generator.Direction.{Direction}
 use Rattle.mtc.specs.declared.generator.Direction.the-variants.{Forward, Reverse}
 use Rattle.mtc.specs.declared.generator.MaybePiece.the-variants.{NoPiece}
@@ -22,10 +22,10 @@ pub record Received (before : List ℕ) (byte e : ℕ) (left : List ℕ) : Type 
   pub reader : readerIn left ≡ afterByte (readerIn before) byte
 
 -- What a piece that is not the next one gives, in the direction that it leaves.
-pub record Passed (direction : MaybeDirection) (before : List ℕ) (piece value e : ℕ) (left : List ℕ) : Type 0 where
+pub record PassedPiece (direction : MaybeDirection) (before : List ℕ) (piece value e : ℕ) (left : List ℕ) : Type 0 where
   pub event : e ≡ flatEvent (eventWith piece NoSequence)
   pub reader : readerIn left
-      ≡ readerBy (readerIn before) (ordered false direction true) (numberAfter 0 (starts direction piece)) piece value
+      ≡ readerByNumber (readerIn before) (ordered false direction true) (numberAfter 0 (starts direction piece)) piece value
 
 -- The first piece stands in its word.
 pub record FirstKept (ws : List ℕ) : Type 0 where
@@ -33,14 +33,14 @@ pub record FirstKept (ws : List ℕ) : Type 0 where
   pub words : length ws ≡ 15
 
 -- What the end of a sequence gives, by the words with its last piece.
-pub record Ended (piece : ℕ) (before : List ℕ) (e : ℕ) (left : List ℕ) : Type 0 where
+pub record SequenceEnded (piece : ℕ) (before : List ℕ) (e : ℕ) (left : List ℕ) : Type 0 where
   pub event : e ≡ flatEvent (eventWith piece (Sequence (sequenceOf (readerIn before))))
   pub reader : readerIn left ≡ completed (readerIn before)
 
 -- ---- a full message
 
 -- An order that keeps the direction and has no pieces.
-pub record Stopped (order stopped : ℕ) : Type 0 where
+pub record StoppedOrder (order stopped : ℕ) : Type 0 where
   pub direction : wayIn stopped ≡ wayIn order
   pub last : lastIn stopped ≡ NoPiece
   pub count : countIn stopped ≡ 0
@@ -65,7 +65,7 @@ steady d t =
     }
 
 -- What holds of one.
-pub record Steady (ws : List ℕ) (raw : MtcTime) (d : Direction) : Type 0 where
+pub record SteadyLabel (ws : List ℕ) (raw : MtcTime) (d : Direction) : Type 0 where
   pub most : raw .frames ≤ 27
   pub least : 1 ≤ raw .frames
-  pub report : reported raw d (timeIn (getD ws 11 0) (getD ws 12 0)) ≡ steady d raw
+  pub report : sequenceOfLabel raw d (timeIn (getD ws 11 0) (getD ws 12 0)) ≡ steady d raw

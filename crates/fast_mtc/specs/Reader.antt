@@ -36,8 +36,8 @@ flatMaybeTime NoTime = record { present = false; time = noTime }
 flatMaybeTime (Time t) = record { present = true; time = flatTime t }
 
 -- A truth as a bit.
-abbrev pub bit : Bool → ℕ
-bit b = cond b 1 0
+abbrev pub bitOf : Bool → ℕ
+bitOf b = cond b 1 0
 
 -- ---- the order: direction, last piece, count and first piece in one number
 --
@@ -132,11 +132,11 @@ readerFields r =
 -- A report: 1, and above it the direction and the discontinuity. 0 is none. Its labels stay in the reader.
 unfoldable pub flatReport : MaybeSequence → ℕ
 flatReport NoSequence = 0
-flatReport (Sequence s) = 1 + flatDirection (s .direction) * 2 + bit (s .discontinuity) * 4
+flatReport (Sequence s) = 1 + flatDirection (s .direction) * 2 + bitOf (s .discontinuity) * 4
 
 -- An event: the piece in the lowest byte, the boundary in the bit above it, and from there on the report.
 unfoldable pub flatEvent : MtcEvent → ℕ
-flatEvent e = e .piece + bit (e .boundary) * 256 + flatReport (e .sequence) * 512
+flatEvent e = e .piece + bitOf (e .boundary) * 256 + flatReport (e .sequence) * 512
 
 -- A label, or all zeros.
 abbrev pub labelOr : MaybeTime → MtcTime

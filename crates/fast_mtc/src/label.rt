@@ -8,7 +8,7 @@ ghost use mathlib.Core.Path.{_≡_};
 ghost use mathlib.Core.Bool.{true};
 ghost use Prim.Native.Nat.{_<_, _≤_, _+_, _*_, _/_, _%_};
 ghost use lib.IntN.{pos, negsuc};
-ghost use Rattle.labels.specs.Time.{bitsOf, frameCount, labelAt, addFrames, modZ, digits};
+ghost use Rattle.labels.specs.Time.{bitsOf, frameCount, labelAt, addFrames, modZ, labelAtSecond};
 ghost use Rattle.mtc.specs.Generator.{move};
 ghost use Rattle.fast_mtc.specs.Label.{labelNumber};
 
@@ -82,7 +82,7 @@ fn number_of(t: MtcTime) -> u64
 // second 30 frames.
 fn number_in(minutes: u16, place: u16) -> u64
     requires { ⌜ (minutes < 1440) × (place < 1800) ⌝ }
-    ensures { λ r. ⌜ r ≡ labelNumber (digits TimeCodeType.Fps30Drop (minutes * 60 + place / 30) (place % 30)) ⌝ }
+    ensures { λ r. ⌜ r ≡ labelNumber (labelAtSecond TimeCodeType.Fps30Drop (minutes * 60 + place / 30) (place % 30)) ⌝ }
 {
     let hours = minutes / 60;
     let seconds = place / 30;

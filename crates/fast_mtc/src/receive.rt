@@ -14,7 +14,7 @@ ghost use Rattle.mtc.specs.Reader.{afterByte, eventOf};
 ghost use Rattle.mtc.specs.declared.generator.Direction.the-variants.{Forward, Reverse};
 ghost use Rattle.mtc.specs.declared.reader.MaybeDirection.the-variants.{NoDirection, Going};
 ghost use Rattle.fast_mtc.specs.Reader.{readerIn, flatEvent};
-ghost use Rattle.fast_mtc.specs.Inner.{Received, FirstKept, Passed};
+ghost use Rattle.fast_mtc.specs.Inner.{Received, FirstKept, PassedPiece};
 
 // In a sequence forward the order is below this one, in reverse below the next.
 const IN_REVERSE: u32 = 8;
@@ -87,7 +87,7 @@ fn next_reverse(r: &mut [u32; 15], p: u32, byte: u8) -> u64
 // Forward only piece 0 begins a sequence.
 fn go_forward(r: &mut [u32; 15], p: u32, byte: u8) -> u64
     requires { ⌜ (p ≤ 7) × FirstKept (now r) ⌝ }
-    ensures { λ e. ⌜ Passed (Going Forward) (now (r .entry)) p (valueOf byte) e (now (r .exit)) ⌝ }
+    ensures { λ e. ⌜ PassedPiece (Going Forward) (now (r .entry)) p (valueOf byte) e (now (r .exit)) ⌝ }
 {
     if p != 0 {
         r[ORDER] = OUT_FORWARD + (p + 1) % 8;
@@ -101,7 +101,7 @@ fn go_forward(r: &mut [u32; 15], p: u32, byte: u8) -> u64
 // In reverse only piece 7 does.
 fn go_reverse(r: &mut [u32; 15], p: u32, byte: u8) -> u64
     requires { ⌜ (p ≤ 7) × FirstKept (now r) ⌝ }
-    ensures { λ e. ⌜ Passed (Going Reverse) (now (r .entry)) p (valueOf byte) e (now (r .exit)) ⌝ }
+    ensures { λ e. ⌜ PassedPiece (Going Reverse) (now (r .entry)) p (valueOf byte) e (now (r .exit)) ⌝ }
 {
     if p != 7 {
         r[ORDER] = OUT_REVERSE + (p + 7) % 8;
@@ -115,7 +115,7 @@ fn go_reverse(r: &mut [u32; 15], p: u32, byte: u8) -> u64
 // Without a direction either does.
 fn go_nowhere(r: &mut [u32; 15], p: u32, byte: u8) -> u64
     requires { ⌜ (p ≤ 7) × FirstKept (now r) ⌝ }
-    ensures { λ e. ⌜ Passed NoDirection (now (r .entry)) p (valueOf byte) e (now (r .exit)) ⌝ }
+    ensures { λ e. ⌜ PassedPiece NoDirection (now (r .entry)) p (valueOf byte) e (now (r .exit)) ⌝ }
 {
     if p == 0 {
         r[0] = byte as u32;

@@ -31,8 +31,8 @@ ghost use Rattle.mtc.specs.Reader.{rawOf, offset, jumps, sequenceOf, eventWith}
 ghost use Rattle.mtc.specs.declared.reader.MaybeDirection.the-variants.{Going};
 ghost use Rattle.mtc.specs.declared.reader.MaybeSequence.the-variants.{NoSequence, Sequence};
 ghost use Rattle.fast_mtc.specs.Time.{flatTime};
-ghost use Rattle.fast_mtc.specs.Reader.{bit, nibblesIn, readerIn, flatReport, flatEvent, labelOr, reportIn, flatMaybeSequence};
-ghost use Rattle.fast_mtc.specs.Inner.{Ended, Steady, steady};
+ghost use Rattle.fast_mtc.specs.Reader.{bitOf, nibblesIn, readerIn, flatReport, flatEvent, labelOr, reportIn, flatMaybeSequence};
+ghost use Rattle.fast_mtc.specs.Inner.{SequenceEnded, SteadyLabel, steady};
 
 #[repr(C)]
 pub struct FlatSequence {
@@ -52,7 +52,7 @@ pub struct FlatMaybeSequence {
 // ---- events as numbers
 
 fn bit(set: bool) -> u64
-    ensures { λ r. ⌜ (r ≡ bit set) × (r ≤ 1) ⌝ }
+    ensures { λ r. ⌜ (r ≡ bitOf set) × (r ≤ 1) ⌝ }
 {
     if set { 1 } else { 0 }
 }
@@ -136,7 +136,7 @@ fn raw_in(words: [u32; 15]) -> MtcTime
 // The end of a sequence, at its last piece.
 pub(crate) fn complete(r: &mut [u32; 15], direction: Direction) -> u64
     requires { ⌜ readerIn (now r) .direction ≡ Going direction ⌝ }
-    ensures { λ e. ⌜ Ended (final direction) (now (r .entry)) e (now (r .exit)) ⌝ }
+    ensures { λ e. ⌜ SequenceEnded (final direction) (now (r .entry)) e (now (r .exit)) ⌝ }
 {
     let raw = raw_in(*r);
     if is_steady(*r, raw, direction) {
@@ -152,7 +152,7 @@ pub(crate) fn complete(r: &mut [u32; 15], direction: Direction) -> u64
 // The same of any label.
 fn complete_any(r: &mut [u32; 15], raw: MtcTime, direction: Direction) -> u64
     requires { ⌜ (readerIn (now r) .direction ≡ Going direction) × (raw ≡ rawOf (nibblesIn (now r))) ⌝ }
-    ensures { λ e. ⌜ Ended (final direction) (now (r .entry)) e (now (r .exit)) ⌝ }
+    ensures { λ e. ⌜ SequenceEnded (final direction) (now (r .entry)) e (now (r .exit)) ⌝ }
 {
     let before = previous(*r);
     let s = MtcSequence {
@@ -166,7 +166,7 @@ fn complete_any(r: &mut [u32; 15], raw: MtcTime, direction: Direction) -> u64
 
 // The report of a full sequence, and the words with both labels.
 fn keep(r: &mut [u32; 15], s: MtcSequence, direction: Direction) -> u64
-    ensures { λ e. ⌜ (s ≡ sequenceOf (readerIn (now (r .entry))) → Ended (final direction) (now (r .entry)) e (now (r .exit))) ⌝ }
+    ensures { λ e. ⌜ (s ≡ sequenceOf (readerIn (now (r .entry))) → SequenceEnded (final direction) (now (r .entry)) e (now (r .exit))) ⌝ }
 {
     has_words(*r);
     let raw = s.raw;
@@ -211,7 +211,7 @@ const TWO_FRAMES: u32 = 0x200_0000;
 
 // True only for a steady label.
 fn is_steady(words: [u32; 15], raw: MtcTime, direction: Direction) -> bool
-    ensures { λ b. ⌜ (b ≡ true → Steady words raw direction) ⌝ }
+    ensures { λ b. ⌜ (b ≡ true → SteadyLabel words raw direction) ⌝ }
 {
     let rate = raw.rate;
     if words[PREVIOUS_MARK] != rate_mark(rate) {

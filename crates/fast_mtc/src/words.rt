@@ -17,7 +17,7 @@ ghost use lib.ListN.{length};
 ghost use Rattle.labels.specs.Time.{bitsOf};
 ghost use Rattle.mtc.specs.Reader.{fresh, afterFullMessage};
 ghost use Rattle.fast_mtc.specs.Reader.{wayIn, lastIn, countIn, firstIn, flatWay, flatMaybeTime, nibblesIn, labelIn, timeIn, readerIn, readerFields};
-ghost use Rattle.fast_mtc.specs.Inner.{Stopped};
+ghost use Rattle.fast_mtc.specs.Inner.{StoppedOrder};
 
 // A time, where `present`; elsewhere all zeros.
 #[repr(C)]
@@ -313,7 +313,7 @@ pub fn fresh() -> [u32; 15]
 
 // The order that keeps the direction and forgets the pieces.
 fn stopped(order: u32) -> u32
-    ensures { λ r. ⌜ Stopped order r ⌝ }
+    ensures { λ r. ⌜ StoppedOrder order r ⌝ }
 {
     let way = way_in(order);
     let MaybeDirection::Going(d) = way else {

@@ -10,7 +10,7 @@ use lib.ListN.{length, drop, getD, drop-of-length-le}
 use lib.Seq.{drop-cons}
 use Rattle.fast_mtc.proofs.Laws.{report-of, none-reported, some-reported, jump-reported, report-back, kept-back}
 use Rattle.fast_mtc.specs.Reader.{flatReport, flatEvent, readerIn, reportIn}
-use Rattle.fimbrast.specs.Feed.{Fed, unfed, counted, fedBy, fedAll, fed, flatFed, flatCounted, one, jump, later, total, lastOf, Feeds}
+use Rattle.fimbrast.specs.Feed.{Fed, unfed, fedReport, fedBy, fedAll, fed, flatFed, flatCounted, reportsIn, jump, laterReport, total, lastReport, Feeds}
 use Rattle.fimbrast.specs.declared.feed.FlatFed.{FlatFed}
 use Rattle.mtc.proofs.Laws.{Sound, as-is, byte-sound, report-labels, calls-none, calls-more, events-more}
 use Rattle.mtc.specs.QuarterFrame.{pieceOf}
@@ -35,13 +35,13 @@ at-most-one : (b : Bool) → cond b 1 0 ≤ 1
 at-most-one true = lit≤ tt
 at-most-one false = lit≤ tt
 
-counted-reports : (f : Fed) (r : MtcReader) (s : MaybeSequence) → counted f r s .reports ≤ f .reports + 1
-unfolding counted
+counted-reports : (f : Fed) (r : MtcReader) (s : MaybeSequence) → fedReport f r s .reports ≤ f .reports + 1
+unfolding fedReport
 counted-reports f r NoSequence = omega arith
 counted-reports f r (Sequence s) = omega arith
 
-counted-jumps : (f : Fed) (r : MtcReader) (s : MaybeSequence) → counted f r s .discontinuities ≤ f .discontinuities + 1
-unfolding counted
+counted-jumps : (f : Fed) (r : MtcReader) (s : MaybeSequence) → fedReport f r s .discontinuities ≤ f .discontinuities + 1
+unfolding fedReport
 counted-jumps f r NoSequence = omega arith
 counted-jumps f r (Sequence s) = let h : cond (s .discontinuity) 1 0 ≤ 1 = at-most-one (s .discontinuity) in omega arith
 
@@ -54,33 +54,33 @@ unfolding fedBy
 fed-jumps f b = counted-jumps f (afterByte (f .reader) b) (eventOf (f .reader) b .sequence)
 
 module _ (f : Fed) (r : MtcReader) where
-  counted-reader : (s : MaybeSequence) → counted f r s .reader ≡ r
-  unfolding counted
+  counted-reader : (s : MaybeSequence) → fedReport f r s .reader ≡ r
+  unfolding fedReport
   counted-reader NoSequence = refl
   counted-reader (Sequence s) = refl
 
-  counted-one : (s : MaybeSequence) → counted f r s .reports ≡ f .reports + one s
-  unfolding counted
+  counted-one : (s : MaybeSequence) → fedReport f r s .reports ≡ f .reports + reportsIn s
+  unfolding fedReport
   counted-one NoSequence = omega arith
   counted-one (Sequence s) = refl
 
-  counted-jump : (s : MaybeSequence) → counted f r s .discontinuities ≡ f .discontinuities + jump s
-  unfolding counted
+  counted-jump : (s : MaybeSequence) → fedReport f r s .discontinuities ≡ f .discontinuities + jump s
+  unfolding fedReport
   counted-jump NoSequence = omega arith
   counted-jump (Sequence s) = refl
 
-  counted-last : (s : MaybeSequence) → counted f r s .last ≡ later (f .last) s
-  unfolding counted
+  counted-last : (s : MaybeSequence) → fedReport f r s .last ≡ laterReport (f .last) s
+  unfolding fedReport
   counted-last NoSequence = refl
   counted-last (Sequence s) = refl
 
-flat-counted : (f : Fed) (r : MtcReader) (s : MaybeSequence) → flatCounted (flatFed f) (flatReport s) ≡ flatFed (counted f r s)
-unfolding flatCounted flatFed counted
+flat-counted : (f : Fed) (r : MtcReader) (s : MaybeSequence) → flatCounted (flatFed f) (flatReport s) ≡ flatFed (fedReport f r s)
+unfolding flatCounted flatFed fedReport
 flat-counted f r NoSequence = rw none-reported
 flat-counted f r (Sequence s) = rw (some-reported s, jump-reported s)
 
 -- After i bytes: the counts and the reader's words stand for a state from which the rest gives what all bytes give.
-pub record After (r₀ : MtcReader) (bs rs : List ℕ) (f : FlatFed) (i : ℕ) : Type 0 where
+pub record FedSoFar (r₀ : MtcReader) (bs rs : List ℕ) (f : FlatFed) (i : ℕ) : Type 0 where
   pub state : Fed
   pub flat : f ≡ flatFed state
   pub reader : readerIn rs ≡ state .reader
@@ -88,7 +88,7 @@ pub record After (r₀ : MtcReader) (bs rs : List ℕ) (f : FlatFed) (i : ℕ) :
   pub discontinuities : f .discontinuities ≤ i
   pub rest : fed r₀ bs ≡ fedAll state (drop i bs)
 
-pub before-all : (bs rs : List ℕ) (f : FlatFed) → f ≡ flatFed (unfed (readerIn rs)) → After (readerIn rs) bs rs f 0
+pub before-all : (bs rs : List ℕ) (f : FlatFed) → f ≡ flatFed (unfed (readerIn rs)) → FedSoFar (readerIn rs) bs rs f 0
 unfolding fed flatFed
 before-all bs rs f e =
     record {
@@ -100,9 +100,9 @@ before-all bs rs f e =
       rest = refl;
     }
 
-pub after-one : (r₀ : MtcReader) (bs rs qs : List ℕ) (f g : FlatFed) (i e : ℕ) → After r₀ bs rs f i → i < length bs
+pub after-one : (r₀ : MtcReader) (bs rs qs : List ℕ) (f g : FlatFed) (i e : ℕ) → FedSoFar r₀ bs rs f i → i < length bs
     → (e ≡ flatEvent (eventOf (readerIn rs) (getD bs i 0))) × (readerIn qs ≡ afterByte (readerIn rs) (getD bs i 0))
-    → g ≡ flatCounted f (e / 512) → After r₀ bs qs g (i + 1)
+    → g ≡ flatCounted f (e / 512) → FedSoFar r₀ bs qs g (i + 1)
 unfolding fedBy flatFed
 after-one r₀ bs rs qs f g i e a h q eg =
     let b : ℕ = getD bs i 0 in
@@ -126,7 +126,7 @@ after-one r₀ bs rs qs f g i e a h q eg =
       rest = a .rest ∙ fed-turn s bs i h;
     }
 
-pub after-all : (r₀ : MtcReader) (bs rs : List ℕ) (f : FlatFed) (i : ℕ) → After r₀ bs rs f i → length bs ≤ i
+pub after-all : (r₀ : MtcReader) (bs rs : List ℕ) (f : FlatFed) (i : ℕ) → FedSoFar r₀ bs rs f i → length bs ≤ i
     → (f ≡ flatFed (fed r₀ bs)) × (readerIn rs ≡ fed r₀ bs .reader)
 after-all r₀ bs rs f i a h =
     let e : fed r₀ bs ≡ a .state = a .rest ∙ fed-end (a .state) bs i h in
@@ -135,36 +135,36 @@ after-all r₀ bs rs f i a h =
 -- ---- what it means
 
 -- What a list leaves, from a state on.
-record From (f : Fed) (bs : List ℕ) : Type 0 where
+record CountsFrom (f : Fed) (bs : List ℕ) : Type 0 where
   reader : fedAll f bs .reader ≡ afterCalls (f .reader) (map byte bs)
-  reports : fedAll f bs .reports ≡ f .reports + total one (events (f .reader) bs)
+  reports : fedAll f bs .reports ≡ f .reports + total reportsIn (events (f .reader) bs)
   discontinuities : fedAll f bs .discontinuities ≡ f .discontinuities + total jump (events (f .reader) bs)
-  last : fedAll f bs .last ≡ lastOf (f .last) (events (f .reader) bs)
+  last : fedAll f bs .last ≡ lastReport (f .last) (events (f .reader) bs)
 
 -- The last report is whole in its number and the reader, after a byte and after all.
-abbrev Whole : MaybeSequence → MtcReader → Type 0
-Whole m r = reportIn r (flatReport m) ≡ m
+abbrev ReportWhole : MaybeSequence → MtcReader → Type 0
+ReportWhole m r = reportIn r (flatReport m) ≡ m
 
-whole-later : (before left : MtcReader) (m s : MaybeSequence) → ReportLabels s before left → Whole m before → Whole (later m s) left
+whole-later : (before left : MtcReader) (m s : MaybeSequence) → ReportLabels s before left → ReportWhole m before → ReportWhole (laterReport m s) left
 whole-later before left m (Sequence s) h w = report-back (Sequence s) before left h
 whole-later before left NoSequence NoSequence h w = report-back NoSequence before left h
 whole-later before left (Sequence m) NoSequence h w = kept-back m before left h w
 
-whole-from : (f : Fed) → Sound (f .reader) → (bs : List ℕ) → Whole (f .last) (f .reader) → Whole (fedAll f bs .last) (fedAll f bs .reader)
+whole-from : (f : Fed) → Sound (f .reader) → (bs : List ℕ) → ReportWhole (f .last) (f .reader) → ReportWhole (fedAll f bs .last) (fedAll f bs .reader)
 unfolding fedAll fedBy
 whole-from f s [] w = w
 whole-from f s (b ∷ bs) w =
     let e : MaybeSequence = eventOf (f .reader) b .sequence in
     let q : fedBy f b .reader ≡ afterByte (f .reader) b = counted-reader f (afterByte (f .reader) b) e in
-    let l : fedBy f b .last ≡ later (f .last) e = counted-last f (afterByte (f .reader) b) e in
+    let l : fedBy f b .last ≡ laterReport (f .last) e = counted-last f (afterByte (f .reader) b) e in
     let h : ReportLabels e (f .reader) (afterByte (f .reader) b)
     = subst (λ (r : MtcReader). ReportLabels e r (afterByte (f .reader) b)) (as-is (f .reader) s) (report-labels (f .reader) b) in
     whole-from (fedBy f b) (subst Sound (sym q) (byte-sound (f .reader) s b)) bs
     (rw (q, l) (whole-later (f .reader) (afterByte (f .reader) b) (f .last) e h w))
 
-from : (f : Fed) (bs : List ℕ) → From f bs
-unfolding fedAll fedBy total lastOf
-from f [] =
+counts-from : (f : Fed) (bs : List ℕ) → CountsFrom f bs
+unfolding fedAll fedBy total lastReport
+counts-from f [] =
     let n = calls-none (f .reader) in
     record {
       reader = sym (n .0);
@@ -172,14 +172,14 @@ from f [] =
       discontinuities = rw (n .1) (omega arith);
       last = rw (n .1);
     }
-from f (b ∷ bs) =
-    let i = from (fedBy f b) bs in
+counts-from f (b ∷ bs) =
+    let i = counts-from (fedBy f b) bs in
     let q : fedBy f b .reader ≡ afterByte (f .reader) b = counted-reader f (afterByte (f .reader) b) (eventOf (f .reader) b .sequence) in
-    let n : fedBy f b .reports ≡ f .reports + one (eventOf (f .reader) b .sequence) =
+    let n : fedBy f b .reports ≡ f .reports + reportsIn (eventOf (f .reader) b .sequence) =
     counted-one f (afterByte (f .reader) b) (eventOf (f .reader) b .sequence) in
     let d : fedBy f b .discontinuities ≡ f .discontinuities + jump (eventOf (f .reader) b .sequence) =
     counted-jump f (afterByte (f .reader) b) (eventOf (f .reader) b .sequence) in
-    let l : fedBy f b .last ≡ later (f .last) (eventOf (f .reader) b .sequence) =
+    let l : fedBy f b .last ≡ laterReport (f .last) (eventOf (f .reader) b .sequence) =
     counted-last f (afterByte (f .reader) b) (eventOf (f .reader) b .sequence) in
     record {
       reader = i .reader ∙ rw (q, calls-more);
@@ -191,7 +191,7 @@ from f (b ∷ bs) =
 pub feeds : (r : MtcReader) → Sound r → (bs : List ℕ) → Feeds r bs
 unfolding fed
 feeds r sound bs =
-    let i = from (unfed r) bs in
+    let i = counts-from (unfed r) bs in
     record {
       reader = i .reader;
       reports = i .reports ∙ omega arith;

@@ -28,9 +28,9 @@ abbrev pub unfed : MtcReader → Fed
 unfed r = record { reader = r; reports = 0; discontinuities = 0; last = NoSequence }
 
 -- A byte left this reader, and reported this.
-unfoldable pub counted : Fed → MtcReader → MaybeSequence → Fed
-counted f r NoSequence = record { reader = r; reports = f .reports; discontinuities = f .discontinuities; last = f .last }
-counted f r (Sequence s) =
+unfoldable pub fedReport : Fed → MtcReader → MaybeSequence → Fed
+fedReport f r NoSequence = record { reader = r; reports = f .reports; discontinuities = f .discontinuities; last = f .last }
+fedReport f r (Sequence s) =
     record {
       reader = r;
       reports = f .reports + 1;
@@ -39,7 +39,7 @@ counted f r (Sequence s) =
     }
 
 unfoldable pub fedBy : Fed → ℕ → Fed
-fedBy f b = counted f (afterByte (f .reader) b) (eventOf (f .reader) b .sequence)
+fedBy f b = fedReport f (afterByte (f .reader) b) (eventOf (f .reader) b .sequence)
 
 unfoldable pub fedAll : Fed → List ℕ → Fed
 fedAll f [] = f
@@ -65,9 +65,9 @@ flatCounted f s =
 -- ---- what it means
 
 -- 1 for a report.
-abbrev pub one : MaybeSequence → ℕ
-one NoSequence = 0
-one (Sequence s) = 1
+abbrev pub reportsIn : MaybeSequence → ℕ
+reportsIn NoSequence = 0
+reportsIn (Sequence s) = 1
 
 -- 1 for a report with a discontinuity.
 abbrev pub jump : MaybeSequence → ℕ
@@ -75,9 +75,9 @@ jump NoSequence = 0
 jump (Sequence s) = cond (s .discontinuity) 1 0
 
 -- The later of two reports, where it is one.
-abbrev pub later : MaybeSequence → MaybeSequence → MaybeSequence
-later l NoSequence = l
-later l (Sequence s) = Sequence s
+abbrev pub laterReport : MaybeSequence → MaybeSequence → MaybeSequence
+laterReport l NoSequence = l
+laterReport l (Sequence s) = Sequence s
 
 -- A number for each event, summed.
 unfoldable pub total : (MaybeSequence → ℕ) → List MtcEvent → ℕ
@@ -85,15 +85,15 @@ total n [] = 0
 total n (e ∷ es) = n (e .sequence) + total n es
 
 -- The last report among events, or the one before them.
-unfoldable pub lastOf : MaybeSequence → List MtcEvent → MaybeSequence
-lastOf l [] = l
-lastOf l (e ∷ es) = lastOf (later l (e .sequence)) es
+unfoldable pub lastReport : MaybeSequence → List MtcEvent → MaybeSequence
+lastReport l [] = l
+lastReport l (e ∷ es) = lastReport (laterReport l (e .sequence)) es
 
 -- The reader is the one that the calls leave, the counts and the last report are those of the events that they give, and the last
 -- report is whole in its number and that reader.
 pub record Feeds (r : MtcReader) (bs : List ℕ) : Type 0 where
   pub reader : fed r bs .reader ≡ afterCalls r (map byte bs)
-  pub reports : fed r bs .reports ≡ total one (events r bs)
+  pub reports : fed r bs .reports ≡ total reportsIn (events r bs)
   pub discontinuities : fed r bs .discontinuities ≡ total jump (events r bs)
-  pub last : fed r bs .last ≡ lastOf NoSequence (events r bs)
+  pub last : fed r bs .last ≡ lastReport NoSequence (events r bs)
   pub labels : reportIn (fed r bs .reader) (flatReport (fed r bs .last)) ≡ fed r bs .last

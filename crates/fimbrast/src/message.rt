@@ -31,7 +31,7 @@ ghost use Rattle.mtc.specs.UserBits.{userBitsFrom, userBitsWritten, groupBytes}
 ghost use Rattle.fast_mmc.specs.Numbers.{writtenNumbers};
 ghost use Rattle.mmc.specs.Message.{messageFrom};
 ghost use Rattle.fast_mtc.specs.Time.{timeOf};
-ghost use Rattle.fast_mmc.specs.Message.{universalOf, bitsOf, flatFullMessage, flatUserBits, flatMmcMessage, mmcKind};
+ghost use Rattle.fast_mmc.specs.Message.{universalOf, userBitsOf, flatFullMessage, flatUserBits, flatMmcMessage, mmcKind};
 
 // `addressed`.
 #[no_mangle]
@@ -98,8 +98,8 @@ pub extern "C" fn fimbrast_user_bits_read(header: FlatUniversal, data: &[u8]) ->
 // `UserBits::write`.
 #[no_mangle]
 pub extern "C" fn fimbrast_user_bits_write(bits: FlatUserBits, out: &mut [u8]) -> WrittenNumbers
-    ensures { λ r. ⌜ r ≡ writtenNumbers (answer (userBitsWritten (bitsOf bits)) (length (now (out .entry)))) ⌝ }
-    ensures { λ _. ⌜ now (out .exit) ≡ overlay (now (out .entry)) 0 (userBitsWritten (bitsOf bits) .bytes) ⌝ }
+    ensures { λ r. ⌜ r ≡ writtenNumbers (answer (userBitsWritten (userBitsOf bits)) (length (now (out .entry)))) ⌝ }
+    ensures { λ _. ⌜ now (out .exit) ≡ overlay (now (out .entry)) 0 (userBitsWritten (userBitsOf bits) .bytes) ⌝ }
 {
     written_numbers(bits_of(bits).write(out))
 }
@@ -107,7 +107,7 @@ pub extern "C" fn fimbrast_user_bits_write(bits: FlatUserBits, out: &mut [u8]) -
 // `UserBits::to_bytes`.
 #[no_mangle]
 pub extern "C" fn fimbrast_user_bits_bytes(bits: FlatUserBits) -> FourBytes
-    ensures { λ r. ⌜ r .bytes ≡ groupBytes (bitsOf bits .groups) ⌝ }
+    ensures { λ r. ⌜ r .bytes ≡ groupBytes (userBitsOf bits .groups) ⌝ }
 {
     let bytes = bits_of(bits).to_bytes();
     FourBytes { bytes }

@@ -17,7 +17,7 @@ ghost use Rattle.mmc.specs.declared.command.MmcCommand.the-variants.{Write, Oth
 ghost use Rattle.mmc.specs.Part.{part};
 ghost use Rattle.fast_mmc.specs.Word.{wordItem};
 ghost use Rattle.fast_mmc.specs.Words.{wordsAnswer, wordsLeft};
-ghost use Rattle.mmc.specs.Write.{openedCommands, openedResponses, openedFields, begun, admitted, given, closedMessage, wholeMessage, wholeFields};
+ghost use Rattle.mmc.specs.Write.{openedCommands, openedResponses, openedFields, begun, admitted, writingAfter, closedMessage, wholeMessage, wholeFields};
 ghost use Rattle.fast_mmc.specs.String.{commandOf, fieldOf};
 ghost use Rattle.fast_mmc.specs.Write.{writingAt, flatWriter};
 
@@ -55,7 +55,7 @@ pub extern "C" fn fimbrast_put_command(
     source: &[u8],
     command: FlatCommand,
 ) -> FlatWriter
-    ensures { λ r. ⌜ r ≡ flatWriter (given (writingAt writer) (commandItem (now (source .entry)) (commandOf command))) ⌝ }
+    ensures { λ r. ⌜ r ≡ flatWriter (writingAfter (writingAt writer) (commandItem (now (source .entry)) (commandOf command))) ⌝ }
     ensures { λ _. ⌜ now (out .exit) ≡ overlay (now (out .entry)) (writingAt writer .at) (admitted (writingAt writer) (commandItem (now (source .entry)) (commandOf command)) .bytes) ⌝ }
 {
     let wrote = writer_of(writer).put_command(out, source, command_of(command));
@@ -67,7 +67,7 @@ pub extern "C" fn fimbrast_put_command(
 // refused with 3, and nothing goes out of it.
 #[no_mangle]
 pub extern "C" fn fimbrast_put_word(writer: FlatWriter, out: &mut [u8], word: u64) -> FlatWriter
-    ensures { λ r. ⌜ r ≡ flatWriter (given (writingAt writer) (wordItem word)) ⌝ }
+    ensures { λ r. ⌜ r ≡ flatWriter (writingAfter (writingAt writer) (wordItem word)) ⌝ }
     ensures { λ _. ⌜ now (out .exit) ≡ overlay (now (out .entry)) (writingAt writer .at) (admitted (writingAt writer) (wordItem word) .bytes) ⌝ }
 {
     fast_mmc::put_word(writer, out, word)
@@ -76,7 +76,7 @@ pub extern "C" fn fimbrast_put_word(writer: FlatWriter, out: &mut [u8], word: u6
 // A Write of these fields.
 #[no_mangle]
 pub extern "C" fn fimbrast_put_write(writer: FlatWriter, out: &mut [u8], data: &[u8]) -> FlatWriter
-    ensures { λ r. ⌜ r ≡ flatWriter (given (writingAt writer) (commandItem (now («data» .entry)) (Write (part 0 (length (now («data» .entry))))))) ⌝ }
+    ensures { λ r. ⌜ r ≡ flatWriter (writingAfter (writingAt writer) (commandItem (now («data» .entry)) (Write (part 0 (length (now («data» .entry))))))) ⌝ }
     ensures { λ _. ⌜ now (out .exit) ≡ overlay (now (out .entry)) (writingAt writer .at) (admitted (writingAt writer) (commandItem (now («data» .entry)) (Write (part 0 (length (now («data» .entry)))))) .bytes) ⌝ }
 {
     fast_mmc::put_write(writer, out, data)
@@ -91,7 +91,7 @@ pub extern "C" fn fimbrast_put_other(
     name: usize,
     data: usize,
 ) -> FlatWriter
-    ensures { λ r. ⌜ r ≡ flatWriter (given (writingAt writer) (commandItem (now (source .entry)) (Other (part 0 name) (part name «data»)))) ⌝ }
+    ensures { λ r. ⌜ r ≡ flatWriter (writingAfter (writingAt writer) (commandItem (now (source .entry)) (Other (part 0 name) (part name «data»)))) ⌝ }
     ensures { λ _. ⌜ now (out .exit) ≡ overlay (now (out .entry)) (writingAt writer .at) (admitted (writingAt writer) (commandItem (now (source .entry)) (Other (part 0 name) (part name «data»))) .bytes) ⌝ }
 {
     fast_mmc::put_other(writer, out, source, name, data)
@@ -105,7 +105,7 @@ pub extern "C" fn fimbrast_put_field(
     source: &[u8],
     field: FlatField,
 ) -> FlatWriter
-    ensures { λ r. ⌜ r ≡ flatWriter (given (writingAt writer) (fieldItem (now (source .entry)) (fieldOf field))) ⌝ }
+    ensures { λ r. ⌜ r ≡ flatWriter (writingAfter (writingAt writer) (fieldItem (now (source .entry)) (fieldOf field))) ⌝ }
     ensures { λ _. ⌜ now (out .exit) ≡ overlay (now (out .entry)) (writingAt writer .at) (admitted (writingAt writer) (fieldItem (now (source .entry)) (fieldOf field)) .bytes) ⌝ }
 {
     let wrote = writer_of(writer).put_field(out, source, field_of(field));

@@ -16,16 +16,16 @@ use Rattle.labels.specs.Time.{dayOf, formula, frameCount, labelAt, modZ,
 use Rattle.labels.proofs.Counts.{label-of-count, count-is-formula, formula-below}
 use Rattle.labels.proofs.Moving.{label-mod}
 use Rattle.labels.proofs.Order.{next-valid-same}
-use Rattle.labels.proofs.Validity.{Kept, skipped-kept, kept-skipped, InRange, valid-facts, facts-valid}
+use Rattle.labels.proofs.Validity.{NotDropped, skipped-kept, kept-skipped, InRange, valid-facts, facts-valid}
 
 -- ---- one frame on
 
 -- The first frame number of a minute.
-abbrev pub first : TimeCodeType → ℕ → ℕ
-first Fps24 m = 0
-first Fps25 m = 0
-first Fps30Drop m = cond (eqb (m % 10) 0) 0 2
-first Fps30 m = 0
+abbrev pub firstFrame : TimeCodeType → ℕ → ℕ
+firstFrame Fps24 m = 0
+firstFrame Fps25 m = 0
+firstFrame Fps30Drop m = cond (eqb (m % 10) 0) 0 2
+firstFrame Fps30 m = 0
 
 pub step-frame : (r : TimeCodeType) (m s f : ℕ) → formula r m s (suc f) ≡ formula r m s f + 1
 step-frame Fps24 m s f = omega arith
@@ -39,7 +39,7 @@ step-second Fps25 m s f e = omega arith
 step-second Fps30Drop m s f e = omega arith
 step-second Fps30 m s f e = omega arith
 
-step-drop-minute : (m : ℕ) → formula Fps30Drop (suc m) 0 (first Fps30Drop (suc m)) ≡ formula Fps30Drop m 59 29 + 1
+step-drop-minute : (m : ℕ) → formula Fps30Drop (suc m) 0 (firstFrame Fps30Drop (suc m)) ≡ formula Fps30Drop m 59 29 + 1
 step-drop-minute m = go (eqb (suc m % 10) 0) refl
   where
     dropped : (suc m % 10 ≡ 0 → ⊥) → formula Fps30Drop (suc m) 0 2 ≡ formula Fps30Drop m 59 29 + 1
@@ -50,7 +50,7 @@ step-drop-minute m = go (eqb (suc m % 10) 0) refl
     go false e = dropped (eqb-false (suc m % 10) 0 e)
 
 pub step-minute : (r : TimeCodeType) (m s f : ℕ) → s ≡ 59 → suc f ≡ framesPerSecond r
-    → formula r (suc m) 0 (first r (suc m)) ≡ formula r m s f + 1
+    → formula r (suc m) 0 (firstFrame r (suc m)) ≡ formula r m s f + 1
 step-minute Fps24 m s f es ef = omega arith
 step-minute Fps25 m s f es ef = omega arith
 step-minute Fps30Drop m s f es ef =
@@ -60,7 +60,7 @@ step-minute Fps30 m s f es ef = omega arith
 
 -- ---- the skipped numbers
 
-past-first : (r : TimeCodeType) (h m : ℕ) → pastSkipped (label r h m 0 0) ≡ label r h m 0 (first r m)
+past-first : (r : TimeCodeType) (h m : ℕ) → pastSkipped (label r h m 0 0) ≡ label r h m 0 (firstFrame r m)
 unfolding isSkipped
 past-first Fps24 h m = refl
 past-first Fps25 h m = refl
@@ -71,7 +71,7 @@ past-first Fps30Drop h m = go (eqb (m % 10) 0)
     go false = refl
 past-first Fps30 h m = refl
 
-first-kept : (r : TimeCodeType) (h m : ℕ) → isSkipped (label r h m 0 (first r m)) ≡ false
+first-kept : (r : TimeCodeType) (h m : ℕ) → isSkipped (label r h m 0 (firstFrame r m)) ≡ false
 unfolding isSkipped
 first-kept Fps24 h m = refl
 first-kept Fps25 h m = refl
@@ -82,13 +82,13 @@ first-kept Fps30Drop h m = go (eqb (m % 10) 0) refl
     go false e = refl
 first-kept Fps30 h m = refl
 
-pub first-mod : (r : TimeCodeType) (a b : ℕ) → a % 10 ≡ b % 10 → first r a ≡ first r b
+pub first-mod : (r : TimeCodeType) (a b : ℕ) → a % 10 ≡ b % 10 → firstFrame r a ≡ firstFrame r b
 first-mod Fps24 a b e = refl
 first-mod Fps25 a b e = refl
 first-mod Fps30Drop a b e = rw e
 first-mod Fps30 a b e = refl
 
-pub first-zero : (r : TimeCodeType) → first r 0 ≡ 0
+pub first-zero : (r : TimeCodeType) → firstFrame r 0 ≡ 0
 first-zero Fps24 = refl
 first-zero Fps25 = refl
 first-zero Fps30Drop = refl
@@ -100,15 +100,15 @@ one-small Fps25 = refl
 one-small Fps30Drop = refl
 one-small Fps30 = refl
 
-first-small : (r : TimeCodeType) (m : ℕ) → first r m < framesPerSecond r
-first-small Fps24 m = lit< tt
-first-small Fps25 m = lit< tt
-first-small Fps30Drop m = go (eqb (m % 10) 0)
+first-frame-small : (r : TimeCodeType) (m : ℕ) → firstFrame r m < framesPerSecond r
+first-frame-small Fps24 m = lit< tt
+first-frame-small Fps25 m = lit< tt
+first-frame-small Fps30Drop m = go (eqb (m % 10) 0)
   where
     go : (b : Bool) → cond b 0 2 < 30
     go true = lit< tt
     go false = lit< tt
-first-small Fps30 m = lit< tt
+first-frame-small Fps30 m = lit< tt
 
 next-kept : (r : TimeCodeType) (h m s f : ℕ) → isSkipped (label r h m s f) ≡ false → isSkipped (label r h m s (suc f)) ≡ false
 unfolding isSkipped
@@ -116,7 +116,7 @@ next-kept Fps24 h m s f k = refl
 next-kept Fps25 h m s f k = refl
 next-kept Fps30Drop h m s f k = kept-skipped h m s (suc f) (later (skipped-kept h m s f k))
   where
-    later : Kept m s f → Kept m s (suc f)
+    later : NotDropped m s f → NotDropped m s (suc f)
     later (inl e) = inl e
     later (inr l) = inr (omega arith)
 next-kept Fps30 h m s f k = refl
@@ -174,12 +174,12 @@ module _ (r : TimeCodeType) (h m s f : ℕ) (k : InRange (label r h m s f)) wher
       (step-second r (h * 60 + m) s f e)
 
   -- the start of the minute m′ of the hour h′, which is one on
-  next-minute : (h′ m′ : ℕ) → h′ ≤ 23 → m′ ≤ 59 → h′ * 60 + m′ ≡ suc (h * 60 + m) → first r m′ ≡ first r (suc (h * 60 + m))
+  next-minute : (h′ m′ : ℕ) → h′ ≤ 23 → m′ ≤ 59 → h′ * 60 + m′ ≡ suc (h * 60 + m) → firstFrame r m′ ≡ firstFrame r (suc (h * 60 + m))
       → suc f ≡ framesPerSecond r → s ≡ 59 → OneOn (pastSkipped (label r h′ m′ 0 0))
   next-minute h′ m′ hh hm e e₁ ef es =
       past-first r h′ m′
-      ∙ one-on r h m s f h′ m′ 0 (first r m′) k
-      (record { hours = hh; minutes = hm; seconds = lit≤ tt; frames = first-small r m′; kept = first-kept r h′ m′ })
+      ∙ one-on r h m s f h′ m′ 0 (firstFrame r m′) k
+      (record { hours = hh; minutes = hm; seconds = lit≤ tt; frames = first-frame-small r m′; kept = first-kept r h′ m′ })
       (rw (e, e₁) (step-minute r (h * 60 + m) s f es ef))
 
   pub after-carry : OneOn (pastSkipped (carried (label r h m s f)))

@@ -14,11 +14,11 @@ use Rattle.labels.specs.declared.time.TimeCodeType.{TimeCodeType}
 use Rattle.labels.specs.declared.time.TimeCodeType.the-variants.{Fps24, Fps25, Fps30Drop, Fps30}
 use Rattle.labels.specs.St12.{label, framesPerSecond, isSkipped, isValid, labelAfter, lastBefore, borrowed, backPastSkipped, labelBefore}
 use Rattle.labels.specs.Time.{dayOf, formula, frameCount, labelAt, addFrames}
-use Rattle.labels.proofs.After.{first, step-frame, step-second, step-minute, first-mod, first-zero, one-on, last-count, label-zero, after-carry, moved-by-one}
+use Rattle.labels.proofs.After.{firstFrame, step-frame, step-second, step-minute, first-mod, first-zero, one-on, last-count, label-zero, after-carry, moved-by-one}
 use Rattle.labels.proofs.Counts.{count-is-formula}
 use Rattle.labels.proofs.Moving.{label-mod, moved-valid, moved-by-sum, moved-by-none}
 use Rattle.labels.proofs.Skipped.{Skipped, skipped-facts}
-use Rattle.labels.proofs.Validity.{Kept, skipped-kept, kept-skipped, InRange, valid-facts, facts-valid}
+use Rattle.labels.proofs.Validity.{NotDropped, skipped-kept, kept-skipped, InRange, valid-facts, facts-valid}
 
 -- ---- the last frame of a second
 
@@ -53,12 +53,12 @@ before-kept r h m = go (ltb 0 m) (ltb 0 h)
 -- ---- the first label of a minute
 
 -- Frame 0 at a minute's start, where it is not skipped.
-zero-is-first : (r : TimeCodeType) (h m : ℕ) → isSkipped (label r h m 0 0) ≡ false → 0 ≡ first r m
+zero-is-first : (r : TimeCodeType) (h m : ℕ) → isSkipped (label r h m 0 0) ≡ false → 0 ≡ firstFrame r m
 zero-is-first Fps24 h m k = refl
 zero-is-first Fps25 h m k = refl
 zero-is-first Fps30Drop h m k = go (skipped-kept h m 0 0 k)
   where
-    go : Kept m 0 0 → 0 ≡ first Fps30Drop m
+    go : NotDropped m 0 0 → 0 ≡ firstFrame Fps30Drop m
     go (inl e) = rw (eq-eqb (m % 10) 0 e)
     go (inr l) = absurd (omega arith)
 zero-is-first Fps30 h m k = refl
@@ -95,7 +95,7 @@ module _ (r : TimeCodeType) (h m s f : ℕ) (k : InRange (label r h m s f)) wher
       (rw ef (ap (λ (x : ℕ). formula r (h * 60 + m) x 0) (sym same)
       ∙ step-second r (h * 60 + m) (s - 1) (framesPerSecond r - 1) (last-frame r)))
 
-  module _ (es : s ≡ 0) (ef : f ≡ first r m) where
+  module _ (es : s ≡ 0) (ef : f ≡ firstFrame r m) where
     at-midnight : m ≡ 0 → h ≡ 0 → OneBack (label r 23 59 59 (framesPerSecond r - 1))
     at-midnight em eh =
         let u : MtcTime = label r 23 59 59 (framesPerSecond r - 1) in
@@ -103,14 +103,14 @@ module _ (r : TimeCodeType) (h m s f : ℕ) (k : InRange (label r h m s f)) wher
         let full : frameCount u + 1 ≡ dayOf r
         = ap (λ (n : ℕ). n + 1) (count-is-formula u (facts-valid u k′)) ∙ last-count r (framesPerSecond r - 1) (last-frame r) in
         by-count 23 59 59 (framesPerSecond r - 1) k′
-        (rw (eh, em, es, ef ∙ ap (first r) em ∙ first-zero r)
+        (rw (eh, em, es, ef ∙ ap (firstFrame r) em ∙ first-zero r)
         (label-zero r
         ∙ label-mod 0 (frameCount u + 1) r (zero-mod (dayOf r) ∙ sym (ap (λ (n : ℕ). n % dayOf r) full ∙ mod-self (dayOf r)))))
 
     -- the last label of the minute m′ of the hour h′, which is one back
     minute-back : (h′ m′ : ℕ) → h′ ≤ 23 → m′ ≤ 59 → h * 60 + m ≡ suc (h′ * 60 + m′) → OneBack (label r h′ m′ 59 (framesPerSecond r - 1))
     minute-back h′ m′ hh hm e =
-        let same : first r m ≡ first r (suc (h′ * 60 + m′)) = first-mod r m (suc (h′ * 60 + m′)) (omega (arith, e)) in
+        let same : firstFrame r m ≡ firstFrame r (suc (h′ * 60 + m′)) = first-mod r m (suc (h′ * 60 + m′)) (omega (arith, e)) in
         by-formula h′ m′ 59 (framesPerSecond r - 1) (last-in-range r h′ m′ 59 hh hm (lit≤ tt))
         (rw (es, ef, same, e) (step-minute r (h′ * 60 + m′) 59 (framesPerSecond r - 1) refl (last-frame r)))
 
@@ -139,10 +139,10 @@ module _ (r : TimeCodeType) (h m s f : ℕ) (k : InRange (label r h m s f)) wher
       passed : Skipped (label r h m s (f - 1)) → OneBack (lastBefore r h m)
       passed x = before-minute (x .start) (second x (kept x))
         where
-          kept : Skipped (label r h m s (f - 1)) → Kept m s f
+          kept : Skipped (label r h m s (f - 1)) → NotDropped m s f
           kept x = skipped-kept h m s f (subst (λ (q : TimeCodeType). isSkipped (label q h m s f) ≡ false) (x .drop) (k .kept))
 
-          second : Skipped (label r h m s (f - 1)) → Kept m s f → f ≡ first r m
+          second : Skipped (label r h m s (f - 1)) → NotDropped m s f → f ≡ firstFrame r m
           second x (inl e) = absurd (x .minute e)
           second x (inr e) =
               let two : f ≡ 2 = omega (arith, x .start, x .low) in

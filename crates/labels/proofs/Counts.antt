@@ -11,15 +11,15 @@ use Rattle.labels.specs.declared.time.MtcTime.{MtcTime}
 use Rattle.labels.specs.declared.time.TimeCodeType.{TimeCodeType}
 use Rattle.labels.specs.declared.time.TimeCodeType.the-variants.{Fps24, Fps25, Fps30Drop, Fps30}
 use Rattle.labels.specs.St12.{label, framesPerSecond, isSkipped, isValid}
-use Rattle.labels.specs.Time.{dayOf, formula, frameCount, withSkipped, digits, numbered, labelAt}
+use Rattle.labels.specs.Time.{dayOf, formula, frameCount, withSkipped, labelAtSecond, numbered, labelAt}
 use Rattle.labels.proofs.Rates.{fps-positive, fps-small, day-positive}
-use Rattle.labels.proofs.Validity.{Kept, skipped-kept, kept-skipped, InRange, valid-facts, facts-valid}
+use Rattle.labels.proofs.Validity.{NotDropped, skipped-kept, kept-skipped, InRange, valid-facts, facts-valid}
 
 -- ---- labels as numbers, none skipped
 
 -- The number of a label: whole minutes, seconds and frames.
-abbrev pub number : TimeCodeType → ℕ → ℕ → ℕ → ℕ
-number r m s f = (m * 60 + s) * framesPerSecond r + f
+abbrev pub plainNumber : TimeCodeType → ℕ → ℕ → ℕ → ℕ
+plainNumber r m s f = (m * 60 + s) * framesPerSecond r + f
 
 hours-of : (h m s : ℕ) → m ≤ 59 → s ≤ 59 → ((h * 60 + m) * 60 + s) / 3600 ≡ h
 hours-of h m s hm hs = omega arith
@@ -32,7 +32,7 @@ seconds-of h m s hs = omega arith
 
 -- The label of a label's number is that label.
 pub numbered-number : (r : TimeCodeType) (h m s f : ℕ) → m ≤ 59 → s ≤ 59 → f < framesPerSecond r
-    → numbered r (number r (h * 60 + m) s f) ≡ label r h m s f
+    → numbered r (plainNumber r (h * 60 + m) s f) ≡ label r h m s f
 numbered-number r h m s f hm hs hf =
     rw (digits-div ((h * 60 + m) * 60 + s) hf, digits-mod ((h * 60 + m) * 60 + s) hf, hours-of h m s hm hs, minutes-of h m s hm hs, seconds-of h m s hs)
 
@@ -41,7 +41,7 @@ seconds-back q = omega arith
 
 -- The number of a number's label is that number.
 pub number-numbered : (r : TimeCodeType) (n : ℕ)
-    → number r (numbered r n .hours * 60 + numbered r n .minutes) (numbered r n .seconds) (numbered r n .frames) ≡ n
+    → plainNumber r (numbered r n .hours * 60 + numbered r n .minutes) (numbered r n .seconds) (numbered r n .frames) ≡ n
 number-numbered r n = rw (seconds-back (n / framesPerSecond r)) (div-add-mod' n (framesPerSecond r))
 
 -- ---- drop-frame, by tens of minutes, the minute among the ten, and the number in that minute
@@ -65,7 +65,7 @@ leave-out : (t u x : ℕ) → u < 10 → x < 1800
 leave-out t u x hu hx = omega arith
 
 -- A number below the day, in those parts, and none of them is skipped.
-record Parts (n : ℕ) : Type 0 where
+record DropParts (n : ℕ) : Type 0 where
   tens : ℕ
   minute : ℕ
   place : ℕ
@@ -74,10 +74,10 @@ record Parts (n : ℕ) : Type 0 where
   place-small : place < 1800
   kept : (minute ≡ 0) ⊎ (2 ≤ place)
 
-parts : (n : ℕ) → Parts n
-parts n = go (n % 17982) refl
+drop-parts : (n : ℕ) → DropParts n
+drop-parts n = go (n % 17982) refl
   where
-    first : n % 17982 < 2 → Parts n
+    first : n % 17982 < 2 → DropParts n
     first h =
         record {
           tens = n / 17982;
@@ -89,7 +89,7 @@ parts n = go (n % 17982) refl
           kept = inl refl;
         }
 
-    later : 2 ≤ n % 17982 → Parts n
+    later : 2 ≤ n % 17982 → DropParts n
     later h =
         record {
           tens = n / 17982;
@@ -101,7 +101,7 @@ parts n = go (n % 17982) refl
           kept = inr (omega arith);
         }
 
-    go : (m : ℕ) → n % 17982 ≡ m → Parts n
+    go : (m : ℕ) → n % 17982 ≡ m → DropParts n
     go zero e = first (omega arith)
     go (suc zero) e = first (omega arith)
     go (suc (suc m)) e = later (omega arith)
@@ -111,10 +111,10 @@ parts n = go (n % 17982) refl
 minutes-whole : (n : ℕ) → n / 30 / 3600 * 60 + n / 30 / 60 % 60 ≡ n / 1800
 minutes-whole n = omega arith
 
-drop-formula : (n : ℕ) → Parts n
+drop-parts-formula : (n : ℕ) → DropParts n
     → formula Fps30Drop (numbered Fps30Drop (withSkipped Fps30Drop n) .hours * 60 + numbered Fps30Drop (withSkipped Fps30Drop n) .minutes)
     (numbered Fps30Drop (withSkipped Fps30Drop n) .seconds) (numbered Fps30Drop (withSkipped Fps30Drop n) .frames) ≡ n
-drop-formula n p =
+drop-parts-formula n p =
     let put : withSkipped Fps30Drop n ≡ 18000 * p .tens + (1800 * p .minute + p .place)
     = ap (withSkipped Fps30Drop) (p .whole) ∙ put-back (p .tens) (p .minute) (p .place) (p .minute-small) (p .place-small) (p .kept) in
     let whole : withSkipped Fps30Drop n / 1800 ≡ 10 * p .tens + p .minute = rw put (whole-of (p .tens) (p .minute) (p .place) (p .minute-small) (p .place-small)) in
@@ -135,7 +135,7 @@ formula-of-label : (r : TimeCodeType) (n : ℕ)
     (numbered r (withSkipped r n) .frames) ≡ n
 formula-of-label Fps24 n = number-numbered Fps24 n
 formula-of-label Fps25 n = number-numbered Fps25 n
-formula-of-label Fps30Drop n = drop-formula n (parts n)
+formula-of-label Fps30Drop n = drop-parts-formula n (drop-parts n)
 formula-of-label Fps30 n = number-numbered Fps30 n
 
 pub count-of-label : (n : ℕ) (r : TimeCodeType) → frameCount (labelAt n r) ≡ n % dayOf r
@@ -144,8 +144,8 @@ count-of-label n r = ap (λ (k : ℕ). k % dayOf r) (formula-of-label r (n % day
 
 -- ---- the label of a valid label's count
 
-drop-number : (h m s f : ℕ) → s ≤ 59 → f < 30 → Kept m s f
-    → withSkipped Fps30Drop (formula Fps30Drop (h * 60 + m) s f) ≡ number Fps30Drop (h * 60 + m) s f
+drop-number : (h m s f : ℕ) → s ≤ 59 → f < 30 → NotDropped m s f
+    → withSkipped Fps30Drop (formula Fps30Drop (h * 60 + m) s f) ≡ plainNumber Fps30Drop (h * 60 + m) s f
 drop-number h m s f hs hf k =
     let t : ℕ = (h * 60 + m) / 10 in
     let u : ℕ = (h * 60 + m) % 10 in
@@ -154,7 +154,7 @@ drop-number h m s f hs hf k =
     ∙ put-back t u (s * 30 + f) (mod-lt (h * 60 + m) (lit< tt)) (omega arith) (kept k)
     ∙ back
   where
-    kept : Kept m s f → ((h * 60 + m) % 10 ≡ 0) ⊎ (2 ≤ s * 30 + f)
+    kept : NotDropped m s f → ((h * 60 + m) % 10 ≡ 0) ⊎ (2 ≤ s * 30 + f)
     kept (inl e) = inl (omega arith)
     kept (inr l) = inr l
 
@@ -162,7 +162,7 @@ drop-number h m s f hs hf k =
     back = omega arith
 
 number-of-label : (r : TimeCodeType) (h m s f : ℕ) → InRange (label r h m s f)
-    → withSkipped r (formula r (h * 60 + m) s f) ≡ number r (h * 60 + m) s f
+    → withSkipped r (formula r (h * 60 + m) s f) ≡ plainNumber r (h * 60 + m) s f
 number-of-label Fps24 h m s f k = refl
 number-of-label Fps25 h m s f k = refl
 number-of-label Fps30Drop h m s f k = drop-number h m s f (k .seconds) (k .frames) (skipped-kept h m s f (k .kept))
@@ -200,13 +200,13 @@ label-of-count t v =
 hours-below : (fps n : ℕ) → n / fps < 86400 → n / fps / 3600 ≤ 23
 hours-below fps n h = omega arith
 
-drop-below : (n : ℕ) → n < 2589408 → withSkipped Fps30Drop n / 30 < 86400
-drop-below n h = omega arith
+drop-seconds-below : (n : ℕ) → n < 2589408 → withSkipped Fps30Drop n / 30 < 86400
+drop-seconds-below n h = omega arith
 
 pub seconds-below : (r : TimeCodeType) (n : ℕ) → n < dayOf r → withSkipped r n / framesPerSecond r < 86400
 seconds-below Fps24 n h = omega arith
 seconds-below Fps25 n h = omega arith
-seconds-below Fps30Drop n h = drop-below n h
+seconds-below Fps30Drop n h = drop-seconds-below n h
 seconds-below Fps30 n h = omega arith
 
 -- Of a count of the day the seconds and frames are a label's.
@@ -216,14 +216,14 @@ digits-small n k d p r ed ek ep =
     rw (ep, ek, ed)
     (seconds-below r (n % dayOf r) (mod-lt n (day-positive r)), omega (arith, mod-lt (withSkipped r (n % dayOf r)) (fps-positive r), fps-small r))
 
-drop-kept : (n : ℕ) → Parts n → isSkipped (numbered Fps30Drop (withSkipped Fps30Drop n)) ≡ false
+drop-kept : (n : ℕ) → DropParts n → isSkipped (numbered Fps30Drop (withSkipped Fps30Drop n)) ≡ false
 drop-kept n p =
     ap (λ (k : ℕ). isSkipped (numbered Fps30Drop k))
     (ap (withSkipped Fps30Drop) (p .whole) ∙ put-back (p .tens) (p .minute) (p .place) (p .minute-small) (p .place-small) (p .kept))
     ∙ kept-skipped _ _ _ _ (kept (p .tens) (p .minute) (p .place) (p .minute-small) (p .place-small) (p .kept))
   where
     kept : (t u x : ℕ) → u < 10 → x < 1800 → (u ≡ 0) ⊎ (2 ≤ x)
-        → Kept ((18000 * t + (1800 * u + x)) / 30 / 60 % 60) ((18000 * t + (1800 * u + x)) / 30 % 60) ((18000 * t + (1800 * u + x)) % 30)
+        → NotDropped ((18000 * t + (1800 * u + x)) / 30 / 60 % 60) ((18000 * t + (1800 * u + x)) / 30 % 60) ((18000 * t + (1800 * u + x)) % 30)
     kept t u x hu hx (inl e) = inl (omega arith)
     kept t u x hu hx (inr l) = inr (omega arith)
 
@@ -231,7 +231,7 @@ never-skipped-at : (r : TimeCodeType) (n : ℕ) → isSkipped (numbered r (withS
 unfolding isSkipped
 never-skipped-at Fps24 n = refl
 never-skipped-at Fps25 n = refl
-never-skipped-at Fps30Drop n = drop-kept n (parts n)
+never-skipped-at Fps30Drop n = drop-kept n (drop-parts n)
 never-skipped-at Fps30 n = refl
 
 pub label-valid : (n : ℕ) (r : TimeCodeType) → T (isValid (labelAt n r))

@@ -16,7 +16,7 @@ use Rattle.labels.specs.Time.{dayOf, formula, frameCount}
 use Rattle.labels.proofs.Counts.{count-is-formula}
 use Rattle.labels.proofs.Rates.{fps-small}
 use Rattle.labels.proofs.Sums.{sum-below, sum-cut, sum-to, sum-same, sum-none, sum-zero}
-use Rattle.labels.proofs.Validity.{Kept, skipped-kept, InRange, valid-facts}
+use Rattle.labels.proofs.Validity.{NotDropped, skipped-kept, InRange, valid-facts}
 
 -- ---- valid labels of a second, a minute, an hour
 
@@ -30,23 +30,23 @@ abbrev inHour : TimeCodeType → ℕ → ℕ
 inHour r h = sum 256 (λ m. inMinute r h m)
 
 -- What they come to: `tenth` says that the minute is a multiple of ten.
-abbrev second : TimeCodeType → Bool → ℕ → ℕ
-second Fps24 tenth s = 24
-second Fps25 tenth s = 25
-second Fps30Drop tenth s = cond (eqb s 0 && not tenth) 28 30
-second Fps30 tenth s = 30
+abbrev labelsOfSecond : TimeCodeType → Bool → ℕ → ℕ
+labelsOfSecond Fps24 tenth s = 24
+labelsOfSecond Fps25 tenth s = 25
+labelsOfSecond Fps30Drop tenth s = cond (eqb s 0 && not tenth) 28 30
+labelsOfSecond Fps30 tenth s = 30
 
-abbrev minute : TimeCodeType → Bool → ℕ
-minute Fps24 tenth = 1440
-minute Fps25 tenth = 1500
-minute Fps30Drop tenth = cond tenth 1800 1798
-minute Fps30 tenth = 1800
+abbrev labelsOfMinute : TimeCodeType → Bool → ℕ
+labelsOfMinute Fps24 tenth = 1440
+labelsOfMinute Fps25 tenth = 1500
+labelsOfMinute Fps30Drop tenth = cond tenth 1800 1798
+labelsOfMinute Fps30 tenth = 1800
 
-abbrev hour : TimeCodeType → ℕ
-hour Fps24 = 86400
-hour Fps25 = 90000
-hour Fps30Drop = 107892
-hour Fps30 = 108000
+abbrev labelsOfHour : TimeCodeType → ℕ
+labelsOfHour Fps24 = 86400
+labelsOfHour Fps25 = 90000
+labelsOfHour Fps30Drop = 107892
+labelsOfHour Fps30 = 108000
 
 abbrev tenth : ℕ → Bool
 tenth m = eqb (m % 10) 0
@@ -92,7 +92,7 @@ no-hour r h l = sum-none 256 _ (λ m. sum-none 256 _ (λ s. sum-none 256 _ (λ f
 
 -- The frames of a second, by the tests that the skipped numbers depend on.
 second-computed : (r : TimeCodeType) (h m s : ℕ)
-    → sum 256 (λ (f : ℕ). one (ltb f (framesPerSecond r) && not (isSkipped (label r h m s f)))) ≡ second r (tenth m) s
+    → sum 256 (λ (f : ℕ). one (ltb f (framesPerSecond r) && not (isSkipped (label r h m s f)))) ≡ labelsOfSecond r (tenth m) s
 unfolding isSkipped sum
 second-computed Fps24 h m s = refl
 second-computed Fps25 h m s = refl
@@ -104,11 +104,11 @@ second-computed Fps30Drop h m s = go (eqb s 0) (tenth m)
     go false b = refl
 second-computed Fps30 h m s = refl
 
-in-second : (r : TimeCodeType) (h m s : ℕ) → h ≤ 23 → m ≤ 59 → s ≤ 59 → inSecond r h m s ≡ second r (tenth m) s
+in-second : (r : TimeCodeType) (h m s : ℕ) → h ≤ 23 → m ≤ 59 → s ≤ 59 → inSecond r h m s ≡ labelsOfSecond r (tenth m) s
 in-second r h m s hh hm hs =
     sum-below 256 _ _ (λ f _. ap one (valid-in r h m s f hh hm hs)) ∙ second-computed r h m s
 
-minute-computed : (r : TimeCodeType) (b : Bool) → sum 60 (λ (s : ℕ). second r b s) ≡ minute r b
+minute-computed : (r : TimeCodeType) (b : Bool) → sum 60 (λ (s : ℕ). labelsOfSecond r b s) ≡ labelsOfMinute r b
 unfolding sum
 minute-computed Fps24 b = refl
 minute-computed Fps25 b = refl
@@ -116,24 +116,24 @@ minute-computed Fps30Drop true = refl
 minute-computed Fps30Drop false = refl
 minute-computed Fps30 b = refl
 
-in-minute : (r : TimeCodeType) (h m : ℕ) → h ≤ 23 → m ≤ 59 → inMinute r h m ≡ minute r (tenth m)
+in-minute : (r : TimeCodeType) (h m : ℕ) → h ≤ 23 → m ≤ 59 → inMinute r h m ≡ labelsOfMinute r (tenth m)
 in-minute r h m hh hm =
     sum-cut 196 60 _ (λ s l. no-second r h m s l)
     ∙ sum-below 60 _ _ (λ s l. in-second r h m s hh hm (omega arith))
     ∙ minute-computed r (tenth m)
 
-hour-computed : (r : TimeCodeType) → sum 60 (λ (m : ℕ). minute r (tenth m)) ≡ hour r
+hour-computed : (r : TimeCodeType) → sum 60 (λ (m : ℕ). labelsOfMinute r (tenth m)) ≡ labelsOfHour r
 unfolding sum
 hour-computed Fps24 = refl
 hour-computed Fps25 = refl
 hour-computed Fps30Drop = refl
 hour-computed Fps30 = refl
 
-in-hour : (r : TimeCodeType) (h : ℕ) → h ≤ 23 → inHour r h ≡ hour r
+in-hour : (r : TimeCodeType) (h : ℕ) → h ≤ 23 → inHour r h ≡ labelsOfHour r
 in-hour r h hh =
     sum-cut 196 60 _ (λ m l. no-minute r h m l) ∙ sum-below 60 _ _ (λ m l. in-minute r h m hh (omega arith)) ∙ hour-computed r
 
-day-computed : (r : TimeCodeType) → 24 * hour r ≡ dayOf r
+day-computed : (r : TimeCodeType) → 24 * labelsOfHour r ≡ dayOf r
 day-computed Fps24 = refl
 day-computed Fps25 = refl
 day-computed Fps30Drop = refl
@@ -143,7 +143,7 @@ day-computed Fps30 = refl
 pub labels-of-day : (r : TimeCodeType) → labelsOfDay r ≡ dayOf r
 unfolding labelsOfDay howMany
 labels-of-day r =
-    sum-cut 232 24 _ (λ h l. no-hour r h l) ∙ sum-same 24 (hour r) _ (λ h l. in-hour r h (omega arith)) ∙ day-computed r
+    sum-cut 232 24 _ (λ h l. no-hour r h l) ∙ sum-same 24 (labelsOfHour r) _ (λ h l. in-hour r h (omega arith)) ∙ day-computed r
 
 -- ---- before a label
 
@@ -195,7 +195,7 @@ module _ (r : TimeCodeType) (h m s f : ℕ) where
 
 -- one more drop-frame minute, after a sum k of m minutes
 minute-more : (m k : ℕ) → k + 2 * m ≡ 1800 * m + 2 * ((m + 9) / 10)
-    → k + minute Fps30Drop (tenth m) + 2 * suc m ≡ 1800 * suc m + 2 * ((suc m + 9) / 10)
+    → k + labelsOfMinute Fps30Drop (tenth m) + 2 * suc m ≡ 1800 * suc m + 2 * ((suc m + 9) / 10)
 minute-more m k ih = go (tenth m) refl
   where
     short : (m % 10 ≡ 0 → ⊥) → k + 1798 + 2 * suc m ≡ 1800 * suc m + 2 * ((suc m + 9) / 10)
@@ -206,13 +206,13 @@ minute-more m k ih = go (tenth m) refl
     go false e = short (eqb-false (m % 10) 0 e)
 
 -- Drop-frame minutes: two fewer for each that is no multiple of ten.
-drop-minutes : (m : ℕ) → sum m (λ i. minute Fps30Drop (tenth i)) + 2 * m ≡ 1800 * m + 2 * ((m + 9) / 10)
+drop-minutes : (m : ℕ) → sum m (λ i. labelsOfMinute Fps30Drop (tenth i)) + 2 * m ≡ 1800 * m + 2 * ((m + 9) / 10)
 unfolding sum
 drop-minutes zero = refl
 drop-minutes (suc m) = minute-more m _ (drop-minutes m)
 
 -- Seconds of a minute that drops two numbers.
-drop-seconds : (s : ℕ) → sum (suc s) (λ j. second Fps30Drop false j) ≡ 28 + s * 30
+drop-seconds : (s : ℕ) → sum (suc s) (λ j. labelsOfSecond Fps30Drop false j) ≡ 28 + s * 30
 unfolding sum
 drop-seconds zero = refl
 drop-seconds (suc s) = rw (drop-seconds s, ne-eqb (suc s) 0 (omega arith)) (omega arith)
@@ -239,10 +239,10 @@ frames-before r h m s f hh hm hs hf =
 -- The labels before, in parts.
 in-parts : (r : TimeCodeType) (h m s f : ℕ) → h ≤ 23 → m ≤ 59 → s ≤ 59 → f < framesPerSecond r
     → countBefore (label r h m s f)
-    ≡ h * hour r + (sum m (λ i. minute r (tenth i)) + (sum s (λ j. second r (tenth m) j) + sum f (λ k. one (not (isSkipped (label r h m s k))))))
+    ≡ h * labelsOfHour r + (sum m (λ i. labelsOfMinute r (tenth i)) + (sum s (λ j. labelsOfSecond r (tenth m) j) + sum f (λ k. one (not (isSkipped (label r h m s k))))))
 in-parts r h m s f hh hm hs hf =
     hours-before r h m s f (omega arith)
-    ∙ ap₂ (λ (x y : ℕ). x + y) (sum-same h (hour r) _ (λ g l. in-hour r g (omega arith)))
+    ∙ ap₂ (λ (x y : ℕ). x + y) (sum-same h (labelsOfHour r) _ (λ g l. in-hour r g (omega arith)))
     (minutes-before r h m s f (omega arith)
     ∙ ap₂ (λ (x y : ℕ). x + y) (sum-below m _ _ (λ i l. in-minute r h i hh (omega arith)))
     (seconds-before r h m s f (omega arith)
@@ -250,8 +250,8 @@ in-parts r h m s f hh hm hs hf =
 
 -- ---- they come to the formula
 
-abbrev Parts : TimeCodeType → ℕ → ℕ → ℕ → ℕ → ℕ
-Parts r h m s f = h * hour r + (sum m (λ i. minute r (tenth i)) + (sum s (λ j. second r (tenth m) j) + sum f (λ k. one (not (isSkipped (label r h m s k))))))
+abbrev sumOfParts : TimeCodeType → ℕ → ℕ → ℕ → ℕ → ℕ
+sumOfParts r h m s f = h * labelsOfHour r + (sum m (λ i. labelsOfMinute r (tenth i)) + (sum s (λ j. labelsOfSecond r (tenth m) j) + sum f (λ k. one (not (isSkipped (label r h m s k))))))
 
 even : (n c : ℕ) → sum n (λ (i : ℕ). c) ≡ n * c
 even n c = sum-same n c (λ (i : ℕ). c) (λ i l. refl)
@@ -261,26 +261,26 @@ and-no true = refl
 and-no false = refl
 
 -- drop-frame, in a minute that is a multiple of ten
-drop-tenth : (h m s f : ℕ) → m % 10 ≡ 0 → Parts Fps30Drop h m s f ≡ formula Fps30Drop (h * 60 + m) s f
+drop-tenth : (h m s f : ℕ) → m % 10 ≡ 0 → sumOfParts Fps30Drop h m s f ≡ formula Fps30Drop (h * 60 + m) s f
 unfolding isSkipped
 drop-tenth h m s f e =
-    let seconds : sum s (λ j. second Fps30Drop (tenth m) j) ≡ s * 30 = sum-same s 30 _ (λ j l. rw (eq-eqb (m % 10) 0 e, and-no (eqb j 0))) in
+    let seconds : sum s (λ j. labelsOfSecond Fps30Drop (tenth m) j) ≡ s * 30 = sum-same s 30 _ (λ j l. rw (eq-eqb (m % 10) 0 e, and-no (eqb j 0))) in
     let frames : sum f (λ k. one (not (isSkipped (label Fps30Drop h m s k)))) ≡ f * 1
     = sum-same f 1 _ (λ k l. rw (eq-eqb (m % 10) 0 e, and-no (ltb k 2), and-no (eqb s 0))) in
-    ap₂ (λ (x y : ℕ). h * 107892 + (sum m (λ i. minute Fps30Drop (tenth i)) + (x + y))) seconds frames
-    ∙ come (sum m (λ i. minute Fps30Drop (tenth i))) (drop-minutes m)
+    ap₂ (λ (x y : ℕ). h * 107892 + (sum m (λ i. labelsOfMinute Fps30Drop (tenth i)) + (x + y))) seconds frames
+    ∙ come (sum m (λ i. labelsOfMinute Fps30Drop (tenth i))) (drop-minutes m)
   where
     come : (k : ℕ) → k + 2 * m ≡ 1800 * m + 2 * ((m + 9) / 10) → h * 107892 + (k + (s * 30 + f * 1)) ≡ formula Fps30Drop (h * 60 + m) s f
     come k ih = omega arith
 
 -- at the start of a minute that drops two numbers, past them
-drop-start : (h m f : ℕ) → (m % 10 ≡ 0 → ⊥) → Parts Fps30Drop h m 0 (suc (suc f)) ≡ formula Fps30Drop (h * 60 + m) 0 (suc (suc f))
+drop-start : (h m f : ℕ) → (m % 10 ≡ 0 → ⊥) → sumOfParts Fps30Drop h m 0 (suc (suc f)) ≡ formula Fps30Drop (h * 60 + m) 0 (suc (suc f))
 unfolding isSkipped
 drop-start h m f e =
     let frames : sum (suc (suc f)) (λ k. one (not (isSkipped (label Fps30Drop h m 0 k)))) ≡ f
     = sum-below (suc (suc f)) _ _ (λ k l. frame k) ∙ drop-frames f in
-    ap₂ (λ (x y : ℕ). h * 107892 + (sum m (λ i. minute Fps30Drop (tenth i)) + (x + y))) (sum-zero (λ j. second Fps30Drop (tenth m) j)) frames
-    ∙ come (sum m (λ i. minute Fps30Drop (tenth i))) (drop-minutes m) e
+    ap₂ (λ (x y : ℕ). h * 107892 + (sum m (λ i. labelsOfMinute Fps30Drop (tenth i)) + (x + y))) (sum-zero (λ j. labelsOfSecond Fps30Drop (tenth m) j)) frames
+    ∙ come (sum m (λ i. labelsOfMinute Fps30Drop (tenth i))) (drop-minutes m) e
   where
     and-yes : (a : Bool) → (a && true) ≡ a
     and-yes true = refl
@@ -294,33 +294,33 @@ drop-start h m f e =
     come k ih n = omega arith
 
 -- later in such a minute
-drop-later : (h m s f : ℕ) → (m % 10 ≡ 0 → ⊥) → Parts Fps30Drop h m (suc s) f ≡ formula Fps30Drop (h * 60 + m) (suc s) f
+drop-later : (h m s f : ℕ) → (m % 10 ≡ 0 → ⊥) → sumOfParts Fps30Drop h m (suc s) f ≡ formula Fps30Drop (h * 60 + m) (suc s) f
 unfolding isSkipped
 drop-later h m s f e =
-    let seconds : sum (suc s) (λ j. second Fps30Drop (tenth m) j) ≡ 28 + s * 30
-    = ap (λ (b : Bool). sum (suc s) (λ j. second Fps30Drop b j)) (ne-eqb (m % 10) 0 e) ∙ drop-seconds s in
+    let seconds : sum (suc s) (λ j. labelsOfSecond Fps30Drop (tenth m) j) ≡ 28 + s * 30
+    = ap (λ (b : Bool). sum (suc s) (λ j. labelsOfSecond Fps30Drop b j)) (ne-eqb (m % 10) 0 e) ∙ drop-seconds s in
     let frames : sum f (λ k. one (not (isSkipped (label Fps30Drop h m (suc s) k)))) ≡ f * 1
     = sum-same f 1 _ (λ k l. rw (ne-eqb (suc s) 0 (omega arith))) in
-    ap₂ (λ (x y : ℕ). h * 107892 + (sum m (λ i. minute Fps30Drop (tenth i)) + (x + y))) seconds frames
-    ∙ come (sum m (λ i. minute Fps30Drop (tenth i))) (drop-minutes m) e
+    ap₂ (λ (x y : ℕ). h * 107892 + (sum m (λ i. labelsOfMinute Fps30Drop (tenth i)) + (x + y))) seconds frames
+    ∙ come (sum m (λ i. labelsOfMinute Fps30Drop (tenth i))) (drop-minutes m) e
   where
     come : (k : ℕ) → k + 2 * m ≡ 1800 * m + 2 * ((m + 9) / 10) → (m % 10 ≡ 0 → ⊥)
         → h * 107892 + (k + (28 + s * 30 + f * 1)) ≡ formula Fps30Drop (h * 60 + m) (suc s) f
     come k ih n = omega arith
 
-drop-parts : (h m s f : ℕ) → (b : Bool) → tenth m ≡ b → Kept m s f → Parts Fps30Drop h m s f ≡ formula Fps30Drop (h * 60 + m) s f
-drop-parts h m s f true e k = drop-tenth h m s f (eqb-true (m % 10) 0 e)
-drop-parts h m s f false e (inl t) = absurd (eqb-false (m % 10) 0 e t)
-drop-parts h m (suc s) f false e (inr l) = drop-later h m s f (eqb-false (m % 10) 0 e)
-drop-parts h m zero zero false e (inr l) = absurd (omega arith)
-drop-parts h m zero (suc zero) false e (inr l) = absurd (omega arith)
-drop-parts h m zero (suc (suc f)) false e (inr l) = drop-start h m f (eqb-false (m % 10) 0 e)
+drop-sum-of-parts : (h m s f : ℕ) → (b : Bool) → tenth m ≡ b → NotDropped m s f → sumOfParts Fps30Drop h m s f ≡ formula Fps30Drop (h * 60 + m) s f
+drop-sum-of-parts h m s f true e k = drop-tenth h m s f (eqb-true (m % 10) 0 e)
+drop-sum-of-parts h m s f false e (inl t) = absurd (eqb-false (m % 10) 0 e t)
+drop-sum-of-parts h m (suc s) f false e (inr l) = drop-later h m s f (eqb-false (m % 10) 0 e)
+drop-sum-of-parts h m zero zero false e (inr l) = absurd (omega arith)
+drop-sum-of-parts h m zero (suc zero) false e (inr l) = absurd (omega arith)
+drop-sum-of-parts h m zero (suc (suc f)) false e (inr l) = drop-start h m f (eqb-false (m % 10) 0 e)
 
-parts-formula : (r : TimeCodeType) (h m s f : ℕ) → isSkipped (label r h m s f) ≡ false → Parts r h m s f ≡ formula r (h * 60 + m) s f
+parts-formula : (r : TimeCodeType) (h m s f : ℕ) → isSkipped (label r h m s f) ≡ false → sumOfParts r h m s f ≡ formula r (h * 60 + m) s f
 unfolding isSkipped
 parts-formula Fps24 h m s f k = rw (even m 1440, even s 24, even f 1) (omega arith)
 parts-formula Fps25 h m s f k = rw (even m 1500, even s 25, even f 1) (omega arith)
-parts-formula Fps30Drop h m s f k = drop-parts h m s f (tenth m) refl (skipped-kept h m s f k)
+parts-formula Fps30Drop h m s f k = drop-sum-of-parts h m s f (tenth m) refl (skipped-kept h m s f k)
 parts-formula Fps30 h m s f k = rw (even m 1800, even s 30, even f 1) (omega arith)
 
 -- On valid labels the reference count is ST 12-1's.

@@ -23,30 +23,30 @@ abbrev pub NotNegative : ℤ → Type 0
 NotNegative z = ltZ (toZ w32 (ofZ w32 z)) (toZ w32 0) ≡ false
 
 -- -1 - z
-abbrev pub back : ℤ → ℤ
-back z = negsuc 0 -ℤ toZ w32 (ofZ w32 z)
+abbrev pub turnedRound : ℤ → ℤ
+turnedRound z = negsuc 0 -ℤ toZ w32 (ofZ w32 z)
 
-pub back-is : (z : ℤ) → SFits w32 z → IsNegative z → back z ≡ pos (mag z)
+pub back-is : (z : ℤ) → SFits w32 z → IsNegative z → turnedRound z ≡ pos (mag z)
 back-is (pos n) h e =
     let absurdly : n < 0 = ltb-true n 0 (rw (toZ-ofZ w32 (pos n) h) at e) in
     absurd (omega arith)
 back-is (negsuc n) h e = rw (toZ-ofZ w32 (negsuc n) h) (rw (le-ltb (suc n) 1 (omega arith)) (ap pos (omega arith)))
 
 -- A negative distance, as the code holds -1 - z.
-pub back-read : (z : ℤ) → SFits w32 z → IsNegative z → toZ w32 (ofZ w32 (back z)) ≡ pos (mag z)
+pub back-read : (z : ℤ) → SFits w32 z → IsNegative z → toZ w32 (ofZ w32 (turnedRound z)) ≡ pos (mag z)
 back-read z h e = rw (back-is z h e) (toZ-ofZ w32 (pos (mag z)) (record { sfits = h .sfits }))
 
-pub back-fits : (z : ℤ) → SFits w32 z → IsNegative z → SFits w32 (back z)
+pub back-fits : (z : ℤ) → SFits w32 z → IsNegative z → SFits w32 (turnedRound z)
 back-fits z h e = rw (back-is z h e) (record { sfits = h .sfits })
 
 abbrev AsUnsigned : ℤ → Type 0
 AsUnsigned z = T (nonNeg z) × Fits w32 (natAbs z)
 
-pub back-casts : (z : ℤ) → SFits w32 z → IsNegative z → AsUnsigned (toZ w32 (ofZ w32 (back z)))
+pub back-casts : (z : ℤ) → SFits w32 z → IsNegative z → AsUnsigned (toZ w32 (ofZ w32 (turnedRound z)))
 back-casts z h e = rw (back-read z h e) (tt, record { fits = omega (arith, h .sfits) })
 
 pub back-mod : (z : ℤ) (d : ℕ) → SFits w32 z → IsNegative z
-    → d - 1 - natAbs (toZ w32 (ofZ w32 (back z))) % d ≡ modZ z d
+    → d - 1 - natAbs (toZ w32 (ofZ w32 (turnedRound z))) % d ≡ modZ z d
 unfolding modZ
 back-mod (pos n) d h e =
     let absurdly : n < 0 = ltb-true n 0 (rw (toZ-ofZ w32 (pos n) h) at e) in

@@ -13,7 +13,7 @@ use Rattle.labels.specs.declared.time.MtcTime.{MtcTime}
 use Rattle.labels.specs.declared.time.TimeCodeType.{TimeCodeType}
 use Rattle.labels.specs.declared.time.TimeCodeType.the-variants.{Fps24, Fps25, Fps30Drop, Fps30}
 use Rattle.labels.specs.St12.{label, framesPerSecond, isDropFrame, isSkipped, isValid}
-use Rattle.labels.specs.Time.{dayOf, formula, frameCount, withSkipped, digits, numbered, labelAt, modZ, addFrames}
+use Rattle.labels.specs.Time.{dayOf, formula, frameCount, withSkipped, labelAtSecond, numbered, labelAt, modZ, addFrames}
 use Rattle.labels.proofs.Counts.{put-back, formula-below, count-is-formula, label-of-count}
 use Rattle.labels.proofs.Validity.{facts-valid}
 
@@ -21,7 +21,7 @@ use Rattle.labels.proofs.Validity.{facts-valid}
 
 -- At a rate that skips none: whole seconds and the frames.
 pub even-label : (n : ℕ) (r : TimeCodeType) → isDropFrame r ≡ false
-    → labelAt n r ≡ digits r (n % dayOf r / framesPerSecond r) (n % dayOf r % framesPerSecond r)
+    → labelAt n r ≡ labelAtSecond r (n % dayOf r / framesPerSecond r) (n % dayOf r % framesPerSecond r)
 unfolding labelAt
 even-label n Fps24 d = refl
 even-label n Fps25 d = refl
@@ -30,13 +30,13 @@ even-label n Fps30 d = refl
 
 -- At drop-frame: by tens of minutes, the minute among the ten and the place in it.
 pub drop-split : (n t u x : ℕ) → n % 2589408 ≡ 17982 * t + (1798 * u + x) → u < 10 → x < 1800 → (u ≡ 0) ⊎ (2 ≤ x)
-    → labelAt n Fps30Drop ≡ digits Fps30Drop ((10 * t + u) * 60 + x / 30) (x % 30)
+    → labelAt n Fps30Drop ≡ labelAtSecond Fps30Drop ((10 * t + u) * 60 + x / 30) (x % 30)
 unfolding labelAt
 drop-split n t u x e hu hx k =
     let put : withSkipped Fps30Drop (n % 2589408) ≡ 18000 * t + (1800 * u + x) = ap (withSkipped Fps30Drop) e ∙ put-back t u x hu hx k in
     let seconds : (18000 * t + (1800 * u + x)) / 30 ≡ (10 * t + u) * 60 + x / 30 = omega arith in
     let frames : (18000 * t + (1800 * u + x)) % 30 ≡ x % 30 = omega arith in
-    ap (numbered Fps30Drop) put ∙ ap₂ (digits Fps30Drop) seconds frames
+    ap (numbered Fps30Drop) put ∙ ap₂ (labelAtSecond Fps30Drop) seconds frames
 
 -- Counts that a day parts have one label.
 pub label-round : (n : ℕ) (r : TimeCodeType) → labelAt (n % dayOf r) r ≡ labelAt n r

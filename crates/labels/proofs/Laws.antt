@@ -10,7 +10,7 @@ use Rattle.labels.specs.declared.time.MtcTime.{MtcTime}
 use Rattle.labels.specs.declared.time.TimeCodeType.{TimeCodeType}
 use Rattle.labels.specs.declared.time.TimeCodeType.the-variants.{Fps30Drop}
 use Rattle.labels.specs.St12.{label, framesPerSecond, isDropFrame, isSkipped, isValid, LeastAbove, countBefore, labelsOfDay, labelAfter, labelBefore}
-use Rattle.labels.specs.Time.{dayOf, formula, frameCount, digits, labelAt, modZ, addFrames, nextValid}
+use Rattle.labels.specs.Time.{dayOf, formula, frameCount, labelAtSecond, labelAt, modZ, addFrames, nextValid}
 use Rattle.labels.proofs.After
 use Rattle.labels.proofs.Before
 use Rattle.labels.proofs.Counts
@@ -21,8 +21,8 @@ use Rattle.labels.proofs.Later
 use Rattle.labels.proofs.Moving
 use Rattle.labels.proofs.Order
 use Rattle.labels.proofs.Rates
--- A rate has at most 30 frames, and a day as many as it has.
-pub use Rattle.labels.proofs.Rates.{fps-small, day-positive, day-small}
+-- A rate has two bits, which tell it, and at most 30 frames, a day as many as it has; a count and a residue of the day fit a word.
+pub use Rattle.labels.proofs.Rates.{bits-small, rate-back, fps-small, day-positive, day-small, sum-fits}
 use Rattle.labels.proofs.Skipped
 use Rattle.labels.proofs.Validity
 -- A valid label's numbers are in their ranges, and fit the widths in which they are sent.
@@ -98,12 +98,12 @@ count-below = Rates.count-below
 
 -- The label of a count, at a rate that skips none: whole seconds and the frames.
 pub even-label : (n : ℕ) (r : TimeCodeType) → isDropFrame r ≡ false
-    → labelAt n r ≡ digits r (n % dayOf r / framesPerSecond r) (n % dayOf r % framesPerSecond r)
+    → labelAt n r ≡ labelAtSecond r (n % dayOf r / framesPerSecond r) (n % dayOf r % framesPerSecond r)
 even-label = Later.even-label
 
 -- At drop-frame: by tens of minutes, the minute among the ten and the place in it, which is none of the two that are skipped.
 pub drop-split : (n t u x : ℕ) → n % 2589408 ≡ 17982 * t + (1798 * u + x) → u < 10 → x < 1800 → (u ≡ 0) ⊎ (2 ≤ x)
-    → labelAt n Fps30Drop ≡ digits Fps30Drop ((10 * t + u) * 60 + x / 30) (x % 30)
+    → labelAt n Fps30Drop ≡ labelAtSecond Fps30Drop ((10 * t + u) * 60 + x / 30) (x % 30)
 drop-split = Later.drop-split
 
 -- Counts that a day parts have one label.

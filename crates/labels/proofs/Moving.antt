@@ -16,7 +16,7 @@ use Rattle.labels.specs.St12.{label, framesPerSecond, isSkipped, isValid
 use Rattle.labels.specs.Time.{dayOf, formula, frameCount, labelAt, modZ, addFrames}
 use Rattle.labels.proofs.Counts.{count-of-label, label-of-count, label-valid, count-is-formula}
 use Rattle.labels.proofs.Distance.{mod-sum}
-use Rattle.labels.proofs.Validity.{Kept, skipped-kept, kept-skipped, InRange, valid-facts, facts-valid}
+use Rattle.labels.proofs.Validity.{NotDropped, skipped-kept, kept-skipped, InRange, valid-facts, facts-valid}
 
 pub moved-valid : (t : MtcTime) (z : ℤ) → T (isValid (addFrames t z))
 unfolding addFrames

@@ -12,7 +12,7 @@ use Rattle.labels.specs.declared.time.TimeCodeType.the-variants.{Fps30Dr
 use Rattle.labels.specs.St12.{label, isSkipped, isValid, lower, isEarlier, LeastAbove}
 use Rattle.labels.specs.Time.{nextValid}
 use Rattle.labels.proofs.Skipped.{Skipped, skipped-facts}
-use Rattle.labels.proofs.Validity.{Kept, skipped-kept, kept-skipped, valid-facts, facts-valid}
+use Rattle.labels.proofs.Validity.{NotDropped, skipped-kept, kept-skipped, valid-facts, facts-valid}
 
 -- ---- the order, number by number
 
@@ -40,12 +40,12 @@ lower-same a p h = rw (le-ltb a a (omega arith), eq-eqb a a refl) h
 -- ---- a skipped label
 
 -- The label that a skipped one moves to.
-abbrev second : MtcTime → MtcTime
-second t = label (t .rate) (t .hours) (t .minutes) (t .seconds) 2
+abbrev frameTwo : MtcTime → MtcTime
+frameTwo t = label (t .rate) (t .hours) (t .minutes) (t .seconds) 2
 
-second-valid : (t : MtcTime) → Skipped t → t .hours ≤ 23 → t .minutes ≤ 59 → T (isValid (second t))
+second-valid : (t : MtcTime) → Skipped t → t .hours ≤ 23 → t .minutes ≤ 59 → T (isValid (frameTwo t))
 second-valid t k h m =
-    facts-valid (second t)
+    facts-valid (frameTwo t)
     (record {
       hours = h;
       minutes = m;
@@ -55,7 +55,7 @@ second-valid t k h m =
     })
 
 -- Nothing valid stands between.
-none-between : (t v : MtcTime) → Skipped t → v .rate ≡ t .rate → T (isValid v) → T (isEarlier t v) → T (isEarlier v (second t)) → ⊥
+none-between : (t v : MtcTime) → Skipped t → v .rate ≡ t .rate → T (isValid v) → T (isEarlier t v) → T (isEarlier v (frameTwo t)) → ⊥
 unfolding isEarlier
 none-between t v k e valid a b =
     let h = lower-both (t .hours) (v .hours) _ _ a b in
@@ -67,7 +67,7 @@ none-between t v k e valid a b =
     (valid-facts v valid .kept) in
     kept (skipped-kept (v .hours) (v .minutes) (v .seconds) (v .frames) none) (m .0) (s .0) low
   where
-    kept : Kept (v .minutes) (v .seconds) (v .frames) → t .minutes ≡ v .minutes → t .seconds ≡ v .seconds → v .frames < 2 → ⊥
+    kept : NotDropped (v .minutes) (v .seconds) (v .frames) → t .minutes ≡ v .minutes → t .seconds ≡ v .seconds → v .frames < 2 → ⊥
     kept (inl x) em es l = k .minute (rw em x)
     kept (inr x) em es l = omega (arith, k .start)
 
@@ -82,10 +82,10 @@ next-valid-least t x h m =
       above =
           lower-same (t .hours) _
           (lower-same (t .minutes) _ (lower-same (t .seconds) _ (subst T (sym (lt-ltb (t .frames) 2 (k .low))) tt)));
-      least = λ v e valid a. not-T (isEarlier v (second t)) (none-between t v k e valid a);
+      least = λ v e valid a. not-T (isEarlier v (frameTwo t)) (none-between t v k e valid a);
     })
   where
-    moved : (b : Bool) → T b → cond b (second t) t ≡ second t
+    moved : (b : Bool) → T b → cond b (frameTwo t) t ≡ frameTwo t
     moved true _ = refl
     moved false y = absurd y
 

@@ -13,7 +13,7 @@ use Rattle.labels.specs.declared.time.MtcTime.{MtcTime}
 use Rattle.labels.specs.declared.time.TimeCodeType.{TimeCodeType}
 use Rattle.labels.specs.declared.time.TimeCodeType.the-variants.{Fps24, Fps25, Fps30Drop, Fps30}
 use Rattle.labels.specs.St12.{label, framesPerSecond, isDropFrame, isSkipped, isValid}
-use Rattle.labels.specs.Time.{bitsOf, dayOf, formula, frameCount, withSkipped, digits, labelAt, modZ, addFrames}
+use Rattle.labels.specs.Time.{bitsOf, typeOf, dayOf, formula, frameCount, withSkipped, labelAtSecond, labelAt, modZ, addFrames}
 use Rattle.labels.proofs.Distance.{mod-below}
 
 pub bits-small : (r : TimeCodeType) → bitsOf r ≤ 3
@@ -21,6 +21,13 @@ bits-small Fps24 = lit≤ tt
 bits-small Fps25 = lit≤ tt
 bits-small Fps30Drop = lit≤ tt
 bits-small Fps30 = lit≤ tt
+
+-- Its bits tell the rate.
+pub rate-back : (r : TimeCodeType) → typeOf (bitsOf r) ≡ r
+rate-back Fps24 = refl
+rate-back Fps25 = refl
+rate-back Fps30Drop = refl
+rate-back Fps30 = refl
 
 pub fps-small : (r : TimeCodeType) → framesPerSecond r ≤ 30
 fps-small Fps24 = lit≤ tt
@@ -73,12 +80,12 @@ dropped-few Fps25 m s f n d e = absurd (subst T (sym d) tt)
 dropped-few Fps30Drop m s f n d e = rw e (omega arith)
 dropped-few Fps30 m s f n d e = absurd (subst T (sym d) tt)
 
-drop-formula : (r : TimeCodeType) (m s f : ℕ) → isDropFrame r ≡ true
+formula-of-drop : (r : TimeCodeType) (m s f : ℕ) → isDropFrame r ≡ true
     → (m * 60 + s) * framesPerSecond r + f - 2 * (m - m / 10) ≡ formula r m s f
-drop-formula Fps24 m s f d = absurd (subst T (sym d) tt)
-drop-formula Fps25 m s f d = absurd (subst T (sym d) tt)
-drop-formula Fps30Drop m s f d = refl
-drop-formula Fps30 m s f d = absurd (subst T (sym d) tt)
+formula-of-drop Fps24 m s f d = absurd (subst T (sym d) tt)
+formula-of-drop Fps25 m s f d = absurd (subst T (sym d) tt)
+formula-of-drop Fps30Drop m s f d = refl
+formula-of-drop Fps30 m s f d = absurd (subst T (sym d) tt)
 
 even-formula : (r : TimeCodeType) (m s f : ℕ) → isDropFrame r ≡ false → (m * 60 + s) * framesPerSecond r + f ≡ formula r m s f
 even-formula Fps24 m s f d = refl
@@ -92,7 +99,7 @@ module _ (t : MtcTime) (n d : ℕ) (en : n ≡ framesPerSecond (t .rate)) (ed : 
       ≡ frameCount t
   unfolding frameCount
   drop-count k =
-      rw (en, ed) (ap (λ (x : ℕ). x % dayOf (t .rate)) (drop-formula (t .rate) (t .hours * 60 + t .minutes) (t .seconds) (t .frames) k))
+      rw (en, ed) (ap (λ (x : ℕ). x % dayOf (t .rate)) (formula-of-drop (t .rate) (t .hours * 60 + t .minutes) (t .seconds) (t .frames) k))
 
   pub even-count : isDropFrame (t .rate) ≡ false
       → (((t .hours * 60 + t .minutes) * 60 + t .seconds) * n + t .frames) % d ≡ frameCount t
@@ -106,7 +113,7 @@ pub day-rest : (n d : ℕ) (r : TimeCodeType) → d ≡ dayOf r → n % d < 2592
 day-rest n d r e = omega (arith, mod-lt n (day-positive r), day-small r, ap (λ (k : ℕ). n % k) e)
 
 pub label-at : (n k d p : ℕ) (r : TimeCodeType) → d ≡ dayOf r → k ≡ withSkipped r (n % d) → p ≡ framesPerSecond r
-    → digits r (k / p) (k % p) ≡ labelAt n r
+    → labelAtSecond r (k / p) (k % p) ≡ labelAt n r
 unfolding labelAt
 label-at n k d p r ed ek ep = rw (ek, ep, ed)
 
@@ -132,10 +139,10 @@ unfolding isValid
 frames-over t n h m s e f =
     rw (le-leb _ _ h, le-leb _ _ m, le-leb _ _ s, le-ltb (t .frames) (framesPerSecond (t .rate)) (rw e at f))
 
-pub in-range : (t : MtcTime) (n : ℕ) → t .hours ≤ 23 → t .minutes ≤ 59 → t .seconds ≤ 59
+pub all-in-range : (t : MtcTime) (n : ℕ) → t .hours ≤ 23 → t .minutes ≤ 59 → t .seconds ≤ 59
     → n ≡ framesPerSecond (t .rate) → t .frames < n → not (isSkipped t) ≡ isValid t
 unfolding isValid
-in-range t n h m s e f =
+all-in-range t n h m s e f =
     rw (le-leb _ _ h, le-leb _ _ m, le-leb _ _ s, lt-ltb (t .frames) (framesPerSecond (t .rate)) (rw e at f))
 
 -- ---- moving by a distance

@@ -26,14 +26,14 @@ no-not b e = subst (λ (x : Bool). T (not x)) (sym e) tt
 -- ---- what drop-frame keeps
 
 -- A minute that skips nothing, or a place past the skipped numbers.
-abbrev pub Kept : ℕ → ℕ → ℕ → Type 0
-Kept m s f = (m % 10 ≡ 0) ⊎ (2 ≤ s * 30 + f)
+abbrev pub NotDropped : ℕ → ℕ → ℕ → Type 0
+NotDropped m s f = (m % 10 ≡ 0) ⊎ (2 ≤ s * 30 + f)
 
-pub skipped-kept : (h m s f : ℕ) → isSkipped (label Fps30Drop h m s f) ≡ false → Kept m s f
+pub skipped-kept : (h m s f : ℕ) → isSkipped (label Fps30Drop h m s f) ≡ false → NotDropped m s f
 unfolding isSkipped
 skipped-kept h m s f = go (eqb s 0) (ltb f 2) (eqb (m % 10) 0) refl refl refl
   where
-    go : (a b c : Bool) → eqb s 0 ≡ a → ltb f 2 ≡ b → eqb (m % 10) 0 ≡ c → (a && (b && not c)) ≡ false → Kept m s f
+    go : (a b c : Bool) → eqb s 0 ≡ a → ltb f 2 ≡ b → eqb (m % 10) 0 ≡ c → (a && (b && not c)) ≡ false → NotDropped m s f
     go false b c ea eb ec e = inr (past (eqb-false s 0 ea))
       where
         past : (s ≡ 0 → ⊥) → 2 ≤ s * 30 + f
@@ -42,7 +42,7 @@ skipped-kept h m s f = go (eqb s 0) (ltb f 2) (eqb (m % 10) 0) refl refl refl
     go true true true ea eb ec e = inl (eqb-true (m % 10) 0 ec)
     go true true false ea eb ec e = absurd (subst T e tt)
 
-pub kept-skipped : (h m s f : ℕ) → Kept m s f → isSkipped (label Fps30Drop h m s f) ≡ false
+pub kept-skipped : (h m s f : ℕ) → NotDropped m s f → isSkipped (label Fps30Drop h m s f) ≡ false
 unfolding isSkipped
 kept-skipped h m s f (inl e) = rw (eq-eqb (m % 10) 0 e) (last (eqb s 0) (ltb f 2))
   where
@@ -91,12 +91,12 @@ facts-valid t k =
 
 -- Numbers in their ranges, which drop-frame keeps.
 pub in-range-valid : (r : TimeCodeType) (h m s f : ℕ) → h ≤ 23 → m ≤ 59 → s ≤ 59 → f < framesPerSecond r
-    → (isDropFrame r ≡ true → Kept m s f) → T (isValid (label r h m s f))
+    → (isDropFrame r ≡ true → NotDropped m s f) → T (isValid (label r h m s f))
 unfolding isSkipped
 in-range-valid r h m s f hh hm hs hf k =
     facts-valid (label r h m s f) (record { hours = hh; minutes = hm; seconds = hs; frames = hf; kept = kept r k })
   where
-    kept : (q : TimeCodeType) → (isDropFrame q ≡ true → Kept m s f) → isSkipped (label q h m s f) ≡ false
+    kept : (q : TimeCodeType) → (isDropFrame q ≡ true → NotDropped m s f) → isSkipped (label q h m s f) ≡ false
     kept Fps24 k = refl
     kept Fps25 k = refl
     kept Fps30Drop k = kept-skipped h m s f (k refl)

@@ -76,12 +76,12 @@ withSkipped Fps30Drop n = n + 18 * (n / 17982) + 2 * ((n % 17982 - 2) / 1798)
 withSkipped Fps30 n = n
 
 -- Whole seconds and frames as a label.
-abbrev pub digits : TimeCodeType → ℕ → ℕ → MtcTime
-digits r seconds f = label r (seconds / 3600) (seconds / 60 % 60) (seconds % 60) f
+abbrev pub labelAtSecond : TimeCodeType → ℕ → ℕ → MtcTime
+labelAtSecond r seconds f = label r (seconds / 3600) (seconds / 60 % 60) (seconds % 60) f
 
 -- The label that is numbered n where none is skipped.
 abbrev pub numbered : TimeCodeType → ℕ → MtcTime
-numbered r n = digits r (n / framesPerSecond r) (n % framesPerSecond r)
+numbered r n = labelAtSecond r (n / framesPerSecond r) (n % framesPerSecond r)
 
 -- The label of a count, taken round the day.
 unfoldable pub labelAt : ℕ → TimeCodeType → MtcTime

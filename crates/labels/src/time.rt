@@ -4,7 +4,7 @@ use universal::SysexError;
 ghost use mathlib.Core.Path.{_≡_};
 ghost use Prim.Native.Nat.{_<_};
 ghost use Rattle.labels.specs.St12.{label, framesPerSecond, isDropFrame, isValid, isSkipped};
-ghost use Rattle.labels.specs.Time.{dayOf, bitsOf, typeOf, newTimeOf, newTime, nextValid, frameCount, labelAt, addFrames, rawTime, hoursByte, modZ, digits, withSkipped};
+ghost use Rattle.labels.specs.Time.{dayOf, bitsOf, typeOf, newTimeOf, newTime, nextValid, frameCount, labelAt, addFrames, rawTime, hoursByte, modZ, labelAtSecond, withSkipped};
 
 // The frames of ten minutes at 30 drop-frame: 10 * 1800 - 9 * 2.
 const DROP_10_MINUTES: u32 = 17_982;
@@ -124,7 +124,7 @@ fn reduced(delta: i32, day: u32) -> u32
 // Whole seconds and frames of a rate as a label.
 fn label_of(seconds: u32, frames: u32, rate: TimeCodeType) -> MtcTime
     requires { ⌜ (seconds < 86400) × (frames < 30) ⌝ }
-    ensures { λ r. ⌜ r ≡ digits rate seconds frames ⌝ }
+    ensures { λ r. ⌜ r ≡ labelAtSecond rate seconds frames ⌝ }
 {
     MtcTime {
         hours: (seconds / 3600) as u8,

@@ -14,30 +14,27 @@ use lib.Seq.{take-at}
 use Rattle.mmc.specs.declared.length.Kind.{Kind}
 use Rattle.mmc.specs.declared.length.Kind.the-variants.{Commands, Fields}
 use Rattle.mmc.specs.Length.{within}
-use Rattle.mmc.specs.Named.{summed}
+use Rattle.mmc.specs.Named.{extentOf}
 use Rattle.mmc.specs.Rp013.{subId1}
 use Rattle.mmc.specs.Strings.{Given, emission, emissions}
 use Rattle.mmc.specs.Write as W
-use Rattle.mmc.specs.Write.{Writing, sound, openedCommands, openedResponses, begun, ready, admitted, moved, closedMessage, ended, wholeMessage}
+use Rattle.mmc.specs.Write.{Writing, orFailed, openedCommands, openedResponses, begun, ready, admitted, writingPast, closedMessage, closeAnswer, wholeMessage}
 use Rattle.mmc.specs.Writings.{State, opened, afterItem, afterItems, openingOf, stringState, stringAnswer, stringLeft}
 use Rattle.universal.specs.Refusals.{Refusal, refusal, gives, refused}
 use Rattle.universal.specs.Emission.{Emission, sent, check, _then_, fitted}
 use Rattle.universal.specs.Message.{opening, header}
 use Rattle.universal.specs.Overlay.{overlay}
 use Rattle.universal.specs.declared.message.MaybeSubId2.the-variants.{NoSubId2}
-use Rattle.universal.proofs.Laws.{overlay-none, overlay-append, overlay-fits, then-sent, then-accepted, check-held, opening-device, opening-bytes}
+use Rattle.universal.proofs.Laws.{overlay-none, overlay-append, overlay-fits, then-sent, then-accepted, check-held, opening-device, opening-bytes, gives-refused, none-some}
 use Rattle.mmc.proofs.Ranges.{within-told}
 use Rattle.mmc.proofs.StringLaws.{emissions-none, emissions-cons}
 use Rattle.mmc.proofs.Writers.{ready-told, repeats, takes, close-sent}
 
 -- ---- one item
 
-none-some : (r : Refusal) → some r ≡ none → ⊥
-none-some r p = let z : _≡_ {A = ℕ} 0 1 = cc in omega arith
-
 -- A writing that goes on has not failed.
-pub not-failed : (w : Writing) → sound w .stop ≡ none → w .stop ≡ none
-unfolding sound
+pub not-failed : (w : Writing) → orFailed w .stop ≡ none → w .stop ≡ none
+unfolding orFailed
 not-failed w = go (leb (w .items) 256 && leb (w .at) 40000)
   where
     go : (b : Bool) → cond b w (record { at = w .at; items = w .items; stop = some (refusal 10) }) .stop ≡ none → w .stop ≡ none
@@ -45,15 +42,15 @@ not-failed w = go (leb (w .items) 256 && leb (w .at) 40000)
     go false h = absurd (none-some (refusal 10) h)
 
 -- An item that was accepted was its own emission, which was.
-pub record Taken (w : Writing) (e : Emission) : Type 0 where
+pub record AcceptedEmission (w : Writing) (e : Emission) : Type 0 where
   pub going : w .stop ≡ none
   pub own : e .stop ≡ none
   pub whole : admitted w e ≡ e
   pub room : w .items < 256
 
-pub taken : (w : Writing) (e : Emission) → admitted w e .stop ≡ none → Taken w e
+pub emission-accepted : (w : Writing) (e : Emission) → admitted w e .stop ≡ none → AcceptedEmission w e
 unfolding admitted
-taken w e h =
+emission-accepted w e h =
     let k = then-accepted (record { bytes = []; stop = ready w }) e h in
     record { going = not-failed w (ready-told w (k .0) .0); own = k .1; whole = takes w e (k .0); room = ready-told w (k .0) .1 }
 
@@ -83,9 +80,9 @@ cons-bytes kind g gs h = emissions-cons kind g gs ∙ then-sent (emission kind g
 
 more-taken : (kind : Kind) (s : State) (g : Given kind) (gs : List (Given kind)) → AllTaken kind (afterItem kind s g) gs
     → AllTaken kind s (g ∷ gs)
-unfolding afterItems W.given
+unfolding afterItems W.writingAfter
 more-taken kind s g gs ih =
-    let t : Taken (s .writing) (emission kind g) = taken (s .writing) (emission kind g) (ih .going) in
+    let t : AcceptedEmission (s .writing) (emission kind g) = emission-accepted (s .writing) (emission kind g) (ih .going) in
     let e : Emission = emission kind g in
     let a : ℕ = s .writing .at in
     let bs : List ℕ = emissions kind gs .bytes in
@@ -153,11 +150,8 @@ record Closed (w : Writing) (room n : ℕ) : Type 0 where
   fits : n ≤ room
   close : closedMessage w ≡ sent (247 ∷ [])
 
-gives-refused : (n : ℕ) (r : Refusal) → refused r ≡ gives n → ⊥
-gives-refused n r p = let z : _≡_ {A = ℕ} 0 1 = cc in omega arith
-
 -- An answer with a length came after no refusal, and the length fits.
-pub ended-gives : (s : Option Refusal) (m room n : ℕ) → ended s m room ≡ gives n → (s ≡ none) × (n ≡ m) × (n ≤ room)
+pub ended-gives : (s : Option Refusal) (m room n : ℕ) → closeAnswer s m room ≡ gives n → (s ≡ none) × (n ≡ m) × (n ≤ room)
 ended-gives none m room n e = go (leb m room) refl e
   where
     go : (b : Bool) → leb m room ≡ b → fitted b m ≡ gives n → (_≡_ {A = Option Refusal} none none) × (n ≡ m) × (n ≤ room)
@@ -169,7 +163,7 @@ closed : (w : Writing) (room n : ℕ) → wholeMessage w room ≡ gives n → Cl
 unfolding wholeMessage closedMessage
 closed w room n h =
     let k = ended-gives (closedMessage w .stop) (w .at + 1) room n h in
-    let outer = then-accepted (record { bytes = []; stop = sound w .stop }) (check (within 5 53 (w .at)) 2 then sent (247 ∷ [])) (k .0) in
+    let outer = then-accepted (record { bytes = []; stop = orFailed w .stop }) (check (within 5 53 (w .at)) 2 then sent (247 ∷ [])) (k .0) in
     let inner = then-accepted (check (within 5 53 (w .at)) 2) (sent (247 ∷ [])) (outer .1) in
     let range = within-told 5 53 (w .at) (check-held (within 5 53 (w .at)) 2 (inner .0)) in
     record {
@@ -198,8 +192,8 @@ pub record WrittenWhole (kind : Kind) (device : ℕ) (gs : List (Given kind)) (o
       ≡ (240 ∷ 127 ∷ device ∷ subId1 kind ∷ []) ++ (emissions kind gs .bytes ++ 247 ∷ [])
 
 -- Bytes from the buffer's start on that fit are its front.
-pub front : (out m : List ℕ) (n : ℕ) → n ≡ length m → n ≤ length out → take n (overlay out 0 m) ≡ m
-front out m n e l =
+pub overlay-front : (out m : List ℕ) (n : ℕ) → n ≡ length m → n ≤ length out → take n (overlay out 0 m) ≡ m
+overlay-front out m n e l =
     let fit : 0 + length m ≤ length out = omega arith in
     ap (take n) (overlay-fits out 0 m fit) ∙ take-at m (drop (0 + length m) out) n (sym e)
 
@@ -233,23 +227,23 @@ written-whole kind device gs out n h =
       most-body = omega (arith, c .to);
       whole = omega (arith, c .whole);
       fits = c .fits;
-      left = ap (take n) left ∙ front out ((head ++ bs) ++ 247 ∷ []) n size (c .fits);
+      left = ap (take n) left ∙ overlay-front out ((head ++ bs) ++ 247 ∷ []) n size (c .fits);
     }
 
 -- ---- how far a writing goes
 
 -- What calls keep of a writing: at most 256 items of 131 bytes each after the opening, and as many of one that was refused.
-pub record Kept (w : Writing) : Type 0 where
+pub record KeptByCalls (w : Writing) : Type 0 where
   pub few : w .items ≤ 256
   pub near : w .at ≤ 4 + 131 * w .items + 131
   pub going : w .stop ≡ none → w .at ≤ 4 + 131 * w .items
 
 -- It does not pass 40,000, so no call leaves a record that is failed by 10.
-pub kept-sound : (w : Writing) → Kept w → sound w ≡ w
-unfolding sound
+pub kept-sound : (w : Writing) → KeptByCalls w → orFailed w ≡ w
+unfolding orFailed
 kept-sound w k = rw (le-leb (w .items) 256 (k .few), le-leb (w .at) 40000 (omega (arith, k .few, k .near)))
 
-refused-kept : (w : Writing) (r : Refusal) → Kept w → Kept (moved w (record { len = 0; stop = some r }))
+refused-kept : (w : Writing) (r : Refusal) → KeptByCalls w → KeptByCalls (writingPast w (record { len = 0; stop = some r }))
 refused-kept w r k =
     record {
       few = k .few;
@@ -257,19 +251,19 @@ refused-kept w r k =
       going = λ h. absurd (none-some r h);
     }
 
-item-kept : (w : Writing) (e : Emission) → Kept w → w .stop ≡ none → w .items < 256 → length (e .bytes) ≤ 131 → Kept (moved w (summed e))
+item-kept : (w : Writing) (e : Emission) → KeptByCalls w → w .stop ≡ none → w .items < 256 → length (e .bytes) ≤ 131 → KeptByCalls (writingPast w (extentOf e))
 item-kept w e k g l h = go (e .stop)
   where
-    go : (s : Option Refusal) → Kept (moved w (record { len = length (e .bytes); stop = s }))
+    go : (s : Option Refusal) → KeptByCalls (writingPast w (record { len = length (e .bytes); stop = s }))
     go none = record { few = omega arith; near = omega (arith, k .going g); going = λ _. omega (arith, k .going g) }
     go (some r) = record { few = k .few; near = omega (arith, k .going g); going = λ z. absurd (none-some r z) }
 
-pub given-kept : (w : Writing) (e : Emission) → Kept w → length (e .bytes) ≤ 131 → Kept (W.given w e)
-unfolding W.given
+pub given-kept : (w : Writing) (e : Emission) → KeptByCalls w → length (e .bytes) ≤ 131 → KeptByCalls (W.writingAfter w e)
+unfolding W.writingAfter
 given-kept w e k h = go (ready w) refl
   where
-    go : (s : Option Refusal) → ready w ≡ s → Kept (moved w (summed (admitted w e)))
+    go : (s : Option Refusal) → ready w ≡ s → KeptByCalls (writingPast w (extentOf (admitted w e)))
     go none r =
-        subst (λ (x : Emission). Kept (moved w (summed x))) (sym (takes w e r))
+        subst (λ (x : Emission). KeptByCalls (writingPast w (extentOf x))) (sym (takes w e r))
         (item-kept w e k (not-failed w (ready-told w r .0)) (ready-told w r .1) h)
-    go (some q) r = subst (λ (x : Emission). Kept (moved w (summed x))) (sym (repeats w e q r)) (refused-kept w q k)
+    go (some q) r = subst (λ (x : Emission). KeptByCalls (writingPast w (extentOf x))) (sym (repeats w e q r)) (refused-kept w q k)

@@ -21,7 +21,7 @@ use Rattle.mmc.specs.declared.length.Kind.the-variants.{Commands, Fields
 use Rattle.mmc.specs.declared.length.Length.{Length}
 use Rattle.mmc.specs.declared.length.Length.the-variants.{Fixed, Count}
 use Rattle.mmc.specs.ByPage.{StandsFor, FieldStandsFor, CommandAt, FieldAt, ReadsAs, FieldReadsAs}
-use Rattle.mmc.specs.Command.{CommandCase, stop, play, deferredPlay, fastForward, rewind, recordStrobe, recordExit, pause, reset, write, other, locateField, locateTarget, move, readLocate, readMove, readByte, readCommand, located}
+use Rattle.mmc.specs.Command.{CommandCase, stop, play, deferredPlay, fastForward, rewind, recordStrobe, recordExit, pause, reset, write, other, locateField, locateTarget, move, readLocate, readMove, commandByName, readCommand, commandOfCase}
 use Rattle.mmc.specs.Field as Fld
 use Rattle.mmc.specs.Field.{FieldCase, timeCode, short, readField}
 use Rattle.mmc.specs.Length.{within, commandLength, lengthOf}
@@ -29,8 +29,8 @@ use Rattle.mmc.specs.Named.{nameFits}
 use Rattle.mmc.specs.Part.{isInside, partOf, part}
 use Rattle.mmc.specs.Rp013.{Item}
 use Rattle.mmc.specs.Rp013Commands.{Command, STOP, PLAY, DEFERRED-PLAY, FAST-FORWARD, REWIND, RECORD-STROBE, RECORD-EXIT, PAUSE, MMC-RESET, WRITE, LOCATE-FIELD, LOCATE-TARGET, MOVE, commandBytes, receivedBytes, IsCommand, fieldName, Field, FULL, SHORT, fieldBytes, IsField}
-use Rattle.mmc.specs.Split.{Located}
-use Rattle.mmc.specs.Strings.{item, itemFits, commandBack, commandPair, countBytes, ruleOf, counted, itemBytes, locatedAt, Found, Given, given, pairOf, emission, back, Sound}
+use Rattle.mmc.specs.Split.{ItemPlace}
+use Rattle.mmc.specs.Strings.{item, itemFits, commandBack, commandPair, countBytes, ruleOf, withCount, itemBytes, itemPlace, Found, Given, given, pairOf, emission, back, AcceptedItem}
 use Rattle.codes.proofs.Laws.{zeroed-same, read-only, page-reads-back}
 use Rattle.codes.specs.Rp013Code as page
 use Rattle.codes.specs.declared.time_code.StandardTimeCode.{StandardTimeCode}
@@ -38,7 +38,7 @@ use Rattle.codes.specs.TimeCode.{readFive, readTwo, readStandard, readShort}
 use Rattle.universal.specs.Emission.{Emission, sent}
 use Rattle.universal.specs.Refusals.{gives}
 use Rattle.mmc.proofs.CommandWriting.{command-written-by-page, field-written-by-page}
-use Rattle.mmc.proofs.Ranges.{in-range, above-range, within-told}
+use Rattle.mmc.proofs.Ranges.{within-range, above-range, within-told}
 use Rattle.mmc.proofs.StringLaws.{item-split, item-accepted, item-read, meaning-back, command-back}
 
 -- ---- the page's bytes are read
@@ -83,7 +83,7 @@ asGiven : (p : Command) → Given Commands
 asGiven p = given Commands (made p .source) (made p .command)
 
 -- What it comes back as stands for the same, in the bytes that it was read from.
-stands-back : (p : Command) → IsCommand p → (body : List ℕ) (l : Located) → isInside body (l .«data») ≡ true
+stands-back : (p : Command) → IsCommand p → (body : List ℕ) (l : ItemPlace) → isInside body (l .«data») ≡ true
     → partOf body (l .«data») ≡ pairOf Commands (asGiven p) .«data» → StandsFor body p (back Commands (asGiven p) l)
 unfolding commandPair asGiven made
 stands-back STOP h body l i e = refl
@@ -102,10 +102,10 @@ stands-back (MOVE destination from) h body l i e = refl
 
 -- The data of an item that stands in a string lie in it.
 data-inside : (kind : Kind) (body pre : List ℕ) (x : Item) (post : List ℕ) (place : ℕ) → body ≡ pre ++ (itemBytes kind x ++ post)
-    → place ≡ length pre → isInside body (locatedAt kind place x .«data») ≡ true
+    → place ≡ length pre → isInside body (itemPlace kind place x .«data») ≡ true
 unfolding isInside itemBytes
 data-inside kind body pre x post place e p =
-    let rest : List ℕ = counted (ruleOf kind x) (x .«data») in
+    let rest : List ℕ = withCount (ruleOf kind x) (x .«data») in
     let a : length body ≡ length pre + (length (x .name ++ rest) + length post) =
     ap length e ∙ length-append pre ((x .name ++ rest) ++ post) ∙ ap (λ (k : ℕ). length pre + k) (length-append (x .name ++ rest) post) in
     let b : length (x .name ++ rest) ≡ length (x .name) + length rest = length-append (x .name) rest in
@@ -115,21 +115,21 @@ data-inside kind body pre x post place e p =
       le-leb (length (x .«data»)) (length body - (place + length (x .name) + countBytes (ruleOf kind x))) (omega arith),
     )
   where
-    counted-length : (rule : Length) (d : List ℕ) → length (counted rule d) ≡ countBytes rule + length d
+    counted-length : (rule : Length) (d : List ℕ) → length (withCount rule d) ≡ countBytes rule + length d
     counted-length (Fixed n) d = sym (zero-add (length d))
     counted-length Count d = omega arith
 
-fieldOf : Field → InfoField
-fieldOf (FULL f c) = F.TimeCode (fieldName f) c
-fieldOf (SHORT f rate c) = F.Short (fieldName f) c
+fieldMeant : Field → InfoField
+fieldMeant (FULL f c) = F.TimeCode (fieldName f) c
+fieldMeant (SHORT f rate c) = F.Short (fieldName f) c
 
-stands-of : (p : Field) → FieldStandsFor p (fieldOf p)
-unfolding fieldOf
+stands-of : (p : Field) → FieldStandsFor p (fieldMeant p)
+unfolding fieldMeant
 stands-of (FULL f c) = refl
 stands-of (SHORT f rate c) = refl
 
-field-stands-back : (p : Field) → IsField p → (l : Located) → FieldStandsFor p (back Fields (given Fields [] (fieldOf p)) l)
-unfolding fieldOf
+field-stands-back : (p : Field) → IsField p → (l : ItemPlace) → FieldStandsFor p (back Fields (given Fields [] (fieldMeant p)) l)
+unfolding fieldMeant
 field-stands-back (FULL f c) h l = ap (F.TimeCode (fieldName f)) (zeroed-same c (h .0))
 field-stands-back (SHORT f rate c) h l = refl
 
@@ -137,20 +137,20 @@ field-stands-back (SHORT f rate c) h l = refl
 pub field-read-by-page : (p : Field) (body pre post : List ℕ) (place : ℕ) → IsField p → body ≡ pre ++ (fieldBytes p ++ post)
     → place ≡ length pre → FieldAt body place p
 field-read-by-page p body pre post place h e q =
-    let g : Given Fields = given Fields [] (fieldOf p) in
-    let w : emission Fields g ≡ sent (fieldBytes p) = field-written-by-page p [] (fieldOf p) h (stands-of p) in
+    let g : Given Fields = given Fields [] (fieldMeant p) in
+    let w : emission Fields g ≡ sent (fieldBytes p) = field-written-by-page p [] (fieldMeant p) h (stands-of p) in
     let ok : emission Fields g .stop ≡ none = ap (λ (x : Emission). x .stop) w in
-    let s : Sound Fields (pairOf Fields g) (emission Fields g .bytes) = item-accepted Fields g ok in
+    let s : AcceptedItem Fields (pairOf Fields g) (emission Fields g .bytes) = item-accepted Fields g ok in
     let x : Item = pairOf Fields g in
     let b : fieldBytes p ≡ itemBytes Fields x = ap (λ (y : Emission). y .bytes) (sym w) ∙ s .item-bytes in
     let e₁ : body ≡ pre ++ (itemBytes Fields x ++ post) = e ∙ ap (λ (l : List ℕ). pre ++ (l ++ post)) b in
     record {
-      field = back Fields g (locatedAt Fields place x);
+      field = back Fields g (itemPlace Fields place x);
       read =
           item-read Fields body pre x post place (s .fits) e₁ q
           ∙ ap₂ (λ (c : InfoField) (k : ℕ). record { answer = gives c; place = place + k })
-          (meaning-back Fields g ok (locatedAt Fields place x)) (ap length (sym b));
-      stands = field-stands-back p h (locatedAt Fields place x);
+          (meaning-back Fields g ok (itemPlace Fields place x)) (ap length (sym b));
+      stands = field-stands-back p h (itemPlace Fields place x);
     }
 
 -- ---- what is read, exactly
@@ -206,8 +206,8 @@ move-view (a ∷ b ∷ past) =
     (λ m.
     where-same (View (76 ∷ []) (a ∷ b ∷ past)) b 0 (λ _. another) (λ n. named {k = move a b} (refl, past, refl, m, n))))
 
-byte-view : (n : ℕ) (d : List ℕ) → View (n ∷ []) d (readByte n d)
-unfolding readByte
+byte-view : (n : ℕ) (d : List ℕ) → View (n ∷ []) d (commandByName n d)
+unfolding commandByName
 byte-view n d =
     plain 1 (λ e. named e)
     (plain 2 (λ e. named e)
@@ -255,7 +255,7 @@ unfolding isOther
 differs k h e = true≢false (ap isOther (sym e) ∙ h)
 
 reads-known : (k : CommandCase) (name d : List ℕ) → ReadsAs k name d → (readCommand name d ≡ k) × (k ≢ other)
-unfolding readCommand readByte readLocate readMove isOther
+unfolding readCommand commandByName readLocate readMove isOther
 reads-known stop name d e = (rw e, differs stop refl)
 reads-known play name d e = (rw e, differs play refl)
 reads-known deferredPlay name d e = (rw e, differs deferredPlay refl)
@@ -322,7 +322,7 @@ two-of n d l h =
     (record { from = omega arith; to = omega arith }, ap (λ (k : ℕ). k ∷ []) m, e, refl)) (λ _. anotherField)
 
 field-view : (name d : List ℕ) → FieldView name d (readField name d)
-unfolding readField Fld.readByte
+unfolding readField Fld.fieldByName
 field-view [] d = anotherField
 field-view (n ∷ []) d =
     where-within (FieldView (n ∷ []) d) 1 32 n (five-of n d) (where-within (FieldView (n ∷ []) d) 33 64 n (two-of n d) anotherField)
@@ -334,9 +334,9 @@ isOtherField (short f c) = false
 isOtherField Fld.other = true
 
 field-reads-known : (k : FieldCase) (name d : List ℕ) → FieldReadsAs k name d → (readField name d ≡ k) × (k ≢ Fld.other)
-unfolding readField Fld.readByte isOtherField
+unfolding readField Fld.fieldByName isOtherField
 field-reads-known (timeCode f c) name d (b, e, l, q) = (
-  rw (e, in-range 1 32 f (b .from) (omega (arith, b .to)), eq-eqb (length d) 5 l) (ap (timeCode f) (sym q)),
+  rw (e, within-range 1 32 f (b .from) (omega (arith, b .to)), eq-eqb (length d) 5 l) (ap (timeCode f) (sym q)),
   λ z. true≢false (ap isOtherField (sym z)),
 )
 field-reads-known (short f c) name d (b, e, l, q) =
@@ -344,7 +344,7 @@ field-reads-known (short f c) name d (b, e, l, q) =
       rw (
         e,
         above-range 1 32 (f + 32) (omega arith) (omega arith),
-        in-range 33 64 (f + 32) (omega (arith, b .from)) (omega (arith, b .to)),
+        within-range 33 64 (f + 32) (omega (arith, b .from)) (omega (arith, b .to)),
         eq-eqb (length d) 2 l,
         n,
       )
@@ -370,8 +370,8 @@ record ItemOf (p : Command) (past : List ℕ) : Type 0 where
   bytes : receivedBytes p past ≡ itemBytes Commands x
   k : CommandCase
   reads : readCommand (x .name) (x .«data») ≡ k
-  stands : (body : List ℕ) (l : Located) → isInside body (l .«data») ≡ true → partOf body (l .«data») ≡ x .«data»
-      → StandsFor body p (located k (l .name) (l .«data»))
+  stands : (body : List ℕ) (l : ItemPlace) → isInside body (l .«data») ≡ true → partOf body (l .«data») ≡ x .«data»
+      → StandsFor body p (commandOfCase k (l .name) (l .«data»))
 
 -- A command as it is written.
 own-item : (p : Command) (past : List ℕ) → IsCommand p → receivedBytes p past ≡ commandBytes p → ItemOf p past
@@ -380,7 +380,7 @@ own-item p past h e =
     let g : Given Commands = asGiven p in
     let w : emission Commands g ≡ sent (commandBytes p) = command-written-by-page p (made p .source) (made p .command) h (made p .stands) in
     let ok : emission Commands g .stop ≡ none = ap (λ (y : Emission). y .stop) w in
-    let s : Sound Commands (pairOf Commands g) (emission Commands g .bytes) = item-accepted Commands g ok in
+    let s : AcceptedItem Commands (pairOf Commands g) (emission Commands g .bytes) = item-accepted Commands g ok in
     record {
       x = pairOf Commands g;
       fits = s .fits;
@@ -393,7 +393,7 @@ own-item p past h e =
 -- A Locate or a Move, by its sub-command or names and what stands past them.
 counted-item : (name : ℕ) (p : Command) (past d : List ℕ) (k : CommandCase) → itemFits Commands (item (name ∷ []) d) ≡ true
     → receivedBytes p past ≡ itemBytes Commands (item (name ∷ []) d) → ReadsAs k (name ∷ []) d
-    → ((body : List ℕ) (l : Located) → StandsFor body p (located k (l .name) (l .«data»))) → ItemOf p past
+    → ((body : List ℕ) (l : ItemPlace) → StandsFor body p (commandOfCase k (l .name) (l .«data»))) → ItemOf p past
 counted-item name p past d k f b r s =
     record {
       x = item (name ∷ []) d;
@@ -405,8 +405,8 @@ counted-item name p past d k f b r s =
     }
 
 -- The bytes of a code that the page has are read as it.
-code-back : (c : StandardTimeCode) → page.allowed c ≡ true → c ≡ readFive (page.written c)
-code-back c h = sym (read-only _ _ _ _ _ c (page-reads-back c h))
+page-code-back : (c : StandardTimeCode) → page.allowed c ≡ true → c ≡ readFive (page.written c)
+page-code-back c h = sym (read-only _ _ _ _ _ c (page-reads-back c h))
 
 received : (p : Command) (past : List ℕ) → IsCommand p → ItemOf p past
 unfolding itemFits itemBytes nameFits lengthOf commandLength
@@ -427,7 +427,7 @@ received (LOCATE-FIELD register) past h =
 received (LOCATE-TARGET c) past h =
     let n : 6 + length past ≡ suc (suc (suc (suc (suc (suc (length past)))))) = omega arith in
     counted-item 68 (LOCATE-TARGET c) past (1 ∷ (page.written c ++ past)) (locateTarget c) refl
-    (ap (λ (k : ℕ). 68 ∷ k ∷ 1 ∷ (page.written c ++ past)) n) (refl, page.written c, past, refl, refl, code-back c (h .0)) (λ body l. refl)
+    (ap (λ (k : ℕ). 68 ∷ k ∷ 1 ∷ (page.written c ++ past)) n) (refl, page.written c, past, refl, refl, page-code-back c (h .0)) (λ body l. refl)
 received (MOVE destination from) past h =
     let n : 2 + length past ≡ suc (suc (length past)) = omega arith in
     counted-item 76 (MOVE destination from) past (destination ∷ from ∷ past) (move destination from) refl
@@ -441,12 +441,12 @@ command-read-by-page p past body pre post place h e q =
     let i : ItemOf p past = received p past h in
     let e₁ : body ≡ pre ++ (itemBytes Commands (i .x) ++ post) = e ∙ ap (λ (l : List ℕ). pre ++ (l ++ post)) (i .bytes) in
     let f : Found Commands body place (i .x) = item-split Commands body pre (i .x) post place (i .fits) e₁ q in
-    let l : Located = locatedAt Commands place (i .x) in
+    let l : ItemPlace = itemPlace Commands place (i .x) in
     record {
-      command = located (i .k) (l .name) (l .«data»);
+      command = commandOfCase (i .k) (l .name) (l .«data»);
       read =
           item-read Commands body pre (i .x) post place (i .fits) e₁ q
-          ∙ ap₂ (λ (c : CommandCase) (k : ℕ). record { answer = gives (located c (l .name) (l .«data»)); place = place + k })
+          ∙ ap₂ (λ (c : CommandCase) (k : ℕ). record { answer = gives (commandOfCase c (l .name) (l .«data»)); place = place + k })
           (i .reads) (ap length (sym (i .bytes)));
       stands = i .stands body l (data-inside Commands body pre (i .x) post place e₁ q) (f .data-bytes);
     }

@@ -24,10 +24,10 @@ use Rattle.mmc.specs.ByPage.{StandsFor, FieldStandsFor, Writable, Writes
 use Rattle.mmc.specs.Command.{stop}
 use Rattle.mmc.specs.Item.{standardItem, shortItem, otherItem, writeItem, locateFieldItem, isSubframes, locateTargetItem, moveItem, commandItem, formFits, codeFits, timeCodeItem, shortCodeItem, fieldItem}
 use Rattle.mmc.specs.Length.{within, commandLength, lengthOf}
-use Rattle.mmc.specs.Named.{nameFits, lastOf, byRule, namedItem}
+use Rattle.mmc.specs.Named.{nameFits, lastByte, byRule, namedItem}
 use Rattle.mmc.specs.Part.{isInside, partOf}
 use Rattle.mmc.specs.Rp013Commands.{Command, STOP, PLAY, DEFERRED-PLAY, FAST-FORWARD, REWIND, RECORD-STROBE, RECORD-EXIT, PAUSE, MMC-RESET, WRITE, LOCATE-FIELD, LOCATE-TARGET, MOVE, commandBytes, IsFf, IsCommand, FieldName, SELECTED-TIME-CODE, GP0, fieldName, HasForm, Field, FULL, SHORT, fieldBytes, IsField}
-use Rattle.mmc.specs.Strings.{item, commandPair, fieldPair, counted, itemBytes, dataFits, itemFits, given, Sound}
+use Rattle.mmc.specs.Strings.{item, commandPair, fieldPair, withCount, itemBytes, dataFits, itemFits, given, AcceptedItem}
 use Rattle.codes.proofs.Laws.{fits-by-page, written-by-page, short-fits-by-page, short-written-by-page}
 use Rattle.codes.specs.Rp013Code as page
 use Rattle.codes.specs.TimeCode.{standardFits, standardList, shortFits, shortList}
@@ -39,16 +39,13 @@ use Rattle.labels.specs.declared.time.TimeCodeType.{TimeCodeType}
 use Rattle.universal.specs.Emission.{Emission, sent, check, _then_}
 use Rattle.universal.specs.Message.{allLow}
 use Rattle.universal.specs.Refusals.{Refusal, refusal, gives, refused}
-use Rattle.universal.proofs.Laws.{all-low-of, all-low-append, all-low-byte, all-low-cons, data-sent, then-accepted, check-held}
+use Rattle.universal.proofs.Laws.{all-low-of, all-low-append, all-low-byte, all-low-cons, data-sent, then-accepted, check-held, gives-refused}
 use Rattle.universal.proofs.Tests.{and-parts, and-all}
 use Rattle.mmc.proofs.Emitted.{locate-field-checks, locate-target-checks, move-checks, time-code-checks, short-code-checks}
-use Rattle.mmc.proofs.Ranges.{in-range, within-told}
+use Rattle.mmc.proofs.Ranges.{within-range, within-told}
 use Rattle.mmc.proofs.StringLaws.{item-accepted}
 
 -- ---- codes
-
-gives-refused : {A : Type 0} (a : A) (r : Refusal) → refused r ≡ gives a → ⊥
-gives-refused a r p = let z : _≡_ {A = ℕ} 0 1 = cc in omega arith
 
 given-by : {A : Type 0} (b : Bool) (x y : A) (r : Refusal) → cond b (gives x) (refused r) ≡ gives y → (b ≡ true) × (x ≡ y)
 given-by true x y r p = (refl, cc)
@@ -70,7 +67,7 @@ is-subframes (Status s) h = absurd h
 
 -- ---- a name and data of the source
 
-rule-sent : (rule : Length) (d : List ℕ) → dataFits rule d ≡ true → allLow (counted rule d) ≡ true → byRule rule d ≡ sent (counted rule d)
+rule-sent : (rule : Length) (d : List ℕ) → dataFits rule d ≡ true → allLow (withCount rule d) ≡ true → byRule rule d ≡ sent (withCount rule d)
 unfolding byRule
 rule-sent (Fixed n) d f l = rw (f, data-sent d l)
 rule-sent Count d f l =
@@ -84,10 +81,10 @@ rule-sent Count d f l =
 named-sent : (kind : Kind) (name d : List ℕ) → Writable kind name d → namedItem kind name d ≡ sent (itemBytes kind (item name d))
 unfolding namedItem itemFits itemBytes
 named-sent kind name d w =
-    let t = and-parts (nameFits name) (dataFits (lengthOf kind (lastOf name)) d) (w .fits) in
-    let l = and-parts (allLow name) (allLow (counted (lengthOf kind (lastOf name)) d))
-    (sym (all-low-append name (counted (lengthOf kind (lastOf name)) d)) ∙ w .low) in
-    rw (t .0, data-sent name (l .0), rule-sent (lengthOf kind (lastOf name)) d (t .1) (l .1))
+    let t = and-parts (nameFits name) (dataFits (lengthOf kind (lastByte name)) d) (w .fits) in
+    let l = and-parts (allLow name) (allLow (withCount (lengthOf kind (lastByte name)) d))
+    (sym (all-low-append name (withCount (lengthOf kind (lastByte name)) d)) ∙ w .low) in
+    rw (t .0, data-sent name (l .0), rule-sent (lengthOf kind (lastByte name)) d (t .1) (l .1))
 
 other-sent : (kind : Kind) (source : List ℕ) (n d : Part) → isInside source n ≡ true → isInside source d ≡ true
     → Writable kind (partOf source n) (partOf source d)
@@ -96,7 +93,7 @@ unfolding otherItem
 other-sent kind source n d i j w = rw (i, j) (named-sent kind (partOf source n) (partOf source d) w)
 
 -- An accepted item is one that may be written.
-sound-writable : (kind : Kind) (name d bytes : List ℕ) → Sound kind (item name d) bytes → Writable kind name d
+sound-writable : (kind : Kind) (name d bytes : List ℕ) → AcceptedItem kind (item name d) bytes → Writable kind name d
 sound-writable kind name d bytes s = record { fits = s .fits; low = ap allLow (sym (s .item-bytes)) ∙ s .low }
 
 other-inside : (kind : Kind) (source : List ℕ) (n d : Part) → otherItem kind source n d .stop ≡ none
@@ -127,16 +124,16 @@ write-writable d n l = record { fits = refl; low = all-low-cons 64 (length d ∷
 
 locate-field-sent : (r : ℕ) → IsCommand (LOCATE-FIELD r) → locateFieldItem r ≡ sent (68 ∷ 2 ∷ 0 ∷ r ∷ [])
 unfolding locateFieldItem
-locate-field-sent r h = rw (in-range 8 16 r (h .0) (omega (arith, h .1)))
+locate-field-sent r h = rw (within-range 8 16 r (h .0) (omega (arith, h .1)))
 
 locate-target-sent : (c : StandardTimeCode) → IsFf (c .«final_byte») → standardFits c ≡ true
     → locateTargetItem c ≡ sent (68 ∷ 6 ∷ 1 ∷ standardList c)
 unfolding locateTargetItem standardItem
 locate-target-sent c f h = rw (is-subframes (c .«final_byte») f, h)
 
-move-sent : (d s : ℕ) → IsCommand (MOVE d s) → moveItem d s ≡ sent (76 ∷ 2 ∷ d ∷ s ∷ [])
+page-move-sent : (d s : ℕ) → IsCommand (MOVE d s) → moveItem d s ≡ sent (76 ∷ 2 ∷ d ∷ s ∷ [])
 unfolding moveItem
-move-sent d s h = rw (in-range 1 32 d (h .0) (omega (arith, h .1)), in-range 1 32 s (h .2) (omega (arith, h .3)))
+page-move-sent d s h = rw (within-range 1 32 d (h .0) (omega (arith, h .1)), within-range 1 32 s (h .2) (omega (arith, h .3)))
 
 -- ---- the page's bytes are written
 
@@ -161,7 +158,7 @@ command-written-by-page (LOCATE-FIELD field) source c h e = ap (commandItem sour
 command-written-by-page (LOCATE-TARGET t) source c h e =
     let w = code-written t (h .0) in
     ap (commandItem source) e ∙ locate-target-sent t (h .1) (w .0) ∙ ap (λ (l : List ℕ). sent (68 ∷ 6 ∷ 1 ∷ l)) (w .1)
-command-written-by-page (MOVE destination from) source c h e = ap (commandItem source) e ∙ move-sent destination from h
+command-written-by-page (MOVE destination from) source c h e = ap (commandItem source) e ∙ page-move-sent destination from h
 
 -- A field's form by the page is the code's.
 form-fits : (f : FieldName) (negative : Bool) (l : FinalByte) → HasForm f negative l → codeFits (fieldName f) negative l ≡ true
@@ -227,7 +224,7 @@ command-written-exactly source (C.LocateTarget c) = (
 )
 command-written-exactly source (C.Move d s) = (
   λ h. let t = move-checks d s h in (t .0, omega (arith, t .1), t .2, omega (arith, t .3)),
-  λ w. stop-of (moveItem d s) _ (move-sent d s w),
+  λ w. stop-of (moveItem d s) _ (page-move-sent d s w),
 )
 command-written-exactly source (C.Other n d) = (
   λ h.
@@ -242,10 +239,10 @@ command-written-exactly source (C.Other n d) = (
 -- ---- a field's name and form
 
 -- The form rule of the code, told by the name.
-form-told : (f : ℕ) (negative : Bool) (l : FinalByte) → formFits f negative l ≡ true
+form-kept : (f : ℕ) (negative : Bool) (l : FinalByte) → formFits f negative l ≡ true
     → (f ≡ 1 → HasForm SELECTED-TIME-CODE negative l) × (f ≡ 8 → HasForm GP0 negative l)
-form-told f negative (Subframes b) h = (λ e. absurd (true≢false (sym (rw e at h))), λ _. tt)
-form-told f negative (Status s) h = (λ e. positive negative (rw e at h), λ e. absurd (true≢false (sym (rw e at h))))
+form-kept f negative (Subframes b) h = (λ e. absurd (true≢false (sym (rw e at h))), λ _. tt)
+form-kept f negative (Status s) h = (λ e. positive negative (rw e at h), λ e. absurd (true≢false (sym (rw e at h))))
   where
     positive : (b : Bool) → not b ≡ true → b ≡ false
     positive true q = absurd (true≢false (sym q))
@@ -271,10 +268,10 @@ in-form f negative l = (
   λ h.
       let t = and-parts (within 1 32 f) (formFits f negative l) h in
       let r = within-told 1 32 f (t .0) in
-      let k = form-told f negative l (t .1) in
+      let k = form-kept f negative l (t .1) in
       record { name = record { from = r .0; to = omega (arith, r .1) }; selected = k .0; gp0 = k .1 },
   λ i.
-      and-all (within 1 32 f) (formFits f negative l) (in-range 1 32 f (i .name .from) (omega (arith, i .name .to)))
+      and-all (within 1 32 f) (formFits f negative l) (within-range 1 32 f (i .name .from) (omega (arith, i .name .to)))
       (form-of f negative l (i .selected) (i .gp0)),
 )
 

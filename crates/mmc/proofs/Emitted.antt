@@ -22,12 +22,12 @@ use Rattle.codes.specs.declared.time_code.ShortTimeCode.{ShortTimeCode}
 use Rattle.codes.specs.declared.time_code.FinalByte.{FinalByte}
 use Rattle.mmc.specs.Item.{standardItem, shortItem, otherItem, writeItem, locateFieldItem, isSubframes, locateTargetItem, moveItem, commandItem, formFits, timeCodeItem, shortCodeItem, fieldItem, codeFits}
 use Rattle.mmc.specs.Length.{within, commandLength, fieldLength, lengthOf}
-use Rattle.mmc.specs.Named.{nameFits, lastOf, byRule, namedItem}
+use Rattle.mmc.specs.Named.{nameFits, lastByte, byRule, namedItem}
 use Rattle.mmc.specs.Part.{isInside, partOf}
-use Rattle.mmc.specs.Strings.{item, counted, itemBytes, joined, dataFits, itemFits, allFit, commandPair, fieldPair, Sound, Given, pairOf, emission, emissions, pairsOf, SoundList}
+use Rattle.mmc.specs.Strings.{item, withCount, itemBytes, joined, dataFits, itemFits, allFit, commandPair, fieldPair, AcceptedItem, Given, pairOf, emission, emissions, pairsOf, AcceptedItems}
 use Rattle.codes.specs.TimeCode.{standardFits, standardList, shortFits, shortList}
 use Rattle.universal.specs.Emission.{Emission, sent, check, _then_}
-use Rattle.universal.specs.Message.{allLow, dataBytes}
+use Rattle.universal.specs.Message.{allLow, dataEmission}
 use Rattle.universal.specs.Refusals.{Refusal, refusal}
 use Rattle.universal.proofs.Laws.{all-low-append, all-low-none, all-low-cons, then-sent, then-accepted, then-assoc, data-refused}
 use Rattle.universal.proofs.Tests.{and-parts}
@@ -47,7 +47,7 @@ behind : (b : Bool) (k : ℕ) (e : Emission) → (check b k then e) .stop ≡ no
 behind true k e h = (refl, h, refl)
 behind false k e h = let z : _≡_ {A = ℕ} 0 1 = cc in absurd (omega arith)
 
-data-accepted : (d : List ℕ) → dataBytes d .stop ≡ none → allLow d ≡ true
+data-accepted : (d : List ℕ) → dataEmission d .stop ≡ none → allLow d ≡ true
 data-accepted d h = go (allLow d) refl
   where
     go : (b : Bool) → allLow d ≡ b → allLow d ≡ true
@@ -88,57 +88,57 @@ goes-fits : (rule : Length) (d : List ℕ) → Goes rule d → dataFits rule d �
 goes-fits (Fixed n) d h = eq-eqb n (length d) h
 goes-fits Count d h = refl
 
-goes-low : (rule : Length) (d : List ℕ) → Goes rule d → allLow d ≡ true → allLow (counted rule d) ≡ true
+goes-low : (rule : Length) (d : List ℕ) → Goes rule d → allLow d ≡ true → allLow (withCount rule d) ≡ true
 goes-low (Fixed n) d h l = l
 goes-low Count d h l = all-low-cons (length d) d h l
 
-goes-most : (rule : Length) (d : List ℕ) → Goes rule d → fixed rule ≤ 5 → length (counted rule d) ≤ 128
+goes-most : (rule : Length) (d : List ℕ) → Goes rule d → fixed rule ≤ 5 → length (withCount rule d) ≤ 128
 goes-most (Fixed n) d h m = omega arith
 goes-most Count d h m = omega arith
 
 -- ---- a name and data that go out
 
-pub sound : (kind : Kind) (name d bytes : List ℕ) → nameFits name ≡ true → allLow name ≡ true → (rule : Length)
-    → lengthOf kind (lastOf name) ≡ rule → Goes rule d → allLow d ≡ true → bytes ≡ name ++ counted rule d
-    → Sound kind (item name d) bytes
+pub named-accepted : (kind : Kind) (name d bytes : List ℕ) → nameFits name ≡ true → allLow name ≡ true → (rule : Length)
+    → lengthOf kind (lastByte name) ≡ rule → Goes rule d → allLow d ≡ true → bytes ≡ name ++ withCount rule d
+    → AcceptedItem kind (item name d) bytes
 unfolding itemBytes itemFits
-sound kind name d bytes f n rule e g l b =
-    let five : fixed rule ≤ 5 = subst (λ (r : Length). fixed r ≤ 5) e (fixed-most kind (lastOf name)) in
-    let m : length (counted rule d) ≤ 128 = goes-most rule d g five in
+named-accepted kind name d bytes f n rule e g l b =
+    let five : fixed rule ≤ 5 = subst (λ (r : Length). fixed r ≤ 5) e (fixed-most kind (lastByte name)) in
+    let m : length (withCount rule d) ≤ 128 = goes-most rule d g five in
     let k : length name ≤ 3 = name-length name f .1 in
     record {
-      item-bytes = b ∙ ap (λ (r : Length). name ++ counted r d) (sym e);
+      item-bytes = b ∙ ap (λ (r : Length). name ++ withCount r d) (sym e);
       fits = rw (f, e) (goes-fits rule d g);
-      low = rw (b, all-low-append name (counted rule d), n) (goes-low rule d g l);
-      short = rw (b, length-append name (counted rule d)) (omega arith);
+      low = rw (b, all-low-append name (withCount rule d), n) (goes-low rule d g l);
+      short = rw (b, length-append name (withCount rule d)) (omega arith);
     }
 
 rule-goes : (rule : Length) (d : List ℕ) → byRule rule d .stop ≡ none
-    → Goes rule d × (allLow d ≡ true) × (byRule rule d ≡ sent (counted rule d))
+    → Goes rule d × (allLow d ≡ true) × (byRule rule d ≡ sent (withCount rule d))
 unfolding byRule
 rule-goes (Fixed n) d h =
-    let t = behind (eqb n (length d)) 2 (dataBytes d) h in
+    let t = behind (eqb n (length d)) 2 (dataEmission d) h in
     let e : n ≡ length d = eqb-true n (length d) (t .0) in
     let l : allLow d ≡ true = data-accepted d (t .1) in
     (e, l, fixed-low d n e l)
 rule-goes Count d h =
-    let t = behind (leb (length d) 127) 2 (sent (length d ∷ []) then dataBytes d) h in
+    let t = behind (leb (length d) 127) 2 (sent (length d ∷ []) then dataEmission d) h in
     let e : length d ≤ 127 = leb-true (length d) 127 (t .0) in
     let l : allLow d ≡ true = data-accepted d (t .1) in
     (e, l, count-low d e l)
 
 pub named-sound : (kind : Kind) (name d : List ℕ) → namedItem kind name d .stop ≡ none
-    → Sound kind (item name d) (namedItem kind name d .bytes)
+    → AcceptedItem kind (item name d) (namedItem kind name d .bytes)
 unfolding namedItem
 named-sound kind name d h =
-    let rest : Emission = byRule (lengthOf kind (lastOf name)) d in
-    let t = behind (nameFits name) 2 (dataBytes name then rest) h in
-    let u = then-accepted (dataBytes name) rest (t .1) in
+    let rest : Emission = byRule (lengthOf kind (lastByte name)) d in
+    let t = behind (nameFits name) 2 (dataEmission name then rest) h in
+    let u = then-accepted (dataEmission name) rest (t .1) in
     let n : allLow name ≡ true = data-accepted name (u .0) in
-    let r = rule-goes (lengthOf kind (lastOf name)) d (u .1) in
-    let b : namedItem kind name d .bytes ≡ name ++ counted (lengthOf kind (lastOf name)) d =
+    let r = rule-goes (lengthOf kind (lastByte name)) d (u .1) in
+    let b : namedItem kind name d .bytes ≡ name ++ withCount (lengthOf kind (lastByte name)) d =
     ap (λ (x : Emission). x .bytes) (name-sent kind name d (t .0) n ∙ ap (λ (x : Emission). sent name then x) (r .2)) in
-    sound kind name d (namedItem kind name d .bytes) (t .0) n (lengthOf kind (lastOf name)) refl (r .0) (r .1) b
+    named-accepted kind name d (namedItem kind name d .bytes) (t .0) n (lengthOf kind (lastByte name)) refl (r .0) (r .1) b
 
 -- ---- what the checks of a command or field tell
 
@@ -219,42 +219,42 @@ one-fits n h = rw (ne-eqb n 0 (λ e. omega arith))
 
 -- An item of a name of one byte.
 one-sound : (kind : Kind) (n : ℕ) (d bytes : List ℕ) (rule : Length) → 1 ≤ n → n ≤ 127 → lengthOf kind n ≡ rule → Goes rule d
-    → allLow d ≡ true → bytes ≡ n ∷ counted rule d → Sound kind (item (n ∷ []) d) bytes
-one-sound kind n d bytes rule l h e g low b = sound kind (n ∷ []) d bytes (one-fits n l) (low-one n h) rule e g low b
+    → allLow d ≡ true → bytes ≡ n ∷ withCount rule d → AcceptedItem kind (item (n ∷ []) d) bytes
+one-sound kind n d bytes rule l h e g low b = named-accepted kind (n ∷ []) d bytes (one-fits n l) (low-one n h) rule e g low b
 
 -- A command without data.
-plain : (n : ℕ) → 1 ≤ n → n < 64 → Sound Commands (item (n ∷ []) []) (n ∷ [])
-plain n l h = one-sound Commands n [] (n ∷ []) (Fixed 0) l (omega arith) (command-below n h) refl all-low-none refl
+name-accepted : (n : ℕ) → 1 ≤ n → n < 64 → AcceptedItem Commands (item (n ∷ []) []) (n ∷ [])
+name-accepted n l h = one-sound Commands n [] (n ∷ []) (Fixed 0) l (omega arith) (command-below n h) refl all-low-none refl
 
 -- A command with a count.
 with-count : (n : ℕ) (d bytes : List ℕ) → 64 ≤ n → n < 120 → length d ≤ 127 → allLow d ≡ true → bytes ≡ n ∷ length d ∷ d
-    → Sound Commands (item (n ∷ []) d) bytes
+    → AcceptedItem Commands (item (n ∷ []) d) bytes
 with-count n d bytes l h m low e =
     one-sound Commands n d bytes Count (omega arith) (omega arith) (command-count n l h) m low e
 
 other-sound : (kind : Kind) (source : List ℕ) (n d : Part) → otherItem kind source n d .stop ≡ none
-    → Sound kind (item (partOf source n) (partOf source d)) (otherItem kind source n d .bytes)
+    → AcceptedItem kind (item (partOf source n) (partOf source d)) (otherItem kind source n d .bytes)
 unfolding otherItem
 other-sound kind source n d h =
     let t = behind (isInside source n && isInside source d) 6 (namedItem kind (partOf source n) (partOf source d)) h in
     rw (t .2) (named-sound kind (partOf source n) (partOf source d) (t .1))
 
 write-sound : (source : List ℕ) (d : Part) → writeItem source d .stop ≡ none
-    → Sound Commands (item (64 ∷ []) (partOf source d)) (writeItem source d .bytes)
+    → AcceptedItem Commands (item (64 ∷ []) (partOf source d)) (writeItem source d .bytes)
 unfolding writeItem
 write-sound source d h =
     let t = behind (isInside source d) 6 (namedItem Commands (64 ∷ []) (partOf source d)) h in
     rw (t .2) (named-sound Commands (64 ∷ []) (partOf source d) (t .1))
 
 locate-field-sound : (r : ℕ) → locateFieldItem r .stop ≡ none
-    → Sound Commands (item (68 ∷ []) (0 ∷ r ∷ [])) (locateFieldItem r .bytes)
+    → AcceptedItem Commands (item (68 ∷ []) (0 ∷ r ∷ [])) (locateFieldItem r .bytes)
 locate-field-sound r h =
     let t = locate-field-checks r h in
     let low : allLow (0 ∷ r ∷ []) ≡ true = all-low-cons 0 (r ∷ []) (lit≤ tt) (low-one r (omega (arith, t .1))) in
     with-count 68 (0 ∷ r ∷ []) _ (lit≤ tt) (lit≤ tt) (lit≤ tt) low (t .2)
 
 locate-target-sound : (c : StandardTimeCode) → locateTargetItem c .stop ≡ none
-    → Sound Commands (item (68 ∷ []) (1 ∷ standardList c)) (locateTargetItem c .bytes)
+    → AcceptedItem Commands (item (68 ∷ []) (1 ∷ standardList c)) (locateTargetItem c .bytes)
 locate-target-sound c h =
     let t = locate-target-checks c h in
     let n : 6 ≡ suc (length (standardList c)) = omega (arith, five-bytes c) in
@@ -262,24 +262,24 @@ locate-target-sound c h =
     with-count 68 (1 ∷ standardList c) _ (lit≤ tt) (lit≤ tt) (omega arith) low
     (t .1 ∙ ap (λ (k : ℕ). 68 ∷ k ∷ 1 ∷ standardList c) n)
 
-move-sound : (d s : ℕ) → moveItem d s .stop ≡ none → Sound Commands (item (76 ∷ []) (d ∷ s ∷ [])) (moveItem d s .bytes)
+move-sound : (d s : ℕ) → moveItem d s .stop ≡ none → AcceptedItem Commands (item (76 ∷ []) (d ∷ s ∷ [])) (moveItem d s .bytes)
 move-sound d s h =
     let t = move-checks d s h in
     let low : allLow (d ∷ s ∷ []) ≡ true = all-low-cons d (s ∷ []) (omega (arith, t .1)) (low-one s (omega (arith, t .3))) in
     with-count 76 (d ∷ s ∷ []) _ (lit≤ tt) (lit≤ tt) (lit≤ tt) low (t .4)
 
 command-sound : (source : List ℕ) (c : MmcCommand) → commandItem source c .stop ≡ none
-    → Sound Commands (commandPair source c) (commandItem source c .bytes)
+    → AcceptedItem Commands (commandPair source c) (commandItem source c .bytes)
 unfolding commandItem commandPair
-command-sound source C.Stop h = plain 1 (lit≤ tt) (lit≤ tt)
-command-sound source C.Play h = plain 2 (lit≤ tt) (lit≤ tt)
-command-sound source C.DeferredPlay h = plain 3 (lit≤ tt) (lit≤ tt)
-command-sound source C.FastForward h = plain 4 (lit≤ tt) (lit≤ tt)
-command-sound source C.Rewind h = plain 5 (lit≤ tt) (lit≤ tt)
-command-sound source C.RecordStrobe h = plain 6 (lit≤ tt) (lit≤ tt)
-command-sound source C.RecordExit h = plain 7 (lit≤ tt) (lit≤ tt)
-command-sound source C.Pause h = plain 9 (lit≤ tt) (lit≤ tt)
-command-sound source C.Reset h = plain 13 (lit≤ tt) (lit≤ tt)
+command-sound source C.Stop h = name-accepted 1 (lit≤ tt) (lit≤ tt)
+command-sound source C.Play h = name-accepted 2 (lit≤ tt) (lit≤ tt)
+command-sound source C.DeferredPlay h = name-accepted 3 (lit≤ tt) (lit≤ tt)
+command-sound source C.FastForward h = name-accepted 4 (lit≤ tt) (lit≤ tt)
+command-sound source C.Rewind h = name-accepted 5 (lit≤ tt) (lit≤ tt)
+command-sound source C.RecordStrobe h = name-accepted 6 (lit≤ tt) (lit≤ tt)
+command-sound source C.RecordExit h = name-accepted 7 (lit≤ tt) (lit≤ tt)
+command-sound source C.Pause h = name-accepted 9 (lit≤ tt) (lit≤ tt)
+command-sound source C.Reset h = name-accepted 13 (lit≤ tt) (lit≤ tt)
 command-sound source (C.Write d) h = write-sound source d h
 command-sound source (C.LocateField r) h = locate-field-sound r h
 command-sound source (C.LocateTarget c) h = locate-target-sound c h
@@ -287,14 +287,14 @@ command-sound source (C.Move d s) h = move-sound d s h
 command-sound source (C.Other n d) h = other-sound Commands source n d h
 
 time-code-sound : (f : ℕ) (c : StandardTimeCode) → timeCodeItem f c .stop ≡ none
-    → Sound Fields (item (f ∷ []) (standardList c)) (timeCodeItem f c .bytes)
+    → AcceptedItem Fields (item (f ∷ []) (standardList c)) (timeCodeItem f c .bytes)
 time-code-sound f c h =
     let t = time-code-checks f c h in
     one-sound Fields f (standardList c) _ (Fixed 5) (t .0) (omega (arith, t .1)) (field-five f (t .0) (t .1)) (sym (five-bytes c))
     (bytes-low c (t .2)) (t .3)
 
 short-code-sound : (f : ℕ) (c : ShortTimeCode) → shortCodeItem f c .stop ≡ none
-    → Sound Fields (item ((f + 32) ∷ []) (shortList c)) (shortCodeItem f c .bytes)
+    → AcceptedItem Fields (item ((f + 32) ∷ []) (shortList c)) (shortCodeItem f c .bytes)
 short-code-sound f c h =
     let t = short-code-checks f c h in
     let l : f + 32 < 64 = omega (arith, t .1) in
@@ -302,27 +302,27 @@ short-code-sound f c h =
     (sym (two-bytes c)) (short-bytes-low c (t .2)) (t .3)
 
 field-sound : (source : List ℕ) (f : InfoField) → fieldItem source f .stop ≡ none
-    → Sound Fields (fieldPair source f) (fieldItem source f .bytes)
+    → AcceptedItem Fields (fieldPair source f) (fieldItem source f .bytes)
 unfolding fieldItem fieldPair
 field-sound source (F.TimeCode f c) h = time-code-sound f c h
 field-sound source (F.Short f c) h = short-code-sound f c h
 field-sound source (F.Other n d) h = other-sound Fields source n d h
 
 pub item-sound : (kind : Kind) (g : Given kind) → emission kind g .stop ≡ none
-    → Sound kind (pairOf kind g) (emission kind g .bytes)
+    → AcceptedItem kind (pairOf kind g) (emission kind g .bytes)
 item-sound Commands g h = command-sound (g .source) (g .meant) h
 item-sound Fields g h = field-sound (g .source) (g .meant) h
 
 -- ---- lists
 
 pub list-sound : (kind : Kind) (gs : List (Given kind)) → emissions kind gs .stop ≡ none
-    → SoundList kind (pairsOf kind gs) (emissions kind gs .bytes)
+    → AcceptedItems kind (pairsOf kind gs) (emissions kind gs .bytes)
 unfolding emissions joined allFit
 list-sound kind [] h = record { item-bytes = refl; fits = refl; low = all-low-none; short = lit≤ tt }
 list-sound kind (g ∷ gs) h =
     let t = then-accepted (emission kind g) (emissions kind gs) h in
-    let s : Sound kind (pairOf kind g) (emission kind g .bytes) = item-sound kind g (t .0) in
-    let r : SoundList kind (pairsOf kind gs) (emissions kind gs .bytes) = list-sound kind gs (t .1) in
+    let s : AcceptedItem kind (pairOf kind g) (emission kind g .bytes) = item-sound kind g (t .0) in
+    let r : AcceptedItems kind (pairsOf kind gs) (emissions kind gs .bytes) = list-sound kind gs (t .1) in
     let b : emissions kind (g ∷ gs) .bytes ≡ emission kind g .bytes ++ emissions kind gs .bytes =
     ap (λ (x : Emission). x .bytes) (then-sent (emission kind g) (emissions kind gs) (t .0)) in
     let m : length (emission kind g .bytes) ≤ 131 = s .short in

@@ -10,48 +10,48 @@ use Rattle.mmc.specs.declared.field.InfoField.the-variants.{TimeCode, Sh
 use Rattle.mmc.specs.declared.part.Part.{Part}
 use Rattle.codes.specs.declared.time_code.StandardTimeCode.{StandardTimeCode}
 use Rattle.codes.specs.declared.time_code.ShortTimeCode.{ShortTimeCode}
-use Rattle.mmc.specs.Field.{readByte, readField, placed}
+use Rattle.mmc.specs.Field.{fieldByName, readField, fieldOfCase}
 use Rattle.codes.specs.TimeCode.{readStandard, readShort}
-use Rattle.mmc.proofs.Ranges.{in-range, below-range, above-range}
+use Rattle.mmc.proofs.Ranges.{within-range, below-range, above-range}
 
 module _ (name d : List ℕ) (n a : Part) where
-  pub long-name : (length name ≡ 1 → ⊥) → Other n a ≡ placed (readField name d) n a
+  pub long-name : (length name ≡ 1 → ⊥) → Other n a ≡ fieldOfCase (readField name d) n a
   unfolding readField
   long-name h = rw (ne-eqb (length name) 1 h)
 
   module _ (l : length name ≡ 1) where
-    pub no-code : 1 ≤ getD name 0 0 → getD name 0 0 < 32 → (length d ≡ 5 → ⊥) → Other n a ≡ placed (readField name d) n a
-    unfolding readField readByte
-    no-code f t h = rw (l, in-range 1 32 (getD name 0 0) f t, ne-eqb (length d) 5 h)
+    pub no-code : 1 ≤ getD name 0 0 → getD name 0 0 < 32 → (length d ≡ 5 → ⊥) → Other n a ≡ fieldOfCase (readField name d) n a
+    unfolding readField fieldByName
+    no-code f t h = rw (l, within-range 1 32 (getD name 0 0) f t, ne-eqb (length d) 5 h)
 
     pub code : 1 ≤ getD name 0 0 → getD name 0 0 < 32 → length d ≡ 5 → (k : StandardTimeCode)
         → k ≡ readStandard (getD d 0 0) (getD d 1 0) (getD d 2 0) (getD d 3 0) (getD d 4 0)
-        → TimeCode (getD name 0 0) k ≡ placed (readField name d) n a
-    unfolding readField readByte
-    code f t h k e = rw (l, in-range 1 32 (getD name 0 0) f t, h, e)
+        → TimeCode (getD name 0 0) k ≡ fieldOfCase (readField name d) n a
+    unfolding readField fieldByName
+    code f t h k e = rw (l, within-range 1 32 (getD name 0 0) f t, h, e)
 
-    pub no-short : 33 ≤ getD name 0 0 → getD name 0 0 < 64 → (length d ≡ 2 → ⊥) → Other n a ≡ placed (readField name d) n a
-    unfolding readField readByte
+    pub no-short : 33 ≤ getD name 0 0 → getD name 0 0 < 64 → (length d ≡ 2 → ⊥) → Other n a ≡ fieldOfCase (readField name d) n a
+    unfolding readField fieldByName
     no-short f t h =
-        rw (l, above-range 1 32 (getD name 0 0) (omega arith) (omega arith), in-range 33 64 (getD name 0 0) f t, ne-eqb (length d) 2 h)
+        rw (l, above-range 1 32 (getD name 0 0) (omega arith) (omega arith), within-range 33 64 (getD name 0 0) f t, ne-eqb (length d) 2 h)
 
     pub short-code : 33 ≤ getD name 0 0 → getD name 0 0 < 64 → length d ≡ 2 → (k : ShortTimeCode)
-        → k ≡ readShort (getD d 0 0) (getD d 1 0) → Short (getD name 0 0 - 32) k ≡ placed (readField name d) n a
-    unfolding readField readByte
+        → k ≡ readShort (getD d 0 0) (getD d 1 0) → Short (getD name 0 0 - 32) k ≡ fieldOfCase (readField name d) n a
+    unfolding readField fieldByName
     short-code f t h k e =
-        rw (l, above-range 1 32 (getD name 0 0) (omega arith) (omega arith), in-range 33 64 (getD name 0 0) f t, h, e)
+        rw (l, above-range 1 32 (getD name 0 0) (omega arith) (omega arith), within-range 33 64 (getD name 0 0) f t, h, e)
 
     -- any other name: 0, 20H, and 40H and above
-    pub zero-name : getD name 0 0 < 1 → Other n a ≡ placed (readField name d) n a
-    unfolding readField readByte
+    pub zero-name : getD name 0 0 < 1 → Other n a ≡ fieldOfCase (readField name d) n a
+    unfolding readField fieldByName
     zero-name h = rw (l, below-range 1 32 (getD name 0 0) h, below-range 33 64 (getD name 0 0) (omega arith))
 
-    pub between-name : 32 ≤ getD name 0 0 → getD name 0 0 < 33 → Other n a ≡ placed (readField name d) n a
-    unfolding readField readByte
+    pub between-name : 32 ≤ getD name 0 0 → getD name 0 0 < 33 → Other n a ≡ fieldOfCase (readField name d) n a
+    unfolding readField fieldByName
     between-name f t =
         rw (l, above-range 1 32 (getD name 0 0) (omega arith) f, below-range 33 64 (getD name 0 0) t)
 
-    pub high-name : 64 ≤ getD name 0 0 → Other n a ≡ placed (readField name d) n a
-    unfolding readField readByte
+    pub high-name : 64 ≤ getD name 0 0 → Other n a ≡ fieldOfCase (readField name d) n a
+    unfolding readField fieldByName
     high-name f =
         rw (l, above-range 1 32 (getD name 0 0) (omega arith) (omega arith), above-range 33 64 (getD name 0 0) (omega arith) f)

@@ -15,11 +15,11 @@ use Rattle.mmc.specs.declared.length.Length.{Length}
 use Rattle.mmc.specs.declared.length.Length.the-variants.{Fixed, Count}
 use Rattle.mmc.specs.declared.split.Parts.the-variants as P
 use Rattle.mmc.specs.Length.{lengthOf}
-use Rattle.mmc.specs.Named.{nameFits, lastOf}
+use Rattle.mmc.specs.Named.{nameFits, lastByte}
 use Rattle.mmc.specs.Part.{part, isInside, partOf}
 use Rattle.mmc.specs.Rp013.{Item}
 use Rattle.mmc.specs.Split.{prefixesAt, measured, splitAt}
-use Rattle.mmc.specs.Strings.{item, ruleOf, counted, itemBytes, dataFits, itemFits, countBytes, Found}
+use Rattle.mmc.specs.Strings.{item, ruleOf, withCount, itemBytes, dataFits, itemFits, countBytes, Found}
 use Rattle.universal.proofs.Tests.{and-parts}
 use Rattle.mmc.proofs.Puts.{name-length}
 use Rattle.mmc.proofs.Splits.{one-at-the-end, two-zeros, too-few, enough, cut-name, fixed-data, no-count, counted-data}
@@ -65,7 +65,7 @@ zeros-of pre (a ∷ b ∷ x ∷ []) rest h =
 zeros-of pre (a ∷ b ∷ x ∷ y ∷ l) rest h = absurd (true≢false (sym h))
 
 -- Its last byte.
-last-of : (pre name rest : List ℕ) → 1 ≤ length name → getD (string pre name rest) (length pre + (length name - 1)) 0 ≡ lastOf name
+last-of : (pre name rest : List ℕ) → 1 ≤ length name → getD (string pre name rest) (length pre + (length name - 1)) 0 ≡ lastByte name
 last-of pre name rest h =
     let l : length name - 1 < length name = omega arith in
     getD-append-add pre (name ++ rest) (length name - 1) 0 ∙ List·getD-append name rest 0 (length name - 1) l
@@ -85,19 +85,19 @@ module _ (kind : Kind) (pre name rest : List ℕ) (f : nameFits name ≡ true) w
   inside : length pre + (length name - 1) < length (string pre name rest)
   inside = omega (arith, lengths)
 
-  rule-of : (rule : Length) → lengthOf kind (lastOf name) ≡ rule
+  rule-of : (rule : Length) → lengthOf kind (lastByte name) ≡ rule
       → lengthOf kind (getD (string pre name rest) (length pre + (length name - 1)) 0) ≡ rule
   rule-of rule e = ap (lengthOf kind) (last-of pre name rest (lengths .0)) ∙ e
 
   -- A fixed number of data.
-  fixed-at : (n : ℕ) → lengthOf kind (lastOf name) ≡ Fixed n
+  fixed-at : (n : ℕ) → lengthOf kind (lastByte name) ≡ Fixed n
       → splitAt kind (string pre name rest) (length pre)
       ≡ measured (string pre name rest) (part (length pre) (length name - 1 + 1)) (length pre + (length name - 1) + 1) n
   fixed-at n e =
       sym (fixed-data kind (string pre name rest) (length pre) (length name - 1) (zeros-of pre name rest f) inside n
       (rule-of (Fixed n) e))
 
-  split-fixed : (n : ℕ) → lengthOf kind (lastOf name) ≡ Fixed n → n ≤ length rest
+  split-fixed : (n : ℕ) → lengthOf kind (lastByte name) ≡ Fixed n → n ≤ length rest
       → splitAt kind (string pre name rest) (length pre)
       ≡ P.Item (part (length pre) (length name)) (part (length pre + length name + 0) n) (length pre + (length name + n))
   split-fixed n e h =
@@ -107,7 +107,7 @@ module _ (kind : Kind) (pre name rest : List ℕ) (f : nameFits name ≡ true) w
       ∙ sym (enough (string pre name rest) _ _ n a b)
       ∙ item-same (length pre) _ _ _ _ n _ _ (omega (arith, lengths)) (omega (arith, lengths)) (omega (arith, lengths))
 
-  cut-fixed : (n : ℕ) → lengthOf kind (lastOf name) ≡ Fixed n → length rest < n
+  cut-fixed : (n : ℕ) → lengthOf kind (lastByte name) ≡ Fixed n → length rest < n
       → splitAt kind (string pre name rest) (length pre) ≡ P.Cut
   cut-fixed n e h =
       let a : length pre + (length name - 1) + 1 ≤ length (string pre name rest) = omega (arith, lengths) in
@@ -115,14 +115,14 @@ module _ (kind : Kind) (pre name rest : List ℕ) (f : nameFits name ≡ true) w
       fixed-at n e ∙ sym (too-few (string pre name rest) _ _ n a b)
 
 -- A count byte that is missing.
-cut-count : (kind : Kind) (pre name : List ℕ) → nameFits name ≡ true → lengthOf kind (lastOf name) ≡ Count
+cut-count : (kind : Kind) (pre name : List ℕ) → nameFits name ≡ true → lengthOf kind (lastByte name) ≡ Count
     → splitAt kind (string pre name []) (length pre) ≡ P.Cut
 cut-count kind pre name f e =
     sym (no-count kind (string pre name []) (length pre) (length name - 1) (zeros-of pre name [] f) (inside kind pre name [] f)
     (rule-of kind pre name [] f Count e) (omega (arith, lengths kind pre name [] f)))
 
 module _ (kind : Kind) (pre name : List ℕ) (c : ℕ) (rest : List ℕ) (f : nameFits name ≡ true)
-    (e : lengthOf kind (lastOf name) ≡ Count) where
+    (e : lengthOf kind (lastByte name) ≡ Count) where
   known : (1 ≤ length name) × (length (string pre name (c ∷ rest)) ≡ length pre + (length name + suc (length rest)))
   known = lengths kind pre name (c ∷ rest) f
 
@@ -160,10 +160,10 @@ module _ (kind : Kind) (pre name : List ℕ) (c : ℕ) (rest : List ℕ) (f : na
 -- ---- an item that fits, at its place
 
 module _ (kind : Kind) (pre name d post : List ℕ) (f : nameFits name ≡ true) where
-  split-by-rule : (rule : Length) → lengthOf kind (lastOf name) ≡ rule → dataFits rule d ≡ true
-      → splitAt kind (string pre name (counted rule d ++ post)) (length pre)
+  split-by-rule : (rule : Length) → lengthOf kind (lastByte name) ≡ rule → dataFits rule d ≡ true
+      → splitAt kind (string pre name (withCount rule d ++ post)) (length pre)
       ≡ P.Item (part (length pre) (length name)) (part (length pre + length name + countBytes rule) (length d))
-      (length pre + (length name + length (counted rule d)))
+      (length pre + (length name + length (withCount rule d)))
   split-by-rule (Fixed n) e h =
       let l : length (d ++ post) ≡ length d + length post = length-append d post in
       split-fixed kind pre name (d ++ post) f (length d) (e ∙ ap Fixed (eqb-true n (length d) h)) (omega arith)
@@ -173,7 +173,7 @@ module _ (kind : Kind) (pre name d post : List ℕ) (f : nameFits name ≡ true)
 
 -- The data of an item, after its name and a count byte, if there is one.
 data-by-rule : (rule : Length) (pre name d post : List ℕ) (start : ℕ) → start ≡ length pre + length name + countBytes rule
-    → partOf (string pre name (counted rule d ++ post)) (part start (length d)) ≡ d
+    → partOf (string pre name (withCount rule d ++ post)) (part start (length d)) ≡ d
 data-by-rule (Fixed n) pre name d post start s =
     part-bytes _ (pre ++ name) d post start (length d) (simp append-assoc) (omega (arith, length-append pre name)) refl
 data-by-rule Count pre name d post start s =
@@ -186,11 +186,11 @@ pub item-found : (kind : Kind) (pre : List ℕ) (x : Item) (post : List ℕ) →
 unfolding itemBytes itemFits
 item-found kind pre x post h =
     let t = and-parts (nameFits (x .name)) (dataFits (ruleOf kind x) (x .«data»)) h in
-    let a : x .name ++ counted (ruleOf kind x) (x .«data») ++ post ≡ x .name ++ (counted (ruleOf kind x) (x .«data») ++ post) =
-    append-assoc (x .name) (counted (ruleOf kind x) (x .«data»)) post in
+    let a : x .name ++ withCount (ruleOf kind x) (x .«data») ++ post ≡ x .name ++ (withCount (ruleOf kind x) (x .«data») ++ post) =
+    append-assoc (x .name) (withCount (ruleOf kind x) (x .«data»)) post in
     record {
       split =
-          rw (a, length-append (x .name) (counted (ruleOf kind x) (x .«data»)))
+          rw (a, length-append (x .name) (withCount (ruleOf kind x) (x .«data»)))
           (split-by-rule kind pre (x .name) (x .«data») post (t .0) (ruleOf kind x) refl (t .1));
       name-bytes = part-bytes _ pre (x .name) _ (length pre) (length (x .name)) (ap (λ (l : List ℕ). pre ++ l) a) refl refl;
       data-bytes = rw a (data-by-rule (ruleOf kind x) pre (x .name) (x .«data») post _ refl);
@@ -199,13 +199,13 @@ item-found kind pre x post h =
 -- ---- what stands at the front of bytes
 
 -- Cut short wherever the bytes stand; or an item that fits, and the bytes after it.
-pub data Front (kind : Kind) (s : List ℕ) : Type 0 where
-  cut : ((pre : List ℕ) → splitAt kind (pre ++ s) (length pre) ≡ P.Cut) → Front kind s
-  whole : (x : Item) (post : List ℕ) → itemFits kind x ≡ true → s ≡ itemBytes kind x ++ post → Front kind s
+pub data ItemFront (kind : Kind) (s : List ℕ) : Type 0 where
+  cut : ((pre : List ℕ) → splitAt kind (pre ++ s) (length pre) ≡ P.Cut) → ItemFront kind s
+  whole : (x : Item) (post : List ℕ) → itemFits kind x ≡ true → s ≡ itemBytes kind x ++ post → ItemFront kind s
 
 module _ (kind : Kind) (name : List ℕ) (f : nameFits name ≡ true) where
-  fixed-front : (rest : List ℕ) (n : ℕ) → lengthOf kind (lastOf name) ≡ Fixed n → (b : Bool) → leb n (length rest) ≡ b
-      → Front kind (name ++ rest)
+  fixed-front : (rest : List ℕ) (n : ℕ) → lengthOf kind (lastByte name) ≡ Fixed n → (b : Bool) → leb n (length rest) ≡ b
+      → ItemFront kind (name ++ rest)
   unfolding itemBytes itemFits
   fixed-front rest n e true h =
       whole (item name (take n rest)) (drop n rest)
@@ -213,8 +213,8 @@ module _ (kind : Kind) (name : List ℕ) (f : nameFits name ≡ true) where
       (rw (e, append-assoc name (take n rest) (drop n rest), take-append-drop n rest))
   fixed-front rest n e false h = cut (λ pre. cut-fixed kind pre name rest f n e (leb-false n (length rest) h))
 
-  counted-front : (c : ℕ) (rest : List ℕ) → lengthOf kind (lastOf name) ≡ Count → (b : Bool) → leb c (length rest) ≡ b
-      → Front kind (name ++ (c ∷ rest))
+  counted-front : (c : ℕ) (rest : List ℕ) → lengthOf kind (lastByte name) ≡ Count → (b : Bool) → leb c (length rest) ≡ b
+      → ItemFront kind (name ++ (c ∷ rest))
   unfolding itemBytes itemFits
   counted-front c rest e true h =
       whole (item name (take c rest)) (drop c rest) (rw (f, e))
@@ -226,7 +226,7 @@ module _ (kind : Kind) (name : List ℕ) (f : nameFits name ≡ true) where
       ))
   counted-front c rest e false h = cut (λ pre. cut-counted kind pre name c rest f e (leb-false c (length rest) h))
 
-  rule-front : (rest : List ℕ) (rule : Length) → lengthOf kind (lastOf name) ≡ rule → Front kind (name ++ rest)
+  rule-front : (rest : List ℕ) (rule : Length) → lengthOf kind (lastByte name) ≡ rule → ItemFront kind (name ++ rest)
   rule-front rest (Fixed n) e = fixed-front rest n e (leb n (length rest)) refl
   rule-front [] Count e = cut (λ pre. cut-count kind pre name f e)
   rule-front (c ∷ rest) Count e = counted-front c rest e (leb c (length rest)) refl
@@ -250,23 +250,23 @@ lone-zeros kind x y e q pre =
     (two-zeros (pre ++ (x ∷ y ∷ [])) (length pre) (omega arith) z (omega arith) w) (omega arith))
 
 -- The front of any bytes.
-pub front : (kind : Kind) (s : List ℕ) → 1 ≤ length s → Front kind s
+pub item-front : (kind : Kind) (s : List ℕ) → 1 ≤ length s → ItemFront kind s
 unfolding nameFits
-front kind [] h = absurd (not-suc-le-zero h)
-front kind (x ∷ []) h = go (eqb x 0) refl
+item-front kind [] h = absurd (not-suc-le-zero h)
+item-front kind (x ∷ []) h = go (eqb x 0) refl
   where
-    go : (b : Bool) → eqb x 0 ≡ b → Front kind (x ∷ [])
+    go : (b : Bool) → eqb x 0 ≡ b → ItemFront kind (x ∷ [])
     go true e = cut (lone-zero kind x (eqb-true x 0 e))
     go false e = rule-front kind (x ∷ []) (rw e) [] _ refl
-front kind (x ∷ y ∷ []) h = go (eqb x 0) (eqb y 0) refl refl
+item-front kind (x ∷ y ∷ []) h = go (eqb x 0) (eqb y 0) refl refl
   where
-    go : (a b : Bool) → eqb x 0 ≡ a → eqb y 0 ≡ b → Front kind (x ∷ y ∷ [])
+    go : (a b : Bool) → eqb x 0 ≡ a → eqb y 0 ≡ b → ItemFront kind (x ∷ y ∷ [])
     go true true e q = cut (lone-zeros kind x y (eqb-true x 0 e) (eqb-true y 0 q))
     go true false e q = rule-front kind (x ∷ y ∷ []) (rw (e, q)) [] _ refl
     go false b e q = rule-front kind (x ∷ []) (rw e) (y ∷ []) _ refl
-front kind (x ∷ y ∷ z ∷ s) h = go (eqb x 0) (eqb y 0) refl refl
+item-front kind (x ∷ y ∷ z ∷ s) h = go (eqb x 0) (eqb y 0) refl refl
   where
-    go : (a b : Bool) → eqb x 0 ≡ a → eqb y 0 ≡ b → Front kind (x ∷ y ∷ z ∷ s)
+    go : (a b : Bool) → eqb x 0 ≡ a → eqb y 0 ≡ b → ItemFront kind (x ∷ y ∷ z ∷ s)
     go true true e q = rule-front kind (x ∷ y ∷ z ∷ []) (rw (e, q)) s _ refl
     go true false e q = rule-front kind (x ∷ y ∷ []) (rw (e, q)) (z ∷ s) _ refl
     go false b e q = rule-front kind (x ∷ []) (rw e) (y ∷ z ∷ s) _ refl

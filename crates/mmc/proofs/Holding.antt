@@ -15,24 +15,21 @@ use Rattle.mmc.specs.declared.length.Kind.{Kind}
 use Rattle.mmc.specs.declared.length.Kind.the-variants.{Commands, Fields}
 use Rattle.mmc.specs.Length.{within}
 use Rattle.mmc.specs.Rp013.{subId1, lastDevice}
-use Rattle.mmc.specs.Strings.{Given, emission, emissions, counted}
+use Rattle.mmc.specs.Strings.{Given, emission, emissions, withCount}
 use Rattle.mmc.specs.Write as W
-use Rattle.mmc.specs.Write.{Writing, sound, openedCommands, openedFields, begun, admitted, closedMessage, closedFields, ended, wholeMessage, wholeFields}
+use Rattle.mmc.specs.Write.{Writing, orFailed, openedCommands, openedFields, begun, admitted, closedMessage, closedFields, closeAnswer, wholeMessage, wholeFields}
 use Rattle.mmc.specs.Writings.{State, opened, afterItem, afterItems, openingOf, fieldsOpened}
 use Rattle.mmc.specs.WholeLists.{checks, checksBy, Entry, entry, entryEmission, afterEntry, afterEntries, entriesEmission}
 use Rattle.universal.specs.Refusals.{Refusal}
-use Rattle.universal.specs.Emission.{Emission, sent, stopped, check, resume, _then_, fitted, answerIn, answer}
+use Rattle.universal.specs.Emission.{Emission, sent, refusing, check, resume, _then_, fitted, answerIn, answer}
 use Rattle.universal.specs.Message.{header}
 use Rattle.universal.specs.Overlay.{overlay}
 use Rattle.universal.specs.declared.message.MaybeSubId2.the-variants.{NoSubId2}
 use Rattle.universal.proofs.Laws.{overlay-none, overlay-append, then-sent, then-refused, then-assoc, opening-device, opening-plain}
 use Rattle.mmc.proofs.ItemPuts.{command-small, field-small}
-use Rattle.mmc.proofs.Ranges.{in-range, below-range, above-range}
+use Rattle.mmc.proofs.Ranges.{within-range, below-range, above-range}
 use Rattle.mmc.proofs.Writers.{ready-kept, ready-failed, repeats, takes, no-response, response-opening}
-use Rattle.mmc.proofs.Accepting.{Kept, kept-sound, given-kept}
-
-pub none-some : (r : Refusal) → some r ≡ none → ⊥
-none-some r p = let z : _≡_ {A = ℕ} 0 1 = cc in omega arith
+use Rattle.mmc.proofs.Accepting.{KeptByCalls, kept-sound, given-kept}
 
 -- Every entry emits at most 131 bytes.
 pub entry-small : (e : Entry) → length (entryEmission e .bytes) ≤ 131
@@ -55,7 +52,7 @@ then-nothing e = go (e .stop)
 -- An opening that goes out whole, four bytes, or is refused with nothing out.
 abbrev pub OpensWhole : Kind → ℕ → Type 0
 OpensWhole kind device =
-    ((k : ℕ) × (openingOf kind device ≡ stopped k))
+    ((k : ℕ) × (openingOf kind device ≡ refusing k))
     ⊎ ((device ≤ lastDevice kind) × (openingOf kind device ≡ sent (240 ∷ 127 ∷ device ∷ subId1 kind ∷ [])))
 
 pub opens-whole : (kind : Kind) (device : ℕ) → OpensWhole kind device
@@ -81,18 +78,18 @@ opens-whole Fields device = go (leb device 126) (leb device 127) refl refl
         inl (5, response-opening device n ∙ opening-device (header true device 7 NoSubId2) l)
 
 -- What an opening leaves is far from the limits.
-begun-kept : (e : Emission) → length (e .bytes) ≤ 4 → Kept (begun e)
+begun-kept : (e : Emission) → length (e .bytes) ≤ 4 → KeptByCalls (begun e)
 unfolding begun
 begun-kept e h = record { few = lit≤ tt; near = omega arith; going = λ _. omega arith }
 
-pub opened-kept : (kind : Kind) (device : ℕ) → Kept (begun (openingOf kind device))
+pub opened-kept : (kind : Kind) (device : ℕ) → KeptByCalls (begun (openingOf kind device))
 opened-kept kind device = begun-kept (openingOf kind device) (go (opens-whole kind device))
   where
     go : OpensWhole kind device → length (openingOf kind device .bytes) ≤ 4
     go (inl p) = rw (p .1) (lit≤ tt)
     go (inr p) = rw (p .1) (lit≤ tt)
 
-pub fields-kept : Kept openedFields
+pub fields-kept : KeptByCalls openedFields
 fields-kept = record { few = lit≤ tt; near = lit≤ tt; going = λ _. lit≤ tt }
 
 -- ---- a writing that holds an emission
@@ -103,15 +100,15 @@ pub record Holds (found : List ℕ) (e : Emission) (most : ℕ) (s : State) : Ty
   pub items : s .writing .items ≤ most
   pub stop : s .writing .stop ≡ e .stop
   pub out : s .out ≡ overlay found 0 (e .bytes)
-  pub kept : Kept (s .writing)
+  pub kept : KeptByCalls (s .writing)
 
 -- An item after a refusal leaves what was held.
 holds-refused : (found : List ℕ) (e i : Emission) (most : ℕ) (w : Writing) (out : List ℕ) (r : Refusal)
     → Holds found e most (record { writing = w; out = out }) → e .stop ≡ some r → length (i .bytes) ≤ 131
-    → Holds found (e then i) (suc most) (record { writing = W.given w i; out = overlay out (w .at) (admitted w i .bytes) })
-unfolding W.given
+    → Holds found (e then i) (suc most) (record { writing = W.writingAfter w i; out = overlay out (w .at) (admitted w i .bytes) })
+unfolding W.writingAfter
 holds-refused found e i most w out r h q small =
-    let r-stop : sound w .stop ≡ some r = ap (λ (x : Writing). x .stop) (kept-sound w (h .kept)) ∙ h .stop ∙ q in
+    let r-stop : orFailed w .stop ≡ some r = ap (λ (x : Writing). x .stop) (kept-sound w (h .kept)) ∙ h .stop ∙ q in
     let a : admitted w i ≡ record { bytes = []; stop = some r } = repeats w i r (sym (ready-failed w r r-stop)) in
     let t : e then i ≡ e = then-refused e i r q in
     record {
@@ -129,8 +126,8 @@ holds-refused found e i most w out r h q small =
 -- An item that is taken adds its own emission.
 holds-taken : (found : List ℕ) (e i : Emission) (most : ℕ) (w : Writing) (out : List ℕ)
     → Holds found e most (record { writing = w; out = out }) → e .stop ≡ none → most < 256 → length (i .bytes) ≤ 131
-    → Holds found (e then i) (suc most) (record { writing = W.given w i; out = overlay out (w .at) (admitted w i .bytes) })
-unfolding W.given
+    → Holds found (e then i) (suc most) (record { writing = W.writingAfter w i; out = overlay out (w .at) (admitted w i .bytes) })
+unfolding W.writingAfter
 holds-taken found e i most w out h q few small =
     let near : w .at ≤ 40000 = omega (arith, h .kept .few, h .kept .near) in
     let under : w .items < 256 = omega (arith, h .items) in
@@ -152,7 +149,7 @@ holds-taken found e i most w out h q few small =
       kept = given-kept w i (h .kept) small;
     }
   where
-    one-more : (s : Option Refusal) (n m : ℕ) → n ≤ m → W.counted s n ≤ suc m
+    one-more : (s : Option Refusal) (n m : ℕ) → n ≤ m → W.itemsAfter s n ≤ suc m
     one-more none n m l = omega arith
     one-more (some r) n m l = omega arith
 
@@ -226,8 +223,8 @@ rule-of-48 n = go (leb 1 n) (leb n 48) refl refl
   where
     go : (a b : Bool) → leb 1 n ≡ a → leb n 48 ≡ b → within 5 53 (4 + n) ≡ within 1 49 n
     go true true e f =
-        in-range 5 53 (4 + n) (omega (arith, leb-true 1 n e)) (omega (arith, leb-true n 48 f))
-        ∙ sym (in-range 1 49 n (leb-true 1 n e) (omega (arith, leb-true n 48 f)))
+        within-range 5 53 (4 + n) (omega (arith, leb-true 1 n e)) (omega (arith, leb-true n 48 f))
+        ∙ sym (within-range 1 49 n (leb-true 1 n e) (omega (arith, leb-true n 48 f)))
     go true false e f =
         above-range 5 53 (4 + n) (omega (arith, leb-true 1 n e)) (omega (arith, leb-false n 48 f))
         ∙ sym (above-range 1 49 n (leb-true 1 n e) (omega (arith, leb-false n 48 f)))
@@ -243,18 +240,18 @@ closes found e most s h =
     (ap (λ (w : Writing). w .stop) (kept-sound (s .writing) (h .kept)) ∙ h .stop) (h .at)
 
 -- A writing's answer and buffer are those of what it holds and of its end.
-pub record Ends (found : List ℕ) (e : Emission) (s : State) : Type 0 where
+pub record HeldToEnd (found : List ℕ) (e : Emission) (s : State) : Type 0 where
   pub answers : wholeMessage (s .writing) (length found) ≡ answer e (length found)
   pub leaves : overlay (s .out) (s .writing .at) (closedMessage (s .writing) .bytes) ≡ overlay found 0 (e .bytes)
 
 pub ends-message : (found : List ℕ) (e : Emission) (most : ℕ) (s : State) → Holds found e most s
-    → Ends found (e then check (within 5 53 (length (e .bytes))) 2 then sent (247 ∷ [])) s
+    → HeldToEnd found (e then check (within 5 53 (length (e .bytes))) 2 then sent (247 ∷ [])) s
 unfolding wholeMessage answer
 ends-message found e most s h =
     let c = closes found e most s h in
     record {
       answers =
-          ap₂ (λ (x : Emission) (k : ℕ). ended (x .stop) (k + 1) (length found)) c (h .at)
+          ap₂ (λ (x : Emission) (k : ℕ). closeAnswer (x .stop) (k + 1) (length found)) c (h .at)
           ∙ go (e .stop) (within 5 53 (length (e .bytes)));
       leaves =
           ap₂ (λ (x : Emission) (k : ℕ). overlay (s .out) k (x .bytes)) c (h .at ∙ sym (zero-add (length (e .bytes))))
@@ -271,7 +268,7 @@ ends-message found e most s h =
     put (some r) b = append-nil (e .bytes)
 
     go : (t : Option Refusal) (b : Bool)
-        → ended (added t b .stop) (length (e .bytes) + 1) (length found)
+        → closeAnswer (added t b .stop) (length (e .bytes) + 1) (length found)
         ≡ answerIn (resume (e .bytes) t (check b 2 then sent (247 ∷ [])) .stop)
         (length (resume (e .bytes) t (check b 2 then sent (247 ∷ [])) .bytes)) (length found)
     go none true = ap (λ (k : ℕ). fitted (leb k (length found)) k) (sym (length-append (e .bytes) (247 ∷ [])))
@@ -283,11 +280,11 @@ pub ends-fields : (found : List ℕ) (e : Emission) (most : ℕ) (s : State) →
     → wholeFields (s .writing) (length found) ≡ answer e (length found)
 unfolding wholeFields closedFields answer
 ends-fields found e most s h =
-    ap₂ (λ (t : Option Refusal) (k : ℕ). ended (resume [] t (sent []) .stop) k (length found))
+    ap₂ (λ (t : Option Refusal) (k : ℕ). closeAnswer (resume [] t (sent []) .stop) k (length found))
     (ap (λ (v : Writing). v .stop) (kept-sound (s .writing) (h .kept)) ∙ h .stop) (h .at)
     ∙ go (e .stop)
   where
-    go : (t : Option Refusal) → ended (resume [] t (sent []) .stop) (length (e .bytes)) (length found) ≡ answerIn t (length (e .bytes)) (length found)
+    go : (t : Option Refusal) → closeAnswer (resume [] t (sent []) .stop) (length (e .bytes)) (length found) ≡ answerIn t (length (e .bytes)) (length found)
     go none = refl
     go (some r) = refl
 
@@ -296,7 +293,7 @@ ends-fields found e most s h =
 -- Each is answered by what was emitted so far.
 pub checks-by : (kind : Kind) (found : List ℕ) (gs : List (Given kind)) (e : Emission) (most : ℕ) (s : State) → Holds found e most s
     → most + length gs ≤ 256 → checks kind s gs ≡ checksBy kind e gs
-unfolding checks checksBy W.given
+unfolding checks checksBy W.writingAfter
 checks-by kind found [] e most s h few = refl
 checks-by kind found (g ∷ gs) e most s h few =
     let k : Holds found (e then emission kind g) (suc most) (afterItem kind s g) =

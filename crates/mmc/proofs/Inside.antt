@@ -16,7 +16,7 @@ use Rattle.mmc.specs.declared.split.Parts.{Parts}
 use Rattle.mmc.specs.declared.split.Parts.the-variants.{Item, Cut}
 use Rattle.mmc.specs.Length.{lengthOf}
 use Rattle.mmc.specs.Part.{part}
-use Rattle.mmc.specs.Split.{prefixesAt, measured, byLength, splitAt, Located, Inside, Next, found, next}
+use Rattle.mmc.specs.Split.{prefixesAt, measured, byLength, splitAt, ItemPlace, Inside, Next, found, next}
 use Rattle.universal.specs.Refusals.{Answer, gives, refused, refusal}
 use Rattle.universal.proofs.Tests.{and-parts}
 
@@ -63,7 +63,7 @@ split-inside kind body at = go (ltb (at + prefixesAt body at) (length body)) ref
     go false e = tt
 
 -- What a read found, and the place to read on from.
-abbrev InsideNext : ℕ → ℕ → Answer Located → ℕ → Type 0
+abbrev InsideNext : ℕ → ℕ → Answer ItemPlace → ℕ → Type 0
 InsideNext long place (gives l) after = Inside long place (l .name) (l .«data») after
 InsideNext long place (refused r) after = Unit {0}
 
@@ -73,7 +73,7 @@ found-parts long place (Item n d after) h = h
 found-parts long place Cut h = tt
 
 -- A read, likewise.
-abbrev InsideRead : ℕ → ℕ → Next Located → Type 0
+abbrev InsideRead : ℕ → ℕ → Next ItemPlace → Type 0
 InsideRead long place n = InsideNext long place (n .answer) (n .place)
 
 next-inside : (kind : Kind) (body : List ℕ) (place : ℕ) → InsideRead (length body) place (next kind body place)
@@ -87,7 +87,7 @@ next-inside kind body place = go (ltb place (length body))
     go false = tt
 
 -- An item that was found lies in the string.
-pub found-inside : (kind : Kind) (body : List ℕ) (place : ℕ) (l : Located) → next kind body place .answer ≡ gives l
+pub found-inside : (kind : Kind) (body : List ℕ) (place : ℕ) (l : ItemPlace) → next kind body place .answer ≡ gives l
     → Inside (length body) place (l .name) (l .«data») (next kind body place .place)
 found-inside kind body place l e =
-    subst (λ (a : Answer Located). InsideNext (length body) place a (next kind body place .place)) e (next-inside kind body place)
+    subst (λ (a : Answer ItemPlace). InsideNext (length body) place a (next kind body place .place)) e (next-inside kind body place)

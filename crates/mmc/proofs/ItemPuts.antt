@@ -22,18 +22,19 @@ use Rattle.codes.specs.declared.time_code.StandardTimeCode.{StandardTimeCode}
 use Rattle.codes.specs.declared.time_code.ShortTimeCode.{ShortTimeCode}
 use Rattle.mmc.specs.Item.{checkedItem, standardItem, shortItem, otherItem, writeItem, locateFieldItem, isSubframes, locateTargetItem, moveItem, commandItem, formFits, codeFits, timeCodeItem, shortCodeItem, fieldItem}
 use Rattle.mmc.specs.Length.{within}
-use Rattle.mmc.specs.Named.{Outcome, summed, namedItem}
+use Rattle.mmc.specs.Named.{Extent, extentOf, namedItem}
 use Rattle.mmc.specs.Part.{isInside, partOf}
 use Rattle.codes.specs.TimeCode.{checkedOf, standardFits, standardList, standardBytes, shortFits, shortList, shortBytes}
+use Rattle.universal.proofs.Laws.{gives-refused}
 use Rattle.universal.specs.Refusals.{Refusal, Answer, gives, refused, refusal, refusalOf}
-use Rattle.universal.specs.Emission.{Emission, sent, stopped, check, _then_}
+use Rattle.universal.specs.Emission.{Emission, sent, refusing, check, _then_}
 use Rattle.universal.specs.Overlay.{overlay}
 use Rattle.codes.proofs.Laws.{five-bytes, two-bytes}
 use Rattle.mmc.proofs.Puts.{Puts, puts, puts-none, named-small}
-use Rattle.mmc.proofs.Ranges.{in-range, below-range, above-range, within-told}
+use Rattle.mmc.proofs.Ranges.{within-range, below-range, above-range, within-told}
 
 -- What is put of an emission is put of one equal to it.
-pub puts-as : (e known : Emission) (out : List ℕ) (at : ℕ) (o : Outcome) (after : List ℕ) → e ≡ known → Puts known out at o after
+pub puts-as : (e known : Emission) (out : List ℕ) (at : ℕ) (o : Extent) (after : List ℕ) → e ≡ known → Puts known out at o after
     → Puts e out at o after
 puts-as e known out at o after q p = subst (λ (x : Emission). Puts x out at o after) (sym q) p
 
@@ -42,17 +43,11 @@ puts-as e known out at o after q p = subst (λ (x : Emission). Puts x out at o a
 -- Bytes that were given, or the refusal, tell the check.
 given-bytes : (t : Bool) (l b : List ℕ) → gives b ≡ cond t (gives l) (refused (refusal 3)) → (t ≡ true) × (b ≡ l)
 given-bytes true l b e = (refl, cc)
-given-bytes false l b e = absurd (never e)
-  where
-    never : gives b ≡ refused (refusal 3) → ⊥
-    never p = let z : _≡_ {A = ℕ} 0 1 = cc in omega arith
+given-bytes false l b e = absurd (gives-refused b (refusal 3) (sym e))
 
 given-refusal : (t : Bool) (l : List ℕ) (r : Refusal) → refused r ≡ cond t (gives l) (refused (refusal 3)) → (t ≡ false) × (r ≡ refusal 3)
 given-refusal false l r e = (refl, cc)
-given-refusal true l r e = absurd (never e)
-  where
-    never : refused r ≡ gives l → ⊥
-    never p = let z : _≡_ {A = ℕ} 0 1 = cc in omega arith
+given-refusal true l r e = absurd (gives-refused l r e)
 
 -- At most so many bytes go out.
 code-length : (t : Bool) (l : List ℕ) (n : ℕ) → length l ≡ n → length ((check t 3 then sent l) .bytes) ≤ n
@@ -88,11 +83,11 @@ short-checked c k b e = code-checked k b (shortFits c) (shortList c) e
 -- ---- names with data of the source
 
 module _ (kind : Kind) (source : List ℕ) (n d : Part) where
-  pub name-outside : isInside source n ≡ false → otherItem kind source n d ≡ stopped 6
+  pub name-outside : isInside source n ≡ false → otherItem kind source n d ≡ refusing 6
   unfolding otherItem
   name-outside h = rw h
 
-  pub data-outside : isInside source n ≡ true → isInside source d ≡ false → otherItem kind source n d ≡ stopped 6
+  pub data-outside : isInside source n ≡ true → isInside source d ≡ false → otherItem kind source n d ≡ refusing 6
   unfolding otherItem
   data-outside i h = rw (i, h)
 
@@ -102,7 +97,7 @@ module _ (kind : Kind) (source : List ℕ) (n d : Part) where
   both-inside i j = rw (i, j)
 
 module _ (source : List ℕ) (d : Part) where
-  pub write-outside : isInside source d ≡ false → writeItem source d ≡ stopped 6
+  pub write-outside : isInside source d ≡ false → writeItem source d ≡ refusing 6
   unfolding writeItem
   write-outside h = rw h
 
@@ -111,26 +106,26 @@ module _ (source : List ℕ) (d : Part) where
   write-inside h = rw h
 
 -- What is put of a name and data is put of the parts that they are.
-pub named-as : (kind : Kind) (e : Emission) (x y u v : List ℕ) (out : List ℕ) (at : ℕ) (o : Outcome) (after : List ℕ)
+pub named-as : (kind : Kind) (e : Emission) (x y u v : List ℕ) (out : List ℕ) (at : ℕ) (o : Extent) (after : List ℕ)
     → e ≡ namedItem kind u v → x ≡ u → y ≡ v → Puts (namedItem kind x y) out at o after → Puts e out at o after
 named-as kind e x y u v out at o after q p r k =
     puts-as e (namedItem kind x y) out at o after (q ∙ ap₂ (namedItem kind) (sym p) (sym r)) k
 
 -- ---- locate and move
 
-pub register-below : (r : ℕ) → r < 8 → locateFieldItem r ≡ stopped 3
+pub register-below : (r : ℕ) → r < 8 → locateFieldItem r ≡ refusing 3
 unfolding locateFieldItem
 register-below r h = rw (below-range 8 16 r h)
 
-pub register-above : (r : ℕ) → 8 ≤ r → 16 ≤ r → locateFieldItem r ≡ stopped 3
+pub register-above : (r : ℕ) → 8 ≤ r → 16 ≤ r → locateFieldItem r ≡ refusing 3
 unfolding locateFieldItem
 register-above r l h = rw (above-range 8 16 r l h)
 
 pub register-sent : (r : ℕ) → 8 ≤ r → r < 16 → locateFieldItem r ≡ sent (68 ∷ 2 ∷ 0 ∷ r ∷ [])
 unfolding locateFieldItem
-register-sent r l h = rw (in-range 8 16 r l h)
+register-sent r l h = rw (within-range 8 16 r l h)
 
-pub target-status : (c : StandardTimeCode) (f : FinalByte) → c .«final_byte» ≡ f → isSubframes f ≡ false → locateTargetItem c ≡ stopped 3
+pub target-status : (c : StandardTimeCode) (f : FinalByte) → c .«final_byte» ≡ f → isSubframes f ≡ false → locateTargetItem c ≡ refusing 3
 unfolding locateTargetItem
 target-status c f e h = rw (e, h)
 
@@ -140,11 +135,11 @@ unfolding locateTargetItem
 target-sent c f e h = rw (e, h)
 
 module _ (d s : ℕ) where
-  pub move-destination : within 1 32 d ≡ false → moveItem d s ≡ stopped 3
+  pub move-destination : within 1 32 d ≡ false → moveItem d s ≡ refusing 3
   unfolding moveItem
   move-destination h = rw h
 
-  pub move-source : within 1 32 d ≡ true → within 1 32 s ≡ false → moveItem d s ≡ stopped 3
+  pub move-source : within 1 32 d ≡ true → within 1 32 s ≡ false → moveItem d s ≡ refusing 3
   unfolding moveItem
   move-source h k = rw (h, k)
 
@@ -171,7 +166,7 @@ fits-below f g l h = within-told 1 32 f (and-left (within 1 32 f) (formFits f g 
     and-left true b e = refl
     and-left false b e = e
 
-pub code-unfit : (f : ℕ) (c : StandardTimeCode) → codeFits f (c .negative) (c .«final_byte») ≡ false → timeCodeItem f c ≡ stopped 3
+pub code-unfit : (f : ℕ) (c : StandardTimeCode) → codeFits f (c .negative) (c .«final_byte») ≡ false → timeCodeItem f c ≡ refusing 3
 unfolding timeCodeItem
 code-unfit f c h = rw h
 
@@ -180,7 +175,7 @@ pub code-sent : (f : ℕ) (c : StandardTimeCode) → codeFits f (c .negative) (c
 unfolding timeCodeItem
 code-sent f c h = rw h
 
-pub short-unfit : (f : ℕ) (c : ShortTimeCode) → codeFits f (c .negative) (c .«final_byte») ≡ false → shortCodeItem f c ≡ stopped 3
+pub short-unfit : (f : ℕ) (c : ShortTimeCode) → codeFits f (c .negative) (c .«final_byte») ≡ false → shortCodeItem f c ≡ refusing 3
 unfolding shortCodeItem
 short-unfit f c h = rw h
 
@@ -191,12 +186,12 @@ short-sent f c h = rw h
 
 -- ---- by the case
 
-pub command-as : (source : List ℕ) (c k : MmcCommand) (out : List ℕ) (at : ℕ) (o : Outcome) (after : List ℕ) → c ≡ k
+pub command-as : (source : List ℕ) (c k : MmcCommand) (out : List ℕ) (at : ℕ) (o : Extent) (after : List ℕ) → c ≡ k
     → Puts (commandItem source k) out at o after → Puts (commandItem source c) out at o after
 command-as source c k out at o after e p =
     puts-as (commandItem source c) (commandItem source k) out at o after (ap (commandItem source) e) p
 
-pub field-as : (source : List ℕ) (f k : InfoField) (out : List ℕ) (at : ℕ) (o : Outcome) (after : List ℕ) → f ≡ k
+pub field-as : (source : List ℕ) (f k : InfoField) (out : List ℕ) (at : ℕ) (o : Extent) (after : List ℕ) → f ≡ k
     → Puts (fieldItem source k) out at o after → Puts (fieldItem source f) out at o after
 field-as source f k out at o after e p =
     puts-as (fieldItem source f) (fieldItem source k) out at o after (ap (fieldItem source) e) p

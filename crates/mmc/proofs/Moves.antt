@@ -15,7 +15,7 @@ use Rattle.mmc.specs.declared.split.Parts.{Parts}
 use Rattle.mmc.specs.declared.split.Parts.the-variants.{Item, Cut}
 use Rattle.mmc.specs.Length.{lengthOf}
 use Rattle.mmc.specs.Part.{part}
-use Rattle.mmc.specs.Split.{prefixesAt, measured, byLength, splitAt, Located, Next, found, next, answerAs, nextAs}
+use Rattle.mmc.specs.Split.{prefixesAt, measured, byLength, splitAt, ItemPlace, Next, found, next, answerAs, nextAs}
 use Rattle.universal.specs.Refusals.{Answer, gives, refused, refusal}
 use Rattle.universal.proofs.Tests.{and-parts}
 
@@ -57,7 +57,7 @@ split-end kind body at n d e h =
 
 -- ---- a read
 
-next-end : (body : List ℕ) (place : ℕ) (l : Located) (b : Bool) (s : Parts)
+next-end : (body : List ℕ) (place : ℕ) (l : ItemPlace) (b : Bool) (s : Parts)
     → ((n d : Part) (e : ℕ) → s ≡ Item n d e → (place < e) × (e ≤ length body))
     → cond b (found s (length body)) (record { answer = refused (refusal 9); place = place }) .answer ≡ gives l
     → (place < cond b (found s (length body)) (record { answer = refused (refusal 9); place = place }) .place)
@@ -66,19 +66,19 @@ next-end body place l true (Item n d e) f h = f n d e refl
 next-end body place l true Cut f h = absurd (let z : _≡_ {A = ℕ} 0 1 = cc in omega arith)
 next-end body place l false s f h = absurd (let z : _≡_ {A = ℕ} 0 1 = cc in omega arith)
 
-pub moves : (kind : Kind) (body : List ℕ) (place : ℕ) (l : Located) → next kind body place .answer ≡ gives l
+pub moves : (kind : Kind) (body : List ℕ) (place : ℕ) (l : ItemPlace) → next kind body place .answer ≡ gives l
     → (place < next kind body place .place) × (next kind body place .place ≤ length body)
 unfolding next
 moves kind body place l h =
     next-end body place l (ltb place (length body)) (splitAt kind body place) (split-end kind body place) h
 
 -- What is read as something was found.
-moves-as : {A : Type 0} (f : Located → A) (x : A) (a : Answer Located) (place end most : ℕ)
-    → ((l : Located) → a ≡ gives l → (place < end) × (end ≤ most)) → answerAs f a ≡ gives x → (place < end) × (end ≤ most)
+moves-as : {A : Type 0} (f : ItemPlace → A) (x : A) (a : Answer ItemPlace) (place end most : ℕ)
+    → ((l : ItemPlace) → a ≡ gives l → (place < end) × (end ≤ most)) → answerAs f a ≡ gives x → (place < end) × (end ≤ most)
 moves-as f x (gives l) place end most h e = h l refl
 moves-as f x (refused r) place end most h e = absurd (let z : _≡_ {A = ℕ} 0 1 = cc in omega arith)
 
-pub read-moves : {A : Type 0} (f : Located → A) (x : A) (kind : Kind) (body : List ℕ) (place : ℕ)
+pub read-moves : {A : Type 0} (f : ItemPlace → A) (x : A) (kind : Kind) (body : List ℕ) (place : ℕ)
     → nextAs f (next kind body place) .answer ≡ gives x
     → (place < nextAs f (next kind body place) .place) × (nextAs f (next kind body place) .place ≤ length body)
 read-moves f x kind body place h =

@@ -13,14 +13,14 @@ use Rattle.mmc.specs.declared.length.Kind.the-variants.{Commands, Fields
 use Rattle.mmc.specs.declared.length.Length.{Length}
 use Rattle.mmc.specs.declared.length.Length.the-variants.{Fixed, Count}
 use Rattle.mmc.specs.Length.{commandLength, fieldLength, lengthOf}
-use Rattle.mmc.specs.Named.{nameFits, lastOf}
+use Rattle.mmc.specs.Named.{nameFits, lastByte}
 use Rattle.mmc.specs.Rp013.{Follows, prefixed, Name, Item, After, IsItem, Spell}
-use Rattle.mmc.specs.Strings.{ruleOf, counted, itemBytes, joined, dataFits, itemFits, allFit, zerosItem, isZeros, anyZeros, OfPageOrZeros}
+use Rattle.mmc.specs.Strings.{ruleOf, withCount, itemBytes, joined, dataFits, itemFits, allFit, zerosItem, isZeros, anyZeros, OfPageOrZeros}
 use Rattle.universal.specs.Message.{allLow}
 use Rattle.universal.proofs.Laws.{all-low-append, all-low-byte}
 use Rattle.universal.proofs.Tests.{and-parts, and-all}
 use Rattle.mmc.proofs.Puts.{name-length}
-use Rattle.mmc.proofs.Ranges.{in-range, below-range, above-range}
+use Rattle.mmc.proofs.Ranges.{within-range, below-range, above-range}
 
 -- ---- lengths by the last byte
 
@@ -31,7 +31,7 @@ module _ (n : ℕ) where
 
   pub command-count : 64 ≤ n → n < 120 → lengthOf Commands n ≡ Count
   unfolding lengthOf commandLength
-  command-count l h = rw (in-range 64 120 n l h)
+  command-count l h = rw (within-range 64 120 n l h)
 
   command-above : 120 ≤ n → lengthOf Commands n ≡ Fixed 0
   unfolding lengthOf commandLength
@@ -43,15 +43,15 @@ module _ (n : ℕ) where
 
   pub field-five : 1 ≤ n → n < 32 → lengthOf Fields n ≡ Fixed 5
   unfolding lengthOf fieldLength
-  field-five l h = rw (in-range 1 32 n l h)
+  field-five l h = rw (within-range 1 32 n l h)
 
   pub field-two : 32 ≤ n → n < 64 → lengthOf Fields n ≡ Fixed 2
   unfolding lengthOf fieldLength
-  field-two l h = rw (above-range 1 32 n (omega arith) l, in-range 32 64 n l h)
+  field-two l h = rw (above-range 1 32 n (omega arith) l, within-range 32 64 n l h)
 
   field-count : 64 ≤ n → n < 120 → lengthOf Fields n ≡ Count
   unfolding lengthOf fieldLength
-  field-count l h = rw (above-range 1 32 n (omega arith) (omega arith), above-range 32 64 n (omega arith) l, in-range 64 120 n l h)
+  field-count l h = rw (above-range 1 32 n (omega arith) (omega arith), above-range 32 64 n (omega arith) l, within-range 64 120 n l h)
 
   field-above : 120 ≤ n → lengthOf Fields n ≡ Fixed 0
   unfolding lengthOf fieldLength
@@ -110,7 +110,7 @@ above-zero : (n : ℕ) → eqb n 0 ≡ false → 1 ≤ n
 above-zero n h = let z : n ≡ 0 → ⊥ = eqb-false n 0 h in omega arith
 
 -- A name that may be one is the page's, unless its last byte is 00H.
-pub fits-name : (name : List ℕ) → nameFits name ≡ true → eqb (lastOf name) 0 ≡ false → Name name (lastOf name)
+pub fits-name : (name : List ℕ) → nameFits name ≡ true → eqb (lastByte name) 0 ≡ false → Name name (lastByte name)
 unfolding nameFits
 fits-name [] h z = absurd (true≢false (sym h))
 fits-name (x ∷ []) h z = record { prefixes = 0; few = lit≤ tt; no-prefix = above-zero x z; bytes = refl }
@@ -133,7 +133,7 @@ fits-name (a ∷ b ∷ x ∷ []) h z =
 fits-name (a ∷ b ∷ x ∷ y ∷ l) h z = absurd (true≢false (sym h))
 
 -- Of the names that may be one, only 00 00 00 has 00H as its last byte.
-pub zeros-name : (name : List ℕ) → nameFits name ≡ true → eqb (lastOf name) 0 ≡ true → name ≡ 0 ∷ 0 ∷ 0 ∷ []
+pub zeros-name : (name : List ℕ) → nameFits name ≡ true → eqb (lastByte name) 0 ≡ true → name ≡ 0 ∷ 0 ∷ 0 ∷ []
 unfolding nameFits
 zeros-name [] h z = absurd (true≢false (sym h))
 zeros-name (x ∷ []) h z = absurd (eqb-false x 0 (not-true (eqb x 0) h) (eqb-true x 0 z))
@@ -144,7 +144,7 @@ zeros-name (a ∷ b ∷ x ∷ []) h z =
     λ i. eqb-true a 0 (t .0) i ∷ eqb-true b 0 (t .1) i ∷ eqb-true x 0 z i ∷ []
 zeros-name (a ∷ b ∷ x ∷ y ∷ l) h z = absurd (true≢false (sym h))
 
-prefixed-fits : (k last : ℕ) → k ≤ 2 → (last ≡ 0 → ⊥) → (nameFits (prefixed k last) ≡ true) × (lastOf (prefixed k last) ≡ last)
+prefixed-fits : (k last : ℕ) → k ≤ 2 → (last ≡ 0 → ⊥) → (nameFits (prefixed k last) ≡ true) × (lastByte (prefixed k last) ≡ last)
 unfolding nameFits
 prefixed-fits zero last h n = (rw (ne-eqb last 0 n), refl)
 prefixed-fits (suc zero) last h n = (rw (ne-eqb last 0 n), refl)
@@ -153,19 +153,19 @@ prefixed-fits (suc (suc (suc k))) last h n = absurd (omega arith)
 
 -- A name of the page may be one, with its last byte, which is not 00H.
 pub name-fits : (name : List ℕ) (last : ℕ) → Name name last
-    → (nameFits name ≡ true) × (lastOf name ≡ last) × (eqb last 0 ≡ false)
+    → (nameFits name ≡ true) × (lastByte name ≡ last) × (eqb last 0 ≡ false)
 name-fits name last n =
     let z : last ≡ 0 → ⊥ = λ e. omega (arith, n .no-prefix) in
     let p = prefixed-fits (n .prefixes) last (n .few) z in
-    (ap nameFits (n .bytes) ∙ p .0, ap lastOf (n .bytes) ∙ p .1, ne-eqb last 0 z)
+    (ap nameFits (n .bytes) ∙ p .0, ap lastByte (n .bytes) ∙ p .1, ne-eqb last 0 z)
 
 -- ---- items
 
-after-fits : (rule : Length) (d rest : List ℕ) → After rule d rest → (dataFits rule d ≡ true) × (rest ≡ counted rule d)
+after-fits : (rule : Length) (d rest : List ℕ) → After rule d rest → (dataFits rule d ≡ true) × (rest ≡ withCount rule d)
 after-fits (Fixed n) d rest a = (eq-eqb n (length d) (sym (a .0)), a .1)
 after-fits Count d rest a = (refl, a .1)
 
-fits-after : (rule : Length) (d : List ℕ) → dataFits rule d ≡ true → allLow (counted rule d) ≡ true → After rule d (counted rule d)
+fits-after : (rule : Length) (d : List ℕ) → dataFits rule d ≡ true → allLow (withCount rule d) ≡ true → After rule d (withCount rule d)
 fits-after (Fixed n) d h l = (sym (eqb-true n (length d) h), refl)
 fits-after Count d h l =
     let z : 0 < suc (length d) = omega arith in (omega (arith, all-low-byte (length d ∷ d) 0 l z), refl)
@@ -186,18 +186,18 @@ pub fits-item : (kind : Kind) (x : Item) → itemFits kind x ≡ true → allLow
 unfolding itemFits itemBytes
 fits-item kind x h l z =
     let t = and-parts (nameFits (x .name)) (dataFits (ruleOf kind x) (x .«data»)) h in
-    let b = and-parts (allLow (x .name)) (allLow (counted (ruleOf kind x) (x .«data»)))
-    (sym (all-low-append (x .name) (counted (ruleOf kind x) (x .«data»))) ∙ l) in
+    let b = and-parts (allLow (x .name)) (allLow (withCount (ruleOf kind x) (x .«data»)))
+    (sym (all-low-append (x .name) (withCount (ruleOf kind x) (x .«data»))) ∙ l) in
     let n : 1 ≤ length (x .name) = name-length (x .name) (t .0) .0 in
     let i : length (x .name) - 1 < length (x .name) = omega arith in
     record {
-      last = lastOf (x .name);
+      last = lastByte (x .name);
       named = fits-name (x .name) (t .0) z;
       follows = ruleOf kind x;
       ranged =
-          length-follows kind (lastOf (x .name)) (above-zero (lastOf (x .name)) z)
+          length-follows kind (lastByte (x .name)) (above-zero (lastByte (x .name)) z)
           (all-low-byte (x .name) (length (x .name) - 1) (b .0) i);
-      rest = counted (ruleOf kind x) (x .«data»);
+      rest = withCount (ruleOf kind x) (x .«data»);
       after = fits-after (ruleOf kind x) (x .«data») (t .1) (b .1);
       joined = refl;
     }
@@ -207,7 +207,7 @@ pub zeros-item : (kind : Kind) (x : Item) → itemFits kind x ≡ true → isZer
 unfolding itemFits
 zeros-item kind x h z =
     let t = and-parts (nameFits (x .name)) (dataFits (ruleOf kind x) (x .«data»)) h in
-    let r : ruleOf kind x ≡ Fixed 0 = ap (lengthOf kind) (eqb-true (lastOf (x .name)) 0 z) ∙ length-zero kind in
+    let r : ruleOf kind x ≡ Fixed 0 = ap (lengthOf kind) (eqb-true (lastByte (x .name)) 0 z) ∙ length-zero kind in
     let n : x .name ≡ 0 ∷ 0 ∷ 0 ∷ [] = zeros-name (x .name) (t .0) z in
     let d : x .«data» ≡ [] = no-bytes (x .«data») (rw r at (t .1)) in
     λ i. record { name = n i; «data» = d i }

@@ -18,7 +18,7 @@ use Rattle.mmc.specs.declared.split.PartsAnswer.{PartsAnswer}
 use Rattle.mmc.specs.declared.split.PartsAnswer.the-variants.{Found}
 use Rattle.mmc.specs.Length.{lengthOf}
 use Rattle.mmc.specs.Part.{part, partOf, isInside}
-use Rattle.mmc.specs.Split.{Located, Next, prefixesAt, measured, byLength, splitAt, found, next, nextPartsOf}
+use Rattle.mmc.specs.Split.{ItemPlace, Next, prefixesAt, measured, byLength, splitAt, found, next, nextPartsOf}
 use Rattle.universal.specs.Refusals.{Answer, gives, refused}
 use Rattle.mmc.proofs.Ranges.{getD-any}
 
@@ -57,16 +57,16 @@ split-named kind body at = go (ltb (at + prefixesAt body at) (length body))
     go false = tt
 
 -- What is found is a name with them.
-name-told : (s : Parts) (p n d : Part) (end at : ℕ) → Named p s
+item-named : (s : Parts) (p n d : Part) (end at : ℕ) → Named p s
     → nextPartsOf (record { answer = Found n d; place = at }) ≡ found s end → n ≡ p
-name-told (Item m a after) p n d end at h e = ap (λ (x : Next Located). nameIn (x .answer)) e ∙ h
+item-named (Item m a after) p n d end at h e = ap (λ (x : Next ItemPlace). nameIn (x .answer)) e ∙ h
   where
-    nameIn : Answer Located → Part
+    nameIn : Answer ItemPlace → Part
     nameIn (gives l) = l .name
     nameIn (refused r) = p
-name-told Cut p n d end at h e = absurd (true≢false (ap (λ (x : Next Located). isGiven (x .answer)) e))
+item-named Cut p n d end at h e = absurd (true≢false (ap (λ (x : Next ItemPlace). isGiven (x .answer)) e))
   where
-    isGiven : Answer Located → Bool
+    isGiven : Answer ItemPlace → Bool
     isGiven (gives l) = true
     isGiven (refused r) = false
 
@@ -101,6 +101,6 @@ module _ (kind : Kind) (body : List ℕ) (place at : ℕ) (l : place < length bo
       ap (λ (y : PartsAnswer). nextPartsOf (record { answer = y; place = at })) (sym q) ∙ e ∙ rw (lt-ltb place (length body) l) refl in
       let m : n .len ≡ prefixesAt body place + 1 =
       ap (λ (p : Part). p .len)
-      (name-told (splitAt kind body place) (part place (prefixesAt body place + 1)) n d (length body) at
+      (item-named (splitAt kind body place) (part place (prefixesAt body place + 1)) n d (length body) at
       (split-named kind body place) f) in
       omega (arith, some-zeros, m, part-one body n h)

@@ -13,32 +13,32 @@ use Rattle.mmc.specs.declared.length.Kind.the-variants.{Commands, Fields
 use Rattle.mmc.specs.declared.length.Length.{Length}
 use Rattle.mmc.specs.declared.length.Length.the-variants.{Fixed, Count}
 use Rattle.mmc.specs.Length.{within, commandLength, fieldLength, lengthOf}
-use Rattle.mmc.specs.Named.{Outcome, summed, nameFits, lastOf, byRule, namedItem}
+use Rattle.mmc.specs.Named.{Extent, extentOf, nameFits, lastByte, byRule, namedItem}
 use Rattle.universal.specs.Refusals.{Refusal, refusal}
-use Rattle.universal.specs.Emission.{Emission, sent, stopped, check, _then_}
-use Rattle.universal.specs.Message.{allLow, dataBytes}
+use Rattle.universal.specs.Emission.{Emission, sent, refusing, check, _then_}
+use Rattle.universal.specs.Message.{allLow, dataEmission}
 use Rattle.universal.specs.Overlay.{overlay}
 use Rattle.universal.proofs.Laws.{overlay-none, overlay-then, then-sent, data-sent, data-refused}
 
 -- What a put answers and leaves of an emission.
-abbrev pub Puts : Emission → List ℕ → ℕ → Outcome → List ℕ → Type 0
-Puts e out at o after = (o ≡ summed e) × (after ≡ overlay out at (e .bytes))
+abbrev pub Puts : Emission → List ℕ → ℕ → Extent → List ℕ → Type 0
+Puts e out at o after = (o ≡ extentOf e) × (after ≡ overlay out at (e .bytes))
 
 -- An emission that is known: so many bytes, put at the position.
 pub puts : (e known : Emission) (out : List ℕ) (at n : ℕ) (after : List ℕ) → e ≡ known → n ≡ length (known .bytes)
     → after ≡ overlay out at (known .bytes) → Puts e out at (record { len = n; stop = known .stop }) after
 puts e known out at n after q l b = (
-  ap (λ (k : ℕ). record { len = k; stop = known .stop }) l ∙ ap summed (sym q),
+  ap (λ (k : ℕ). record { len = k; stop = known .stop }) l ∙ ap extentOf (sym q),
   b ∙ ap (λ (x : Emission). overlay out at (x .bytes)) (sym q),
 )
 
 -- A refusal before anything goes out.
-pub puts-none : (e : Emission) (k : ℕ) (out : List ℕ) (at : ℕ) → e ≡ stopped k
+pub puts-none : (e : Emission) (k : ℕ) (out : List ℕ) (at : ℕ) → e ≡ refusing k
     → Puts e out at (record { len = 0; stop = some (refusal k) }) out
-puts-none e k out at q = puts e (stopped k) out at 0 out q refl (sym (overlay-none out at))
+puts-none e k out at q = puts e (refusing k) out at 0 out q refl (sym (overlay-none out at))
 
 -- One emission put after bytes that went out.
-pub puts-after : (e : Emission) (bs : List ℕ) (out middle after : List ℕ) (at n : ℕ) (o : Outcome) → n ≡ length bs
+pub puts-after : (e : Emission) (bs : List ℕ) (out middle after : List ℕ) (at n : ℕ) (o : Extent) → n ≡ length bs
     → middle ≡ overlay out at bs → Puts e middle (at + n) o after
     → Puts (sent bs then e) out at (record { len = n + o .len; stop = o .stop }) after
 puts-after e bs out middle after at n o l m p = (
@@ -47,16 +47,16 @@ puts-after e bs out middle after at n o l m p = (
 )
   where
     whole : n + o .len ≡ length (bs ++ e .bytes)
-    whole = ap₂ (λ (x y : ℕ). x + y) l (ap (λ (q : Outcome). q .len) (p .0)) ∙ sym (length-append bs (e .bytes))
+    whole = ap₂ (λ (x y : ℕ). x + y) l (ap (λ (q : Extent). q .len) (p .0)) ∙ sym (length-append bs (e .bytes))
 
 -- ---- data by the rule
 
 module _ (d : List ℕ) where
-  pub fixed-other : (n : ℕ) → (n ≡ length d → ⊥) → byRule (Fixed n) d ≡ stopped 2
+  pub fixed-other : (n : ℕ) → (n ≡ length d → ⊥) → byRule (Fixed n) d ≡ refusing 2
   unfolding byRule
   fixed-other n h = rw (ne-eqb n (length d) h)
 
-  pub fixed-high : (n : ℕ) → n ≡ length d → allLow d ≡ false → byRule (Fixed n) d ≡ stopped 1
+  pub fixed-high : (n : ℕ) → n ≡ length d → allLow d ≡ false → byRule (Fixed n) d ≡ refusing 1
   unfolding byRule
   fixed-high n e h = rw (eq-eqb n (length d) e, data-refused d h)
 
@@ -64,7 +64,7 @@ module _ (d : List ℕ) where
   unfolding byRule
   fixed-low n e h = rw (eq-eqb n (length d) e, data-sent d h)
 
-  pub count-long : 127 < length d → byRule Count d ≡ stopped 2
+  pub count-long : 127 < length d → byRule Count d ≡ refusing 2
   unfolding byRule
   count-long h = rw (lt-leb (length d) 127 h)
 
@@ -79,15 +79,15 @@ module _ (d : List ℕ) where
 -- ---- a name and its data
 
 module _ (kind : Kind) (name d : List ℕ) where
-  pub name-unfit : nameFits name ≡ false → namedItem kind name d ≡ stopped 2
+  pub name-unfit : nameFits name ≡ false → namedItem kind name d ≡ refusing 2
   unfolding namedItem
   name-unfit h = rw h
 
-  pub name-high : nameFits name ≡ true → allLow name ≡ false → namedItem kind name d ≡ stopped 1
+  pub name-high : nameFits name ≡ true → allLow name ≡ false → namedItem kind name d ≡ refusing 1
   unfolding namedItem
   name-high f h = rw (f, data-refused name h)
 
-  pub name-sent : nameFits name ≡ true → allLow name ≡ true → namedItem kind name d ≡ sent name then byRule (lengthOf kind (lastOf name)) d
+  pub name-sent : nameFits name ≡ true → allLow name ≡ true → namedItem kind name d ≡ sent name then byRule (lengthOf kind (lastByte name)) d
   unfolding namedItem
   name-sent f h = rw (f, data-sent name h)
 
@@ -152,7 +152,7 @@ rule-length Count d = go (leb (length d) 127) (allLow d) refl refl
     go false b e l = rw (count-long d (leb-false (length d) 127 e)) (omega arith)
 
 pub named-puts : (kind : Kind) (name d : List ℕ) → nameFits name ≡ true → allLow name ≡ true → (rule : Length)
-    → rule ≡ lengthOf kind (lastOf name) → (out middle after : List ℕ) (at : ℕ) (o : Outcome) → middle ≡ overlay out at name
+    → rule ≡ lengthOf kind (lastByte name) → (out middle after : List ℕ) (at : ℕ) (o : Extent) → middle ≡ overlay out at name
     → Puts (byRule rule d) middle (at + length name) o after
     → Puts (namedItem kind name d) out at (record { len = length name + o .len; stop = o .stop }) after
 named-puts kind name d f h rule e out middle after at o m p =
@@ -170,8 +170,8 @@ fixed-small n d m = go (eqb n (length d)) (allLow d) refl refl
     go true false e l = rw (fixed-high d n (eqb-true n (length d) e) l) (omega arith)
     go false b e l = rw (fixed-other d n (eqb-false n (length d) e)) (omega arith)
 
-count-small : (d : List ℕ) → length (byRule Count d .bytes) ≤ 128
-count-small d = go (leb (length d) 127) (allLow d) refl refl
+counted-short : (d : List ℕ) → length (byRule Count d .bytes) ≤ 128
+counted-short d = go (leb (length d) 127) (allLow d) refl refl
   where
     go : (a b : Bool) → leb (length d) 127 ≡ a → allLow d ≡ b → length (byRule Count d .bytes) ≤ 128
     go true true e l = rw (count-low d (leb-true (length d) 127 e) l) (omega (arith, leb-true (length d) 127 e))
@@ -184,14 +184,14 @@ unfolding lengthOf commandLength fieldLength
 rule-small Commands x d = go (within 64 120 x)
   where
     go : (a : Bool) → length (byRule (cond a Count (Fixed 0)) d .bytes) ≤ 128
-    go true = count-small d
+    go true = counted-short d
     go false = fixed-small 0 d (lit≤ tt)
 rule-small Fields x d = go (within 1 32 x) (within 32 64 x) (within 64 120 x)
   where
     go : (a b c : Bool) → length (byRule (cond a (Fixed 5) (cond b (Fixed 2) (cond c Count (Fixed 0)))) d .bytes) ≤ 128
     go true b c = fixed-small 5 d (lit≤ tt)
     go false true c = fixed-small 2 d (lit≤ tt)
-    go false false true = count-small d
+    go false false true = counted-short d
     go false false false = fixed-small 0 d (lit≤ tt)
 
 -- A name and its data are at most 131 bytes.
@@ -201,6 +201,6 @@ named-small kind name d = go (nameFits name) (allLow name) refl refl
     go : (a b : Bool) → nameFits name ≡ a → allLow name ≡ b → length (namedItem kind name d .bytes) ≤ 131
     go true true f h =
         rw (name-sent kind name d f h)
-        (omega (arith, length-append name (byRule (lengthOf kind (lastOf name)) d .bytes), name-length name f, rule-small kind (lastOf name) d))
+        (omega (arith, length-append name (byRule (lengthOf kind (lastByte name)) d .bytes), name-length name f, rule-small kind (lastByte name) d))
     go true false f h = rw (name-high kind name d f h) (omega arith)
     go false b f h = rw (name-unfit kind name d f) (omega arith)

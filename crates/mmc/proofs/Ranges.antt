@@ -9,8 +9,8 @@ use lib.Dec.{leb, ltb}
 use lib.ListN.{length, getD}
 use Rattle.mmc.specs.Length.{within}
 
-pub in-range : (a b n : ℕ) → a ≤ n → n < b → within a b n ≡ true
-in-range a b n l h = rw (le-leb a n l, lt-ltb n b h)
+pub within-range : (a b n : ℕ) → a ≤ n → n < b → within a b n ≡ true
+within-range a b n l h = rw (le-leb a n l, lt-ltb n b h)
 
 pub below-range : (a b n : ℕ) → n < a → within a b n ≡ false
 below-range a b n l = rw (lt-leb a n l)

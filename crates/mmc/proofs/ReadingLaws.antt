@@ -21,18 +21,18 @@ use Rattle.mmc.specs.declared.split.Parts.the-variants.{Item, Cut}
 use Rattle.mmc.specs.declared.split.PartsAnswer.{PartsAnswer}
 use Rattle.mmc.specs.declared.split.PartsAnswer.the-variants.{Found, Refused}
 use Rattle.mmc.specs.Command as K
-use Rattle.mmc.specs.Command.{readLocate, readMove, readByte, readCommand, located, nextCommand}
+use Rattle.mmc.specs.Command.{readLocate, readMove, commandByName, readCommand, commandOfCase, nextCommand}
 use Rattle.mmc.specs.Length.{lengthOf, commandLength, within}
 use Rattle.mmc.specs.Part.{part, partOf, isInside}
 use Rattle.mmc.specs.Rp013 as R
-use Rattle.mmc.specs.Split.{Located, Next, measured, splitAt, next, nextAs, nextPartsOf, partsAs}
-use Rattle.mmc.specs.Strings.{Walk, before, walkFrom, readsOf, itemAt, walk, nextOf, readFrom, places, Meaning}
+use Rattle.mmc.specs.Split.{ItemPlace, Next, measured, splitAt, next, nextAs, nextPartsOf, partsAs}
+use Rattle.mmc.specs.Strings.{Walk, before, walkFrom, readsOf, itemAt, walk, nextOf, readFrom, itemPlaces, Meaning}
 use Rattle.universal.specs.Refusals.{Answer, gives, refused, refusal, refusalOf}
 use Rattle.universal.specs.declared.error.SysexError.{SysexError}
 -- A Locate, a Move and a name by their bytes, as the parts that they stand at.
 pub use Rattle.mmc.proofs.Commands.{locate-short, locate-no-register, locate-register, locate-unknown, locate-cut, locate-target, move-short, move-no-destination, move-no-source, move-both, long-name, by-byte, unknown-byte, unknown-name}
 -- A byte of a range, below it, and from its end on.
-pub use Rattle.mmc.proofs.Ranges.{in-range, below-range, above-range}
+pub use Rattle.mmc.proofs.Ranges.{within-range, below-range, above-range}
 use Rattle.mmc.proofs.Moves
 use Rattle.mmc.proofs.Prefixes
 use Rattle.mmc.proofs.Splits.{no-zero, fixed-data, no-count, counted-data, too-few, enough, next-end, next-cut, next-item, read-found, read-refused}
@@ -53,7 +53,7 @@ command-length n = refl
 
 -- Each known name of one byte is read as its case.
 pub names-read : (d : List ℕ) → NamesRead d
-unfolding readByte
+unfolding commandByName
 names-read d =
     record {
       stop = refl;
@@ -73,12 +73,12 @@ names-read d =
 -- ---- the next command
 
 -- What is read of the parts that the splitter answers.
-abbrev commandIn : List ℕ → Next Located → Next MmcCommand
-commandIn body x = nextAs (partsAs (λ (n d : List ℕ). located (readCommand n d)) body) x
+abbrev commandIn : List ℕ → Next ItemPlace → Next MmcCommand
+commandIn body x = nextAs (partsAs (λ (n d : List ℕ). commandOfCase (readCommand n d)) body) x
 
 -- The next command is what the parts found there are read as.
 pub command-of-parts : (body : List ℕ) (place : ℕ)
-    → nextCommand body place ≡ nextAs (partsAs (λ (n d : List ℕ). located (readCommand n d)) body) (next Commands body place)
+    → nextCommand body place ≡ nextAs (partsAs (λ (n d : List ℕ). commandOfCase (readCommand n d)) body) (next Commands body place)
 unfolding nextCommand
 command-of-parts body place = refl
 
@@ -86,16 +86,16 @@ module _ (body : List ℕ) (place at : ℕ) (k : PartsAnswer)
     (e : nextPartsOf (record { answer = k; place = at }) ≡ next Commands body place) where
   -- So it is by what `next_parts` answered.
   pub command-found : (n d : Part) → k ≡ Found n d
-      → nextCommand body place ≡ record { answer = gives (located (readCommand (partOf body n) (partOf body d)) n d); place = at }
+      → nextCommand body place ≡ record { answer = gives (commandOfCase (readCommand (partOf body n) (partOf body d)) n d); place = at }
   command-found n d q =
       command-of-parts body place
-      ∙ sym (read-found (partsAs (λ (n d : List ℕ). located (readCommand n d)) body) (next Commands body place) k at e n d _ q refl)
+      ∙ sym (read-found (partsAs (λ (n d : List ℕ). commandOfCase (readCommand n d)) body) (next Commands body place) k at e n d _ q refl)
 
   pub command-refused : (r : SysexError) → k ≡ Refused r
       → nextCommand body place ≡ record { answer = refused (refusalOf r); place = at }
   command-refused r q =
       command-of-parts body place
-      ∙ sym (read-refused (partsAs (λ (n d : List ℕ). located (readCommand n d)) body) (next Commands body place) k at e r q)
+      ∙ sym (read-refused (partsAs (λ (n d : List ℕ). commandOfCase (readCommand n d)) body) (next Commands body place) k at e r q)
 
   -- A name that begins with 00H is no known command.
   pub command-prefixed : (n d : Part) → place < length body → getD body place 0 ≡ 0 → k ≡ Found n d
@@ -115,7 +115,7 @@ module _ (body : List ℕ) (place : ℕ) (l : place < length body) where
   cut-command e = command-of-parts body place ∙ sym (ap (commandIn body) (next-cut Commands body place l (sym e)))
 
   item-command : (n d : Part) (after : ℕ) → Item n d after ≡ splitAt Commands body place
-      → nextCommand body place ≡ record { answer = gives (located (readCommand (partOf body n) (partOf body d)) n d); place = after }
+      → nextCommand body place ≡ record { answer = gives (commandOfCase (readCommand (partOf body n) (partOf body d)) n d); place = after }
   item-command n d after e = command-of-parts body place ∙ sym (ap (commandIn body) (next-item Commands body place n d after l (sym e)))
 
   -- ---- a name without data
@@ -127,7 +127,7 @@ module _ (body : List ℕ) (place : ℕ) (l : place < length body) where
   pub command-alone : (n : ℕ) → getD body place 0 ≡ n → (n ≡ 0 → ⊥) → commandLength n ≡ Fixed 0
       → nextCommand body place
       ≡ record {
-        answer = gives (located (readByte n (partOf body (part (place + 1) 0))) (part place 1) (part (place + 1) 0));
+        answer = gives (commandOfCase (commandByName n (partOf body (part (place + 1) 0))) (part place 1) (part (place + 1) 0));
         place = place + 1;
       }
   unfolding lengthOf
@@ -178,7 +178,7 @@ module _ (body : List ℕ) (place : ℕ) (l : place < length body) where
         ≡ record {
           answer =
               gives
-              (located
+              (commandOfCase
               (readCommand (partOf body (part place 1)) (partOf body (part (place + 1 + 1) (getD body (place + 1) 0))))
               (part place 1) (part (place + 1 + 1) (getD body (place + 1) 0)));
           place = place + 1 + 1 + getD body (place + 1) 0;
@@ -190,7 +190,7 @@ module _ (body : List ℕ) (place : ℕ) (l : place < length body) where
 -- ---- where a read goes on
 
 -- A read that found an item goes on past its place, and inside the string.
-pub next-goes-on : (kind : Kind) (body : List ℕ) (place : ℕ) (l : Located) → next kind body place .answer ≡ gives l
+pub next-goes-on : (kind : Kind) (body : List ℕ) (place : ℕ) (l : ItemPlace) → next kind body place .answer ≡ gives l
     → (place < next kind body place .place) × (next kind body place .place ≤ length body)
 next-goes-on = Moves.moves
 
@@ -243,12 +243,12 @@ unfolding readFrom
 read-step kind body place = one-step (nextOf kind body) (length body) (read-goes-on kind body) place
 
 -- The items of a walk lie at their places, one after another, whatever is read of them there.
-pub walk-places : {A : Type 0} (f : Located → A) (kind : Kind) (pre s : List ℕ)
+pub walk-places : {A : Type 0} (f : ItemPlace → A) (kind : Kind) (pre s : List ℕ)
     → walkFrom (λ (p : ℕ). nextAs f (next kind (pre ++ s) p)) (readsOf (pre ++ s)) (length pre)
-    ≡ record { items = map f (places kind (length pre) (walk kind s 0 .items)); stop = walk kind s 0 .stop }
+    ≡ record { items = map f (itemPlaces kind (length pre) (walk kind s 0 .items)); stop = walk kind s 0 .stop }
 walk-places f kind pre s =
-    let t = Walks.taken kind (length s) s (le-refl (length s)) in
+    let t = Walks.items-taken kind (length s) s (le-refl (length s)) in
     let room : length s < readsOf (pre ++ s) = omega (arith, length-append pre s) in
     Walks.walk-taken f kind (pre ++ s) pre s t refl (readsOf (pre ++ s)) room
-    ∙ ap (λ (w : Walk R.Item). record { items = map f (places kind (length pre) (w .items)); stop = w .stop })
+    ∙ ap (λ (w : Walk R.Item). record { items = map f (itemPlaces kind (length pre) (w .items)); stop = w .stop })
     (sym (Walks.walked kind [] s t))

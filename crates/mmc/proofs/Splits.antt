@@ -16,7 +16,7 @@ use Rattle.mmc.specs.declared.split.PartsAnswer.the-variants.{Found, Ref
 use Rattle.mmc.specs.declared.split.Parts.the-variants.{Item, Cut}
 use Rattle.mmc.specs.Length.{lengthOf}
 use Rattle.mmc.specs.Part.{part, partOf}
-use Rattle.mmc.specs.Split.{prefixesAt, measured, splitAt, Located, Next, next, nextPartsOf, nextAs}
+use Rattle.mmc.specs.Split.{prefixesAt, measured, splitAt, ItemPlace, Next, next, nextPartsOf, nextAs}
 use Rattle.universal.specs.Refusals.{Answer, gives, refused, refusal, refusalOf}
 use Rattle.universal.specs.declared.error.SysexError.{SysexError}
 use Rattle.mmc.proofs.Ranges.{getD-any}
@@ -107,7 +107,7 @@ module _ (kind : Kind) (body : List ℕ) (place : ℕ) where
   next-item n d after h e = rw (lt-ltb place (length body) h, e)
 
 -- It is read as something where it was found, and its refusal stays.
-module _ {A : Type 0} (f : Located → A) (x : Next Located) (k : PartsAnswer) (place : ℕ)
+module _ {A : Type 0} (f : ItemPlace → A) (x : Next ItemPlace) (k : PartsAnswer) (place : ℕ)
     (e : nextPartsOf (record { answer = k; place = place }) ≡ x) where
   pub read-found : (n d : Part) (r : A) → k ≡ Found n d → r ≡ f (record { name = n; «data» = d })
       → _≡_ {A = Next A} (record { answer = gives r; place = place }) (nextAs f x)

@@ -19,18 +19,18 @@ use Rattle.mmc.specs.declared.length.Kind.the-variants.{Commands, Fields
 use Rattle.mmc.specs.declared.length.Length.{Length}
 use Rattle.mmc.specs.declared.length.Length.the-variants.{Fixed}
 use Rattle.mmc.specs.declared.part.Part.{Part}
-use Rattle.mmc.specs.Command.{CommandCase, readByte, readCommand, located, nextCommand}
-use Rattle.mmc.specs.Field.{FieldCase, readField, placed, nextField}
+use Rattle.mmc.specs.Command.{CommandCase, commandByName, readCommand, commandOfCase, nextCommand}
+use Rattle.mmc.specs.Field.{FieldCase, readField, fieldOfCase, nextField}
 use Rattle.mmc.specs.Item.{commandItem, fieldItem}
 use Rattle.mmc.specs.Length.{lengthOf}
 use Rattle.mmc.specs.declared.message.MmcMessage.{MmcMessage}
 use Rattle.mmc.specs.declared.message.MmcMessage.the-variants as M
 use Rattle.mmc.specs.Message.{messageFrom, messageBy}
-use Rattle.mmc.specs.Named.{nameFits, lastOf}
+use Rattle.mmc.specs.Named.{nameFits, lastByte}
 use Rattle.mmc.specs.Part.{partOf}
 use Rattle.mmc.specs.Rp013.{Follows, Name, Item, IsItem, Spell, WellFormed, subId1, lastDevice, envelope, Message}
-use Rattle.mmc.specs.Strings.{before, walkFrom, readsOf, nextOf, item, itemAt, places, given, back, itemBytes, joined, itemFits, allFit, zerosItem, isZeros, anyZeros, OfPageOrZeros, locatedAt, readAs, Found, Walk, walk, walkMeans, onTo, Meaning, meaning, meanings, readFrom, commandsRead, commandPair, fieldPair, Sound, Given, pairOf, emission, emissions, pairsOf, SoundList, commandBack, fieldBack}
-use Rattle.mmc.specs.Split.{Located, Next, partsAs}
+use Rattle.mmc.specs.Strings.{before, walkFrom, readsOf, nextOf, item, itemAt, itemPlaces, given, back, itemBytes, joined, itemFits, allFit, zerosItem, isZeros, anyZeros, OfPageOrZeros, itemPlace, readAs, Found, Walk, walk, walkMeans, onTo, Meaning, meaning, meanings, readFrom, commandsRead, commandPair, fieldPair, AcceptedItem, Given, pairOf, emission, emissions, pairsOf, AcceptedItems, commandBack, fieldBack}
+use Rattle.mmc.specs.Split.{ItemPlace, Next, partsAs}
 use Rattle.mmc.specs.Writings.{messageOf}
 use Rattle.codes.specs.TimeCode.{zeroed}
 use Rattle.codes.specs.declared.time_code.StandardTimeCode.{StandardTimeCode}
@@ -48,7 +48,7 @@ pub use Rattle.mmc.proofs.Inside.{found-inside}
 use Rattle.mmc.proofs.Moves
 use Rattle.mmc.proofs.Pages
 use Rattle.mmc.proofs.Walks
-use Rattle.mmc.proofs.Walks.{Taken, taken}
+use Rattle.mmc.proofs.Walks.{TakenItems, items-taken}
 
 -- ---- an item at its place
 
@@ -61,14 +61,14 @@ item-split kind body pre x post place h e p = rw (e, p) (Fronts.item-found kind 
 pub item-read : (kind : Kind) (body pre : List ℕ) (x : Item) (post : List ℕ) (place : ℕ) → itemFits kind x ≡ true
     → body ≡ pre ++ (itemBytes kind x ++ post) → place ≡ length pre
     → nextOf kind body place
-    ≡ record { answer = gives (meaning kind (x .name) (x .«data») (locatedAt kind place x)); place = place + length (itemBytes kind x) }
+    ≡ record { answer = gives (meaning kind (x .name) (x .«data») (itemPlace kind place x)); place = place + length (itemBytes kind x) }
 item-read = Walks.item-read
 
 -- ---- the walk over a string
 
 -- The walk over any string: items that fit, and the bytes after them.
-all-of : (kind : Kind) (body : List ℕ) → Taken kind body
-all-of kind body = taken kind (length body) body (le-refl (length body))
+all-of : (kind : Kind) (body : List ℕ) → TakenItems kind body
+all-of kind body = items-taken kind (length body) body (le-refl (length body))
 
 -- What stands in a string after other bytes is walked as if it stood alone.
 pub walk-after : (kind : Kind) (pre s : List ℕ) → walk kind (pre ++ s) (length pre) ≡ walk kind s 0
@@ -95,19 +95,19 @@ walk-fits kind body = rw (Walks.walked kind [] body (all-of kind body)) (all-of 
 pub walk-stops : (kind : Kind) (body : List ℕ) → (walk kind body 0 .stop ≡ refusal 9) ⊎ (walk kind body 0 .stop ≡ refusal 2)
 walk-stops kind body = go (all-of kind body)
   where
-    go : Taken kind body → (walk kind body 0 .stop ≡ refusal 9) ⊎ (walk kind body 0 .stop ≡ refusal 2)
-    go t = rw (Walks.walked kind [] body t) (Walks.stops kind body t)
+    go : TakenItems kind body → (walk kind body 0 .stop ≡ refusal 9) ⊎ (walk kind body 0 .stop ≡ refusal 2)
+    go t = rw (Walks.walked kind [] body t) (Walks.taken-stops kind body t)
 
 -- The bytes of its items joined are the front of the string.
 pub walk-front : (kind : Kind) (body : List ℕ) → (tail : List ℕ) × (body ≡ joined kind (walk kind body 0 .items) ++ tail)
 walk-front kind body =
-    let t : Taken kind body = all-of kind body in
+    let t : TakenItems kind body = all-of kind body in
     (t .tail, rw (Walks.walked kind [] body t) (t .bytes))
 
 -- Where it ends with 9 they are the string: every byte belongs to one item.
 pub walk-whole : (kind : Kind) (body : List ℕ) → walk kind body 0 .stop ≡ refusal 9 → body ≡ joined kind (walk kind body 0 .items)
 walk-whole kind body h =
-    let t : Taken kind body = all-of kind body in
+    let t : TakenItems kind body = all-of kind body in
     let w = Walks.walked kind [] body t in
     rw w (Walks.ended-whole kind body t (sym (ap (λ (v : Walk Item). v .stop) w) ∙ h))
 
@@ -163,10 +163,10 @@ read-joined kind a b h =
 
 -- Where items that fit stand, their names and data stand.
 pub places-bytes : (kind : Kind) (xs : List Item) → allFit kind xs ≡ true
-    → map (itemAt (joined kind xs)) (places kind 0 xs) ≡ xs
+    → map (itemAt (joined kind xs)) (itemPlaces kind 0 xs) ≡ xs
 places-bytes kind xs h =
     Walks.parts-read (λ n d l. item n d) kind (joined kind xs) xs h [] [] (sym (append-nil (joined kind xs))) 0 refl
-    ∙ Walks.read-items kind 0 xs
+    ∙ Walks.read-as-items kind 0 xs
 
 -- ---- by the pages of RP-013
 
@@ -185,14 +185,14 @@ pub length-above : (kind : Kind) (byte : ℕ) → 127 < byte → lengthOf kind b
 length-above = Pages.length-above
 
 -- A name is one of p. 5 just where it may be one and its last byte is not 00H.
-pub name-by-page : (name : List ℕ) → Name name (lastOf name) ↔ ((nameFits name ≡ true) × (eqb (lastOf name) 0 ≡ false))
+pub name-by-page : (name : List ℕ) → Name name (lastByte name) ↔ ((nameFits name ≡ true) × (eqb (lastByte name) 0 ≡ false))
 name-by-page name = (
-  λ n. (Pages.name-fits name (lastOf name) n .0, Pages.name-fits name (lastOf name) n .2),
+  λ n. (Pages.name-fits name (lastByte name) n .0, Pages.name-fits name (lastByte name) n .2),
   λ t. Pages.fits-name name (t .0) (t .1),
 )
 
 -- A name of p. 5 has one last byte.
-pub last-by-page : (name : List ℕ) (last : ℕ) → Name name last → lastOf name ≡ last
+pub last-by-page : (name : List ℕ) (last : ℕ) → Name name last → lastByte name ≡ last
 last-by-page name last n = Pages.name-fits name last n .1
 
 -- With bytes to 7FH, an item is one of p. 5 just where it fits and is not named 00 00 00.
@@ -262,12 +262,12 @@ walk-else kind body l h = go (anyZeros (walk kind body 0 .items)) refl
 
 -- An accepted command or field: its bytes are those of its name and data, which fit; they are low, and at most 131.
 pub item-accepted : (kind : Kind) (g : Given kind) → emission kind g .stop ≡ none
-    → Sound kind (pairOf kind g) (emission kind g .bytes)
+    → AcceptedItem kind (pairOf kind g) (emission kind g .bytes)
 item-accepted = Emitted.item-sound
 
 -- An accepted list: its bytes are those of its items one after another, which fit; they are low.
 pub list-accepted : (kind : Kind) (gs : List (Given kind)) → emissions kind gs .stop ≡ none
-    → SoundList kind (pairsOf kind gs) (emissions kind gs .bytes)
+    → AcceptedItems kind (pairsOf kind gs) (emissions kind gs .bytes)
 list-accepted = Emitted.list-sound
 
 -- A list is accepted just where its first item and the others are.
@@ -289,7 +289,7 @@ list-append = Emitted.list-append
 pub written-walk : (kind : Kind) (gs : List (Given kind)) → emissions kind gs .stop ≡ none
     → walk kind (emissions kind gs .bytes) 0 ≡ record { items = pairsOf kind gs; stop = refusal 9 }
 written-walk kind gs h =
-    let s : SoundList kind (pairsOf kind gs) (emissions kind gs .bytes) = list-accepted kind gs h in
+    let s : AcceptedItems kind (pairsOf kind gs) (emissions kind gs .bytes) = list-accepted kind gs h in
     ap (λ (l : List ℕ). walk kind l 0) (s .item-bytes) ∙ walk-items kind (pairsOf kind gs) (s .fits)
 
 -- The bytes of an accepted list are a well-formed string just where none of it is named 00 00 00.
@@ -306,7 +306,7 @@ list-well-formed kind gs h =
 pub written-reads-back : (kind : Kind) (gs : List (Given kind)) → emissions kind gs .stop ≡ none
     → readFrom kind (emissions kind gs .bytes) 0 ≡ record { items = meanings kind 0 (pairsOf kind gs); stop = refusal 9 }
 written-reads-back kind gs h =
-    let s : SoundList kind (pairsOf kind gs) (emissions kind gs .bytes) = list-accepted kind gs h in
+    let s : AcceptedItems kind (pairsOf kind gs) (emissions kind gs .bytes) = list-accepted kind gs h in
     ap (λ (l : List ℕ). readFrom kind l 0) (s .item-bytes) ∙ read-items kind (pairsOf kind gs) (s .fits)
 
 -- The name and data of an accepted command are read as its own case; a blank target with zeros; another command as they are.
@@ -320,10 +320,10 @@ pub field-back : (source : List ℕ) (f : InfoField) → fieldItem source f .sto
 field-back = Backs.field-back
 
 -- What the name and data of an accepted command or field mean, wherever they stand.
-pub meaning-back : (kind : Kind) (g : Given kind) → emission kind g .stop ≡ none → (l : Located)
+pub meaning-back : (kind : Kind) (g : Given kind) → emission kind g .stop ≡ none → (l : ItemPlace)
     → meaning kind (pairOf kind g .name) (pairOf kind g .«data») l ≡ back kind g l
-meaning-back Commands g h l = ap (λ (c : CommandCase). located c (l .name) (l .«data»)) (command-back (g .source) (g .meant) h)
-meaning-back Fields g h l = ap (λ (c : FieldCase). placed c (l .name) (l .«data»)) (field-back (g .source) (g .meant) h)
+meaning-back Commands g h l = ap (λ (c : CommandCase). commandOfCase c (l .name) (l .«data»)) (command-back (g .source) (g .meant) h)
+meaning-back Fields g h l = ap (λ (c : FieldCase). fieldOfCase c (l .name) (l .«data»)) (field-back (g .source) (g .meant) h)
 
 -- A list that ends with Locate to a target and Play comes back with these at its end.
 pub locate-play-back : (gs : List (Given Commands)) (a b : List ℕ) (c : StandardTimeCode)
@@ -350,23 +350,23 @@ locate-play-back gs a b c h =
 pub one-reads-back : (kind : Kind) (g : Given kind) → emission kind g .stop ≡ none
     → readFrom kind (emission kind g .bytes) 0
     ≡ record {
-      items = meaning kind (pairOf kind g .name) (pairOf kind g .«data») (locatedAt kind 0 (pairOf kind g)) ∷ [];
+      items = meaning kind (pairOf kind g .name) (pairOf kind g .«data») (itemPlace kind 0 (pairOf kind g)) ∷ [];
       stop = refusal 9;
     }
 unfolding joined allFit readAs
 one-reads-back kind g h =
-    let s : Sound kind (pairOf kind g) (emission kind g .bytes) = item-accepted kind g h in
+    let s : AcceptedItem kind (pairOf kind g) (emission kind g .bytes) = item-accepted kind g h in
     ap (λ (l : List ℕ). readFrom kind l 0) (s .item-bytes ∙ sym (append-nil (itemBytes kind (pairOf kind g))))
     ∙ read-items kind (pairOf kind g ∷ []) (rw (s .fits))
 
 -- Another command named 01H comes back as Stop.
 pub other-stop : (source : List ℕ) (n d : Part) → partOf source n ≡ 1 ∷ [] → commandItem source (C.Other n d) .stop ≡ none
     → commandsRead (commandItem source (C.Other n d) .bytes) ≡ record { items = C.Stop ∷ []; stop = refusal 9 }
-unfolding commandPair readCommand readByte
+unfolding commandPair readCommand commandByName
 other-stop source n d e h =
-    let l : Located = locatedAt Commands 0 (item (partOf source n) (partOf source d)) in
+    let l : ItemPlace = itemPlace Commands 0 (item (partOf source n) (partOf source d)) in
     one-reads-back Commands (given Commands source (C.Other n d)) h
-    ∙ ap (λ (c : CommandCase). record { items = located c (l .name) (l .«data») ∷ []; stop = refusal 9 })
+    ∙ ap (λ (c : CommandCase). record { items = commandOfCase c (l .name) (l .«data») ∷ []; stop = refusal 9 })
     (ap (λ (name : List ℕ). readCommand name (partOf source d)) e)
 
 -- ---- the message
@@ -447,9 +447,9 @@ pub read-goes-on : (kind : Kind) (body : List ℕ) (place : ℕ) (x : Meaning ki
     → (place < nextOf kind body place .place) × (nextOf kind body place .place ≤ length body)
 unfolding nextCommand nextField
 read-goes-on Commands body place x h =
-    Moves.read-moves (partsAs (λ (n d : List ℕ). located (readCommand n d)) body) x Commands body place h
+    Moves.read-moves (partsAs (λ (n d : List ℕ). commandOfCase (readCommand n d)) body) x Commands body place h
 read-goes-on Fields body place x h =
-    Moves.read-moves (partsAs (λ (n d : List ℕ). placed (readField n d)) body) x Fields body place h
+    Moves.read-moves (partsAs (λ (n d : List ℕ). fieldOfCase (readField n d)) body) x Fields body place h
 
 -- No items mean nothing.
 pub meanings-none : (kind : Kind) (place : ℕ) → meanings kind place [] ≡ []
@@ -459,7 +459,7 @@ meanings-none kind place = refl
 -- An item, and then the others at the place after it.
 pub meanings-cons : (kind : Kind) (place : ℕ) (x : Item) (xs : List Item)
     → meanings kind place (x ∷ xs)
-    ≡ meaning kind (x .name) (x .«data») (locatedAt kind place x) ∷ meanings kind (place + length (itemBytes kind x)) xs
+    ≡ meaning kind (x .name) (x .«data») (itemPlace kind place x) ∷ meanings kind (place + length (itemBytes kind x)) xs
 unfolding readAs
 meanings-cons kind place x xs = refl
 

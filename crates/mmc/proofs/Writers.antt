@@ -14,32 +14,32 @@ use Rattle.codes.specs.declared.time_code.Checked.{Checked}
 use Rattle.codes.specs.declared.time_code.Checked.the-variants.{Accepted, Refused}
 use Rattle.universal.specs.declared.error.SysexError.{SysexError}
 use Rattle.mmc.specs.Length.{within}
-use Rattle.mmc.specs.Named.{Outcome, stopOf, summed}
-use Rattle.mmc.specs.Write.{Writing, sound, openedCommands, openedResponses, begun, opensAt, ready, admitted, counted, moved, given, closedMessage, closedFields, ended, wholeMessage, wholeFields}
+use Rattle.mmc.specs.Named.{Extent, stopOf, extentOf}
+use Rattle.mmc.specs.Write.{Writing, orFailed, openedCommands, openedResponses, begun, opensAt, ready, admitted, itemsAfter, writingPast, writingAfter, closedMessage, closedFields, closeAnswer, wholeMessage, wholeFields}
 use Rattle.universal.specs.Refusals.{Refusal, refusal, tooSmall, Answer, gives, refused}
-use Rattle.universal.specs.Emission.{Emission, sent, stopped, check, resume, _then_, fitted, reached}
+use Rattle.universal.specs.Emission.{Emission, sent, refusing, check, resume, _then_, fitted, reached}
 use Rattle.universal.specs.Message.{opening, header, hasSubId2, closing}
 use Rattle.universal.specs.Overlay.{overlay}
 use Rattle.universal.specs.declared.message.MaybeSubId2.the-variants.{NoSubId2}
-use Rattle.universal.proofs.Laws.{overlay-none, then-accepted, check-held, reached-sent, reached-stopped, opening-device, opening-plain, closing-fits, closing-short}
+use Rattle.universal.proofs.Laws.{overlay-none, then-accepted, check-held, reached-sent, reached-stopped, opening-device, opening-plain, closing-fits, closing-short, none-some}
 use Rattle.mmc.proofs.Puts.{Puts}
-use Rattle.mmc.proofs.Ranges.{in-range, below-range, above-range}
+use Rattle.mmc.proofs.Ranges.{within-range, below-range, above-range}
 
 -- ---- opening
 
 -- An opening that went out whole, or was refused with nothing out.
-abbrev Whole : Emission → Type 0
-Whole e = ((k : ℕ) × (e ≡ stopped k)) ⊎ ((bs : List ℕ) × (e ≡ sent bs))
+abbrev WholeOrNothing : Emission → Type 0
+WholeOrNothing e = ((k : ℕ) × (e ≡ refusing k)) ⊎ ((bs : List ℕ) × (e ≡ sent bs))
 
-opens : (e : Emission) → Whole e → opensAt (reached e) ≡ begun e
+opens : (e : Emission) → WholeOrNothing e → opensAt (reached e) ≡ begun e
 unfolding begun
-opens e (inl p) = subst (λ (x : Emission). opensAt (reached x) ≡ begun x) (sym (p .1)) (ap opensAt (reached-stopped (stopped (p .0)) (refusal (p .0)) refl))
+opens e (inl p) = subst (λ (x : Emission). opensAt (reached x) ≡ begun x) (sym (p .1)) (ap opensAt (reached-stopped (refusing (p .0)) (refusal (p .0)) refl))
 opens e (inr p) = subst (λ (x : Emission). opensAt (reached x) ≡ begun x) (sym (p .1)) (ap opensAt (reached-sent (sent (p .0)) refl))
 
-opening-whole : (device n : ℕ) → hasSubId2 true n ≡ false → n ≤ 127 → Whole (opening (header true device n NoSubId2))
+opening-whole : (device n : ℕ) → hasSubId2 true n ≡ false → n ≤ 127 → WholeOrNothing (opening (header true device n NoSubId2))
 opening-whole device n f h = go (leb device 127) refl
   where
-    go : (b : Bool) → leb device 127 ≡ b → Whole (opening (header true device n NoSubId2))
+    go : (b : Bool) → leb device 127 ≡ b → WholeOrNothing (opening (header true device n NoSubId2))
     go true e = inr (_, opening-plain true device n (leb-true device 127 e) f h)
     go false e = inl (5, opening-device (header true device n NoSubId2) (leb-false device 127 e))
 
@@ -49,7 +49,7 @@ unfolding openedCommands
 opens-commands device w o p q =
     p ∙ ap opensAt q ∙ opens (opening (header true device 6 NoSubId2)) (opening-whole device 6 refl (lit≤ tt))
 
-pub no-response : (device : ℕ) → device ≡ 127 → openedResponses device ≡ stopped 3
+pub no-response : (device : ℕ) → device ≡ 127 → openedResponses device ≡ refusing 3
 unfolding openedResponses
 no-response device e = rw e
 
@@ -76,16 +76,16 @@ begun-refused device e = ap begun (sym (no-response device e))
 
 -- ---- before a call
 
-pub too-many : (w : Writing) → 256 < w .items → some (refusal 10) ≡ sound w .stop
-unfolding sound
+pub too-many : (w : Writing) → 256 < w .items → some (refusal 10) ≡ orFailed w .stop
+unfolding orFailed
 too-many w h = rw (lt-leb (w .items) 256 h)
 
-pub too-far : (w : Writing) → w .items ≤ 256 → 40000 < w .at → some (refusal 10) ≡ sound w .stop
-unfolding sound
+pub too-far : (w : Writing) → w .items ≤ 256 → 40000 < w .at → some (refusal 10) ≡ orFailed w .stop
+unfolding orFailed
 too-far w l h = rw (le-leb (w .items) 256 l, lt-leb (w .at) 40000 h)
 
-pub as-it-is : (w : Writing) → w .items ≤ 256 → w .at ≤ 40000 → w .stop ≡ sound w .stop
-unfolding sound
+pub as-it-is : (w : Writing) → w .items ≤ 256 → w .at ≤ 40000 → w .stop ≡ orFailed w .stop
+unfolding orFailed
 as-it-is w l h = rw (le-leb (w .items) 256 l, le-leb (w .at) 40000 h)
 
 -- Below 256 items and up to 40,000 it has its own refusal, if any.
@@ -100,22 +100,16 @@ ready-kept w l h =
     go (some r) = refl
 
 -- A writing that goes on is one that calls leave.
-pub goes-on : (w : Writing) → sound w .stop ≡ none → (w .items ≤ 256) × (w .at ≤ 40000)
-unfolding sound
+pub goes-on : (w : Writing) → orFailed w .stop ≡ none → (w .items ≤ 256) × (w .at ≤ 40000)
+unfolding orFailed
 goes-on w = go (leb (w .items) 256) (leb (w .at) 40000) refl refl
   where
     go : (a b : Bool) → leb (w .items) 256 ≡ a → leb (w .at) 40000 ≡ b
         → cond (a && b) w (record { at = w .at; items = w .items; stop = some (refusal 10) }) .stop ≡ none
         → (w .items ≤ 256) × (w .at ≤ 40000)
     go true true ea eb h = (leb-true _ _ ea, leb-true _ _ eb)
-    go true false ea eb h = absurd (never h)
-      where
-        never : some (refusal 10) ≡ none → ⊥
-        never p = let z : _≡_ {A = ℕ} 0 1 = cc in omega arith
-    go false b ea eb h = absurd (never h)
-      where
-        never : some (refusal 10) ≡ none → ⊥
-        never p = let z : _≡_ {A = ℕ} 0 1 = cc in omega arith
+    go true false ea eb h = absurd (none-some (refusal 10) h)
+    go false b ea eb h = absurd (none-some (refusal 10) h)
 
 pub under-256 : (n : ℕ) → n ≤ 256 → (n ≡ 256 → ⊥) → n < 256
 under-256 n l h = omega arith
@@ -124,23 +118,23 @@ under-256 n l h = omega arith
 
 module _ (w : Writing) where
   -- A failed writing has its refusal ready, a full one 10, any other none.
-  pub ready-failed : (r : Refusal) → sound w .stop ≡ some r → some r ≡ ready w
+  pub ready-failed : (r : Refusal) → orFailed w .stop ≡ some r → some r ≡ ready w
   unfolding ready
   ready-failed r h = sym (ap (λ (s : Option Refusal). resume [] s (check (ltb (w .items) 256) 10) .stop) h)
 
-  pub ready-full : sound w .stop ≡ none → w .items ≡ 256 → some (refusal 10) ≡ ready w
+  pub ready-full : orFailed w .stop ≡ none → w .items ≡ 256 → some (refusal 10) ≡ ready w
   unfolding ready
   ready-full h n = sym (ap₂ (λ (s : Option Refusal) (k : ℕ). resume [] s (check (ltb k 256) 10) .stop) h n)
 
-  pub ready-on : sound w .stop ≡ none → w .items < 256 → none ≡ ready w
+  pub ready-on : orFailed w .stop ≡ none → w .items < 256 → none ≡ ready w
   unfolding ready
   ready-on h l = sym (ap₂ (λ (s : Option Refusal) (b : Bool). resume [] s (check b 10) .stop) h (lt-ltb (w .items) 256 l))
 
   -- A writing that takes an item goes on, with fewer than 256.
-  pub ready-told : ready w ≡ none → (sound w .stop ≡ none) × (w .items < 256)
+  pub ready-told : ready w ≡ none → (orFailed w .stop ≡ none) × (w .items < 256)
   unfolding ready
   ready-told h =
-      let k = then-accepted (record { bytes = []; stop = sound w .stop }) (check (ltb (w .items) 256) 10) h in
+      let k = then-accepted (record { bytes = []; stop = orFailed w .stop }) (check (ltb (w .items) 256) 10) h in
       (k .0, ltb-true (w .items) 256 (check-held (ltb (w .items) 256) 10 (k .1)))
 
 module _ (w : Writing) (e : Emission) where
@@ -157,25 +151,25 @@ module _ (w : Writing) (e : Emission) where
   -- What a call answers and leaves, from what goes out of it.
   abbrev pub Gives : Writing → Option Refusal → List ℕ → List ℕ → Type 0
   Gives after stop out left =
-      ((after ≡ given w e) × (stop ≡ admitted w e .stop)) × (left ≡ overlay out (w .at) (admitted w e .bytes))
+      ((after ≡ writingAfter w e) × (stop ≡ admitted w e .stop)) × (left ≡ overlay out (w .at) (admitted w e .bytes))
 
   pub fails : (r : Refusal) (k : Emission) (after : Writing) (stop : Option Refusal) (out : List ℕ) → admitted w e ≡ k
-      → k ≡ record { bytes = []; stop = some r } → (after ≡ moved w (record { len = 0; stop = some r })) × (stop ≡ some r)
+      → k ≡ record { bytes = []; stop = some r } → (after ≡ writingPast w (record { len = 0; stop = some r })) × (stop ≡ some r)
       → Gives after stop out out
-  unfolding given
+  unfolding writingAfter
   fails r k after stop out q z p =
       let known : admitted w e ≡ record { bytes = []; stop = some r } = q ∙ z in (
-        (p .0 ∙ ap (λ (x : Emission). moved w (summed x)) (sym known), p .1 ∙ ap (λ (x : Emission). x .stop) (sym known)),
+        (p .0 ∙ ap (λ (x : Emission). writingPast w (extentOf x)) (sym known), p .1 ∙ ap (λ (x : Emission). x .stop) (sym known)),
         sym (overlay-none out (w .at)) ∙ ap (λ (x : Emission). overlay out (w .at) (x .bytes)) (sym known),
       )
 
-  pub put-gives : (o : Outcome) (after : Writing) (stop : Option Refusal) (out left : List ℕ) → admitted w e ≡ e
-      → Puts e out (w .at) o left → (after ≡ moved w o) × (stop ≡ o .stop) → Gives after stop out left
-  unfolding given
+  pub put-gives : (o : Extent) (after : Writing) (stop : Option Refusal) (out left : List ℕ) → admitted w e ≡ e
+      → Puts e out (w .at) o left → (after ≡ writingPast w o) × (stop ≡ o .stop) → Gives after stop out left
+  unfolding writingAfter
   put-gives o after stop out left q p a = (
     (
-      a .0 ∙ ap (moved w) (p .0) ∙ ap (λ (x : Emission). moved w (summed x)) (sym q),
-      a .1 ∙ ap (λ (x : Outcome). x .stop) (p .0) ∙ ap (λ (x : Emission). x .stop) (sym q),
+      a .0 ∙ ap (writingPast w) (p .0) ∙ ap (λ (x : Emission). writingPast w (extentOf x)) (sym q),
+      a .1 ∙ ap (λ (x : Extent). x .stop) (p .0) ∙ ap (λ (x : Emission). x .stop) (sym q),
     ),
     p .1 ∙ ap (λ (x : Emission). overlay out (w .at) (x .bytes)) (sym q),
   )
@@ -183,21 +177,21 @@ module _ (w : Writing) (e : Emission) where
 -- ---- closing
 
 module _ (w : Writing) where
-  pub close-repeats : (r : Refusal) → sound w .stop ≡ some r → closedMessage w ≡ record { bytes = []; stop = some r }
+  pub close-repeats : (r : Refusal) → orFailed w .stop ≡ some r → closedMessage w ≡ record { bytes = []; stop = some r }
   unfolding closedMessage
   close-repeats r h = rw h
 
-  pub close-empty : sound w .stop ≡ none → w .at < 5 → closedMessage w ≡ stopped 2
+  pub close-empty : orFailed w .stop ≡ none → w .at < 5 → closedMessage w ≡ refusing 2
   unfolding closedMessage
   close-empty h l = rw (h, below-range 5 53 (w .at) l)
 
-  pub close-long : sound w .stop ≡ none → 5 ≤ w .at → 53 ≤ w .at → closedMessage w ≡ stopped 2
+  pub close-long : orFailed w .stop ≡ none → 5 ≤ w .at → 53 ≤ w .at → closedMessage w ≡ refusing 2
   unfolding closedMessage
   close-long h l m = rw (h, above-range 5 53 (w .at) l m)
 
-  pub close-sent : sound w .stop ≡ none → 5 ≤ w .at → w .at < 53 → closedMessage w ≡ sent (247 ∷ [])
+  pub close-sent : orFailed w .stop ≡ none → 5 ≤ w .at → w .at < 53 → closedMessage w ≡ sent (247 ∷ [])
   unfolding closedMessage
-  close-sent h l m = rw (h, in-range 5 53 (w .at) l m)
+  close-sent h l m = rw (h, within-range 5 53 (w .at) l m)
 
   -- A close that is refused, and one that goes out.
   pub ends-refused : (r : Refusal) (out : List ℕ) → closedMessage w ≡ record { bytes = []; stop = some r }
@@ -211,7 +205,7 @@ module _ (w : Writing) where
       → (a ≡ wholeMessage w (length out)) × (left ≡ overlay out (w .at) (closedMessage w .bytes))
   unfolding wholeMessage
   ends-closed a out left q m p l room = (
-    p ∙ go (leb (w .at + 1) (length out)) refl ∙ ap (λ (x : Emission). ended (x .stop) (w .at + 1) (length out)) (sym q),
+    p ∙ go (leb (w .at + 1) (length out)) refl ∙ ap (λ (x : Emission). closeAnswer (x .stop) (w .at + 1) (length out)) (sym q),
     l ∙ ap (λ (x : Emission). overlay out (w .at) (x .bytes)) (sym q),
   )
     where
@@ -220,15 +214,15 @@ module _ (w : Writing) where
       go false e = closing-short (w .at) (length out) (omega (arith, leb-false (w .at + 1) (length out) e)) (omega arith) ∙ rw e
 
   -- A string of fields.
-  pub fields-refused : (r : Refusal) (room : ℕ) → sound w .stop ≡ some r → refused r ≡ wholeFields w room
+  pub fields-refused : (r : Refusal) (room : ℕ) → orFailed w .stop ≡ some r → refused r ≡ wholeFields w room
   unfolding wholeFields closedFields
   fields-refused r room h = rw h
 
-  pub fields-short : (room : ℕ) → sound w .stop ≡ none → room < w .at → refused (tooSmall (w .at)) ≡ wholeFields w room
+  pub fields-short : (room : ℕ) → orFailed w .stop ≡ none → room < w .at → refused (tooSmall (w .at)) ≡ wholeFields w room
   unfolding wholeFields closedFields
   fields-short room h l = rw (h, lt-leb (w .at) room l)
 
-  pub fields-fit : (room : ℕ) → sound w .stop ≡ none → w .at ≤ room → gives (w .at) ≡ wholeFields w room
+  pub fields-fit : (room : ℕ) → orFailed w .stop ≡ none → w .at ≤ room → gives (w .at) ≡ wholeFields w room
   unfolding wholeFields closedFields
   fields-fit room h l = rw (h, le-leb (w .at) room l)
 
@@ -239,9 +233,9 @@ pub left-as : (e known : Emission) (out : List ℕ) (at : ℕ) (left : List ℕ)
 left-as e known out at left q p = p ∙ ap (λ (x : Emission). overlay out at (x .bytes)) (sym q)
 
 pub moved-accepted : (w : Writing) (n : ℕ) (k : Checked) → k ≡ Accepted
-    → record { at = w .at + n; items = w .items + 1; stop = stopOf k } ≡ moved w (record { len = n; stop = stopOf k })
+    → record { at = w .at + n; items = w .items + 1; stop = stopOf k } ≡ writingPast w (record { len = n; stop = stopOf k })
 moved-accepted w n k e = rw e
 
 pub moved-refused : (w : Writing) (n : ℕ) (k : Checked) (r : SysexError) → k ≡ Refused r
-    → record { at = w .at + n; items = w .items; stop = stopOf k } ≡ moved w (record { len = n; stop = stopOf k })
+    → record { at = w .at + n; items = w .items; stop = stopOf k } ≡ writingPast w (record { len = n; stop = stopOf k })
 moved-refused w n k r e = rw e

@@ -14,26 +14,26 @@ use lib.ListN.{length, take, getD, length-append}
 use Rattle.mmc.specs.declared.length.Kind.{Kind}
 use Rattle.mmc.specs.declared.length.Kind.the-variants.{Commands, Fields}
 use Rattle.mmc.specs.Length.{within}
-use Rattle.mmc.specs.Named.{summed, nameFits}
+use Rattle.mmc.specs.Named.{extentOf, nameFits}
 use Rattle.mmc.specs.Rp013.{Item, Message, subId1, lastDevice, envelope}
-use Rattle.mmc.specs.Strings.{Given, emission, emissions, pairsOf, anyZeros, itemBytes, pairOf, Sound, readFrom, ruleOf, counted, dataFits, itemFits, meanings}
+use Rattle.mmc.specs.Strings.{Given, emission, emissions, pairsOf, anyZeros, itemBytes, pairOf, AcceptedItem, readFrom, ruleOf, withCount, dataFits, itemFits, meanings}
 use Rattle.mmc.specs.Message.{messageFrom}
 use Rattle.mmc.specs.Write as W
-use Rattle.mmc.specs.Write.{Writing, sound, openedCommands, admitted, moved, closedFields, ended, wholeMessage, wholeFields}
+use Rattle.mmc.specs.Write.{Writing, orFailed, openedCommands, admitted, writingPast, closedFields, closeAnswer, wholeMessage, wholeFields}
 use Rattle.mmc.specs.Writings.{State, opened, afterItem, afterItems, openingOf, stringState, stringAnswer, stringLeft, stringOf, headerOf, upToClose, bodyOf, fieldsOpened, fieldsAnswer, fieldsLeft}
 use Rattle.mmc.specs.WholeLists.{messageEmission, fieldsEmission, Accepts, AcceptsFields, checks, checksBy, AllAccepted, NoneRefused, NoneRefusedFields, ReadBack, Entry, entryEmission, afterEntry, afterEntries, entriesEmission, HoldsAll, Repeats, InLimits}
 use Rattle.universal.specs.Refusals.{Refusal, refusal, gives}
-use Rattle.universal.specs.Emission.{Emission, sent, stopped, check, resume, _then_, answer}
+use Rattle.universal.specs.Emission.{Emission, sent, refusing, check, resume, _then_, answer}
 use Rattle.universal.specs.Message.{opening}
 use Rattle.universal.specs.Overlay.{overlay}
-use Rattle.universal.proofs.Laws.{overlay-none, then-sent, then-assoc, then-accepted, answer-fits, answer-gives, opening-plain, all-low-byte}
-use Rattle.mmc.proofs.Holding.{none-some, entry-small, OpensWhole, opens-whole, opened-kept, fields-kept, Holds, holds-entries, holds-items, holds-opened, holds-fields, rule-of-48, ends-message, ends-fields, checks-by}
+use Rattle.universal.proofs.Laws.{overlay-none, then-sent, then-assoc, then-accepted, answer-fits, answer-gives, opening-plain, all-low-byte, none-some}
+use Rattle.mmc.proofs.Holding.{entry-small, OpensWhole, opens-whole, opened-kept, fields-kept, Holds, holds-entries, holds-items, holds-opened, holds-fields, rule-of-48, ends-message, ends-fields, checks-by}
 use Rattle.universal.proofs.Tests.{and-parts}
 use Rattle.mmc.proofs.Puts.{name-length}
-use Rattle.mmc.proofs.Ranges.{in-range}
+use Rattle.mmc.proofs.Ranges.{within-range}
 use Rattle.mmc.proofs.StringLaws.{item-accepted, list-accepted, list-message, written-reads-back, string-message}
 use Rattle.mmc.proofs.Writers.{ready-failed, repeats, response-opening, close-repeats}
-use Rattle.mmc.proofs.Accepting.{not-failed, Taken, taken, all-taken, ended-gives, front, WrittenWhole, written-whole, Kept, given-kept}
+use Rattle.mmc.proofs.Accepting.{not-failed, AcceptedEmission, emission-accepted, all-taken, ended-gives, overlay-front, WrittenWhole, written-whole, KeptByCalls, given-kept}
 
 -- ---- a whole list, in one piece
 
@@ -53,7 +53,7 @@ string-whole kind device gs out few =
 
     -- The rule of 48 by the position is the rule by the body, after an opening that went out or was refused.
     by-body : (i o : Emission)
-        → ((k : ℕ) × (o ≡ stopped k)) ⊎ ((device ≤ lastDevice kind) × (o ≡ sent (240 ∷ 127 ∷ device ∷ subId1 kind ∷ [])))
+        → ((k : ℕ) × (o ≡ refusing k)) ⊎ ((device ≤ lastDevice kind) × (o ≡ sent (240 ∷ 127 ∷ device ∷ subId1 kind ∷ [])))
         → (o then i) then tail (within 5 53 (length ((o then i) .bytes))) ≡ o then i then tail (within 1 49 (length (i .bytes)))
     by-body i o (inl p) = rw (p .1)
     by-body i o (inr p) =
@@ -87,7 +87,7 @@ item-some : (kind : Kind) (x : Item) → itemFits kind x ≡ true → 1 ≤ leng
 unfolding itemFits itemBytes
 item-some kind x h =
     let n : 1 ≤ length (x .name) = name-length (x .name) (and-parts (nameFits (x .name)) (dataFits (ruleOf kind x) (x .«data»)) h .0) .0 in
-    omega (arith, length-append (x .name) (counted (ruleOf kind x) (x .«data»)))
+    omega (arith, length-append (x .name) (withCount (ruleOf kind x) (x .«data»)))
 
 -- An accepted item has at least one byte, so an accepted list has no more items than bytes.
 few-items : (kind : Kind) (gs : List (Given kind)) → emissions kind gs .stop ≡ none → length gs ≤ length (emissions kind gs .bytes)
@@ -95,7 +95,7 @@ unfolding emissions
 few-items kind [] h = lit≤ tt
 few-items kind (g ∷ gs) h =
     let t = then-accepted (emission kind g) (emissions kind gs) h in
-    let s : Sound kind (pairOf kind g) (emission kind g .bytes) = item-accepted kind g (t .0) in
+    let s : AcceptedItem kind (pairOf kind g) (emission kind g .bytes) = item-accepted kind g (t .0) in
     let one : 1 ≤ length (emission kind g .bytes) = rw (s .item-bytes) (item-some kind (pairOf kind g) (s .fits)) in
     let rest = few-items kind gs (t .1) in
     let b : length (emissions kind (g ∷ gs) .bytes) ≡ length (emission kind g .bytes) + length (emissions kind gs .bytes) =
@@ -136,7 +136,7 @@ string-accepted kind device gs out n = (
       let bs : List ℕ = emissions kind gs .bytes in
       let few : length gs ≤ 256 = omega (arith, few-items kind gs (a .items), a .most) in
       let e : messageEmission kind device gs ≡ sent ((240 ∷ 127 ∷ device ∷ subId1 kind ∷ []) ++ bs ++ 247 ∷ []) =
-      rw (opening-sent kind device (a .device-id), in-range 1 49 (length bs) (a .least) (omega (arith, a .most)))
+      rw (opening-sent kind device (a .device-id), within-range 1 49 (length bs) (a .least) (omega (arith, a .most)))
       (ap (λ (t : Option Refusal). sent (240 ∷ 127 ∷ device ∷ subId1 kind ∷ []) then resume bs t (sent (247 ∷ []))) (a .items)) in
       let l : length ((240 ∷ 127 ∷ device ∷ subId1 kind ∷ []) ++ bs ++ 247 ∷ []) ≡ n =
       omega (arith, a .whole, length-append bs (247 ∷ [])) in
@@ -149,7 +149,7 @@ string-accepted kind device gs out n = (
 -- Where the writing after a list has no refusal, none of the list was refused.
 each-accepted : (kind : Kind) (gs : List (Given kind)) (s : State) → afterItems kind s gs .writing .stop ≡ none
     → AllAccepted (checks kind s gs)
-unfolding afterItems checks W.given
+unfolding afterItems checks W.writingAfter
 each-accepted kind [] s h = tt
 each-accepted kind (g ∷ gs) s h =
     (all-taken kind gs (afterItem kind s g) h .going, each-accepted kind gs (afterItem kind s g) h)
@@ -174,12 +174,12 @@ accepted-none-refused kind device gs out n = (
 -- A list that no call refused has at most 256 items.
 few-taken : (kind : Kind) (gs : List (Given kind)) (s : State) → s .writing .items ≤ 256 → afterItems kind s gs .writing .stop ≡ none
     → s .writing .items + length gs ≤ 256
-unfolding afterItems W.given
+unfolding afterItems W.writingAfter
 few-taken kind [] s l h = omega arith
 few-taken kind (g ∷ gs) s l h =
-    let t : Taken (s .writing) (emission kind g) = taken (s .writing) (emission kind g) (all-taken kind gs (afterItem kind s g) h .going) in
+    let t : AcceptedEmission (s .writing) (emission kind g) = emission-accepted (s .writing) (emission kind g) (all-taken kind gs (afterItem kind s g) h .going) in
     let one : afterItem kind s g .writing .items ≡ s .writing .items + 1 =
-    ap (λ (e : Emission). W.counted (e .stop) (s .writing .items)) (t .whole) ∙ ap (λ (k : Option Refusal). W.counted k (s .writing .items)) (t .own) in
+    ap (λ (e : Emission). W.itemsAfter (e .stop) (s .writing .items)) (t .whole) ∙ ap (λ (k : Option Refusal). W.itemsAfter k (s .writing .items)) (t .own) in
     let rest = few-taken kind gs (afterItem kind s g) (omega (arith, t .room)) h in
     omega (arith, one)
 
@@ -187,7 +187,7 @@ few-taken kind (g ∷ gs) s l h =
 fields-going : (w : Writing) (room n : ℕ) → wholeFields w room ≡ gives n → w .stop ≡ none
 unfolding wholeFields closedFields
 fields-going w room n h =
-    not-failed w (then-accepted (record { bytes = []; stop = sound w .stop }) (sent []) (ended-gives (closedFields w .stop) (w .at) room n h .0) .0)
+    not-failed w (then-accepted (record { bytes = []; stop = orFailed w .stop }) (sent []) (ended-gives (closedFields w .stop) (w .at) room n h .0) .0)
 
 -- A string of fields is accepted exactly where `AcceptsFields` holds.
 pub fields-accepted : (gs : List (Given Fields)) (out : List ℕ) (n : ℕ)
@@ -227,7 +227,7 @@ pub fields-read-back : (gs : List (Given Fields)) (out : List ℕ) (n : ℕ) →
 fields-read-back gs out n h =
     let a = fields-accepted gs out n .0 h in
     let b : take n (fieldsLeft gs out) ≡ emissions Fields gs .bytes =
-    ap (take n) (fields-whole gs out (a .few) .1) ∙ front out (emissions Fields gs .bytes) n (a .whole) (a .room-for) in
+    ap (take n) (fields-whole gs out (a .few) .1) ∙ overlay-front out (emissions Fields gs .bytes) n (a .whole) (a .room-for) in
     (b, ap (λ (s : List ℕ). readFrom Fields s 0) b ∙ written-reads-back Fields gs (a .items))
 
 -- ---- what an accepted writing is
@@ -274,7 +274,7 @@ accepted-reads-back kind device gs out n h =
 
 -- ---- a failed writer, and how far any calls get
 
-repeats-now : (r : Refusal) (s t : State) → sound (t .writing) .stop ≡ some r → t .writing .at ≡ s .writing .at → t .out ≡ s .out
+repeats-now : (r : Refusal) (s t : State) → orFailed (t .writing) .stop ≡ some r → t .writing .at ≡ s .writing .at → t .out ≡ s .out
     → Repeats r s t
 unfolding wholeMessage wholeFields closedFields
 repeats-now r s t f p u =
@@ -284,19 +284,19 @@ repeats-now r s t f p u =
       position = p;
       untouched = u;
       next-item = λ x. repeats (t .writing) (entryEmission x) r (sym (ready-failed (t .writing) r f));
-      as-message = λ room. ap (λ (e : Emission). ended (e .stop) (t .writing .at + 1) room) c;
+      as-message = λ room. ap (λ (e : Emission). closeAnswer (e .stop) (t .writing .at + 1) room) c;
       no-close = ap (λ (e : Emission). e .bytes) c;
-      as-fields = λ room. ap (λ (k : Option Refusal). ended (resume [] k (sent []) .stop) (t .writing .at) room) f;
+      as-fields = λ room. ap (λ (k : Option Refusal). closeAnswer (resume [] k (sent []) .stop) (t .writing .at) room) f;
     }
 
 -- One more call leaves it failed by the same refusal.
-still-failed : (w : Writing) (e : Emission) (r : Refusal) → sound w .stop ≡ some r
-    → (sound (W.given w e) .stop ≡ some r) × (W.given w e .at ≡ w .at) × (admitted w e .bytes ≡ [])
-unfolding W.given sound
+still-failed : (w : Writing) (e : Emission) (r : Refusal) → orFailed w .stop ≡ some r
+    → (orFailed (W.writingAfter w e) .stop ≡ some r) × (W.writingAfter w e .at ≡ w .at) × (admitted w e .bytes ≡ [])
+unfolding W.writingAfter orFailed
 still-failed w e r f =
     let a : admitted w e ≡ record { bytes = []; stop = some r } = repeats w e r (sym (ready-failed w r f)) in
-    let near : W.given w e .at ≡ w .at = ap (λ (x : Emission). w .at + length (x .bytes)) a ∙ add-zero (w .at) in (
-      ap (λ (x : Emission). sound (moved w (summed x)) .stop) a
+    let near : W.writingAfter w e .at ≡ w .at = ap (λ (x : Emission). w .at + length (x .bytes)) a ∙ add-zero (w .at) in (
+      ap (λ (x : Emission). orFailed (writingPast w (extentOf x)) .stop) a
           ∙ ap (λ (k : ℕ). cond {A = Writing} (leb (w .items) 256 && leb k 40000) (by k (some r)) (by k (some (refusal 10))) .stop) (add-zero (w .at))
           ∙ go (leb (w .items) 256 && leb (w .at) 40000) f,
       near,
@@ -312,7 +312,7 @@ still-failed w e r f =
     go false q = q
 
 -- A failed writer repeats its first refusal and writes nothing more, over any list of further calls.
-pub failed-repeats : (xs : List Entry) (s : State) (r : Refusal) → sound (s .writing) .stop ≡ some r → Repeats r s (afterEntries s xs)
+pub failed-repeats : (xs : List Entry) (s : State) (r : Refusal) → orFailed (s .writing) .stop ≡ some r → Repeats r s (afterEntries s xs)
 unfolding afterEntries
 failed-repeats [] s r f = repeats-now r s s f refl refl
 failed-repeats (x ∷ xs) s r f =
@@ -322,13 +322,13 @@ failed-repeats (x ∷ xs) s r f =
     (t .untouched ∙ ap (overlay (s .out) (s .writing .at)) (n .2) ∙ overlay-none (s .out) (s .writing .at))
 
 -- Any calls keep a writing from its limits.
-entries-kept : (xs : List Entry) (s : State) → Kept (s .writing) → Kept (afterEntries s xs .writing)
+entries-kept : (xs : List Entry) (s : State) → KeptByCalls (s .writing) → KeptByCalls (afterEntries s xs .writing)
 unfolding afterEntries
 entries-kept [] s k = k
 entries-kept (x ∷ xs) s k =
     entries-kept xs (afterEntry s x) (given-kept (s .writing) (entryEmission x) k (entry-small x))
 
-in-limits : (w : Writing) → Kept w → InLimits w
+in-limits : (w : Writing) → KeptByCalls w → InLimits w
 in-limits w k = record { items = k .few; position = omega (arith, k .few, k .near) }
 
 -- No list of calls from an opening leaves a writer past its limits: one of commands or responses, or of a string of fields.

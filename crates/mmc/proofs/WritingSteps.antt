@@ -12,13 +12,13 @@ use Rattle.mmc.specs.declared.command.MmcCommand.the-variants as C
 use Rattle.mmc.specs.declared.length.Kind.{Kind}
 use Rattle.mmc.specs.Item.{commandItem, isSubframes, locateTargetItem, standardItem}
 use Rattle.mmc.specs.Length.{within}
-use Rattle.mmc.specs.Named.{summed}
+use Rattle.mmc.specs.Named.{extentOf}
 use Rattle.mmc.specs.Strings.{Given}
-use Rattle.mmc.specs.Write.{Writing, sound, openedCommands, begun, ready, admitted, moved, given, closedMessage, ended, wholeMessage}
+use Rattle.mmc.specs.Write.{Writing, orFailed, openedCommands, begun, ready, admitted, writingPast, writingAfter, closedMessage, closeAnswer, wholeMessage}
 use Rattle.mmc.specs.Writings.{State, opened, afterItem, afterItems, openingOf, stringState, stringAnswer, stringLeft}
 use Rattle.codes.specs.declared.time_code.StandardTimeCode.{StandardTimeCode}
 use Rattle.codes.specs.TimeCode.{standardFits, standardList}
-use Rattle.universal.specs.Emission.{Emission, sent, stopped, check, resume, _then_}
+use Rattle.universal.specs.Emission.{Emission, sent, refusing, check, resume, _then_}
 use Rattle.universal.specs.Message.{header}
 use Rattle.universal.specs.Overlay.{overlay}
 use Rattle.universal.specs.Refusals.{Refusal, refusal, Answer}
@@ -31,7 +31,7 @@ pub use Rattle.mmc.proofs.Writers.{as-it-is, ready-kept, ready-failed, 
 -- ---- opening
 
 -- A command string to a device above 127 is refused with 5.
-pub commands-refused : (device : ℕ) → 127 < device → openedCommands device ≡ stopped 5
+pub commands-refused : (device : ℕ) → 127 < device → openedCommands device ≡ refusing 5
 unfolding openedCommands
 commands-refused device h = opening-device (header true device 6 NoSubId2) h
 
@@ -48,8 +48,8 @@ begun-after e = refl
 -- ---- an item
 
 -- The refusal of a writing: its own, or 10 past its limits.
-pub sound-stop : (w : Writing) → sound w .stop ≡ cond (leb (w .items) 256 && leb (w .at) 40000) (w .stop) (some (refusal 10))
-unfolding sound
+pub sound-stop : (w : Writing) → orFailed w .stop ≡ cond (leb (w .items) 256 && leb (w .at) 40000) (w .stop) (some (refusal 10))
+unfolding orFailed
 sound-stop w = go (leb (w .items) 256 && leb (w .at) 40000)
   where
     go : (b : Bool)
@@ -58,7 +58,7 @@ sound-stop w = go (leb (w .items) 256 && leb (w .at) 40000)
     go false = refl
 
 -- Its refusal for the next item: that, or 10 where 256 were accepted.
-pub ready-stop : (w : Writing) → ready w ≡ resume [] (sound w .stop) (check (ltb (w .items) 256) 10) .stop
+pub ready-stop : (w : Writing) → ready w ≡ resume [] (orFailed w .stop) (check (ltb (w .items) 256) 10) .stop
 unfolding ready
 ready-stop w = refl
 
@@ -68,8 +68,8 @@ unfolding admitted
 admitted-after w e = refl
 
 -- The writing moves on by what went out.
-pub given-moves : (w : Writing) (e : Emission) → given w e ≡ moved w (summed (admitted w e))
-unfolding given
+pub given-moves : (w : Writing) (e : Emission) → writingAfter w e ≡ writingPast w (extentOf (admitted w e))
+unfolding writingAfter
 given-moves w e = refl
 
 -- A list of items, one after another.
@@ -108,12 +108,12 @@ locate-sent source c = refl
 -- ---- closing
 
 -- A close comes after the writing's refusal: 2 for a body outside 1 to 48 bytes, then F7H.
-pub closed-after : (w : Writing) → closedMessage w ≡ resume [] (sound w .stop) (check (within 5 53 (w .at)) 2 then sent (247 ∷ []))
+pub closed-after : (w : Writing) → closedMessage w ≡ resume [] (orFailed w .stop) (check (within 5 53 (w .at)) 2 then sent (247 ∷ []))
 unfolding closedMessage
 closed-after w = refl
 
 -- Its answer is its refusal, else the length against the buffer's.
-pub whole-ended : (w : Writing) (room : ℕ) → wholeMessage w room ≡ ended (closedMessage w .stop) (w .at + 1) room
+pub whole-ended : (w : Writing) (room : ℕ) → wholeMessage w room ≡ closeAnswer (closedMessage w .stop) (w .at + 1) room
 unfolding wholeMessage
 whole-ended w room = refl
 

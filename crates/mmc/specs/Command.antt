@@ -40,8 +40,8 @@ readMove d =
     (cond (eqb (getD d 0 0) 0) other (cond (eqb (getD d 1 0) 0) other (move (getD d 0 0) (getD d 1 0))))
 
 -- A name of one byte, with its data.
-unfoldable pub readByte : ℕ → List ℕ → CommandCase
-readByte n d =
+unfoldable pub commandByName : ℕ → List ℕ → CommandCase
+commandByName n d =
     cond (eqb n (P.byteOf P.Stop)) stop
     (cond (eqb n (P.byteOf P.Play)) play
     (cond (eqb n (P.byteOf P.DeferredPlay)) deferredPlay
@@ -55,29 +55,29 @@ readByte n d =
 
 -- What a name and data are read as: a name with prefixes is no known command.
 unfoldable pub readCommand : List ℕ → List ℕ → CommandCase
-readCommand name d = cond (eqb (length name) 1) (readByte (getD name 0 0) d) other
+readCommand name d = cond (eqb (length name) 1) (commandByName (getD name 0 0) d) other
 
 -- The case with the parts that its name and data are.
-abbrev pub located : CommandCase → Part → Part → MmcCommand
-located stop n d = Stop
-located play n d = Play
-located deferredPlay n d = DeferredPlay
-located fastForward n d = FastForward
-located rewind n d = Rewind
-located recordStrobe n d = RecordStrobe
-located recordExit n d = RecordExit
-located pause n d = Pause
-located reset n d = Reset
-located write n d = Write d
-located (locateField r) n d = LocateField r
-located (locateTarget c) n d = LocateTarget c
-located (move a b) n d = Move a b
-located other n d = Other n d
+abbrev pub commandOfCase : CommandCase → Part → Part → MmcCommand
+commandOfCase stop n d = Stop
+commandOfCase play n d = Play
+commandOfCase deferredPlay n d = DeferredPlay
+commandOfCase fastForward n d = FastForward
+commandOfCase rewind n d = Rewind
+commandOfCase recordStrobe n d = RecordStrobe
+commandOfCase recordExit n d = RecordExit
+commandOfCase pause n d = Pause
+commandOfCase reset n d = Reset
+commandOfCase write n d = Write d
+commandOfCase (locateField r) n d = LocateField r
+commandOfCase (locateTarget c) n d = LocateTarget c
+commandOfCase (move a b) n d = Move a b
+commandOfCase other n d = Other n d
 
 -- ---- the next command of a string
 
 unfoldable pub nextCommand : List ℕ → ℕ → Next MmcCommand
-nextCommand body place = nextAs (partsAs (λ (x y : List ℕ). located (readCommand x y)) body) (next Commands body place)
+nextCommand body place = nextAs (partsAs (λ (x y : List ℕ). commandOfCase (readCommand x y)) body) (next Commands body place)
 
 -- The answer, in the paper's numbers.
 abbrev pub commandAnswerOf : CommandAnswer → Answer MmcCommand

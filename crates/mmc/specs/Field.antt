@@ -25,26 +25,26 @@ pub data FieldCase : Type 0 where
   other : FieldCase
 
 -- A name of one byte, with its data: 01H to 1FH with five bytes, 21H to 3FH with two.
-unfoldable pub readByte : ℕ → List ℕ → FieldCase
-readByte n d =
+unfoldable pub fieldByName : ℕ → List ℕ → FieldCase
+fieldByName n d =
     cond (within 1 32 n)
     (cond (eqb (length d) 5) (timeCode n (readStandard (getD d 0 0) (getD d 1 0) (getD d 2 0) (getD d 3 0) (getD d 4 0))) other)
     (cond (within 33 64 n) (cond (eqb (length d) 2) (short (n - 32) (readShort (getD d 0 0) (getD d 1 0))) other) other)
 
 -- What a name and data are read as: a name with prefixes is no time code.
 unfoldable pub readField : List ℕ → List ℕ → FieldCase
-readField name d = cond (eqb (length name) 1) (readByte (getD name 0 0) d) other
+readField name d = cond (eqb (length name) 1) (fieldByName (getD name 0 0) d) other
 
 -- The case with the parts that its name and data are.
-abbrev pub placed : FieldCase → Part → Part → InfoField
-placed (timeCode f c) n d = TimeCode f c
-placed (short f c) n d = Short f c
-placed other n d = Other n d
+abbrev pub fieldOfCase : FieldCase → Part → Part → InfoField
+fieldOfCase (timeCode f c) n d = TimeCode f c
+fieldOfCase (short f c) n d = Short f c
+fieldOfCase other n d = Other n d
 
 -- ---- the next field of a string
 
 unfoldable pub nextField : List ℕ → ℕ → Next InfoField
-nextField body place = nextAs (partsAs (λ (x y : List ℕ). placed (readField x y)) body) (next Fields body place)
+nextField body place = nextAs (partsAs (λ (x y : List ℕ). fieldOfCase (readField x y)) body) (next Fields body place)
 
 -- The answer, in the paper's numbers.
 abbrev pub fieldAnswerOf : FieldAnswer → Answer InfoField

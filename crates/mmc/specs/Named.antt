@@ -14,12 +14,12 @@ use Rattle.codes.specs.declared.time_code.Checked.the-variants.{Accepted, Refus
 use Rattle.mmc.specs.Length.{lengthOf}
 use Rattle.universal.specs.Refusals.{Refusal, refusalOf}
 use Rattle.universal.specs.Emission.{Emission, sent, check, _then_}
-use Rattle.universal.specs.Message.{dataBytes}
+use Rattle.universal.specs.Message.{dataEmission}
 
 -- ---- what a put answers, in the paper's numbers
 
 -- How many bytes went out, and the refusal that ended them, if any did.
-pub record Outcome : Type 0 where
+pub record Extent : Type 0 where
   pub len : ℕ
   pub stop : Option Refusal
 
@@ -27,11 +27,11 @@ abbrev pub stopOf : Checked → Option Refusal
 stopOf Accepted = none
 stopOf (Refused e) = some (refusalOf e)
 
-abbrev pub putOf : Put → Outcome
+abbrev pub putOf : Put → Extent
 putOf p = record { len = p .len; stop = stopOf (p .checked) }
 
-abbrev pub summed : Emission → Outcome
-summed e = record { len = length (e .bytes); stop = e .stop }
+abbrev pub extentOf : Emission → Extent
+extentOf e = record { len = length (e .bytes); stop = e .stop }
 
 -- ---- a name and its data
 
@@ -44,14 +44,14 @@ nameFits (a ∷ b ∷ x ∷ []) = eqb a 0 && eqb b 0
 nameFits (a ∷ b ∷ x ∷ y ∷ l) = false
 
 -- A name's last byte, which its length rule goes by.
-abbrev pub lastOf : List ℕ → ℕ
-lastOf name = getD name (length name - 1) 0
+abbrev pub lastByte : List ℕ → ℕ
+lastByte name = getD name (length name - 1) 0
 
 -- Data by the rule: 2 for another length, then 1 for a byte above 7FH.
 unfoldable pub byRule : Length → List ℕ → Emission
-byRule (Fixed n) d = check (eqb n (length d)) 2 then dataBytes d
-byRule Count d = check (leb (length d) 127) 2 then sent (length d ∷ []) then dataBytes d
+byRule (Fixed n) d = check (eqb n (length d)) 2 then dataEmission d
+byRule Count d = check (leb (length d) 127) 2 then sent (length d ∷ []) then dataEmission d
 
 -- A name, which is checked first for its form and then for its bytes, and the data by its rule.
 unfoldable pub namedItem : Kind → List ℕ → List ℕ → Emission
-namedItem kind name d = check (nameFits name) 2 then dataBytes name then byRule (lengthOf kind (lastOf name)) d
+namedItem kind name d = check (nameFits name) 2 then dataEmission name then byRule (lengthOf kind (lastByte name)) d

@@ -4,25 +4,25 @@ use mathlib.Core.Path.{_≡_}
 use mathlib.Core.List.{List, [], _∷_}
 use Rattle.mmc.specs.declared.command.MmcCommand.the-variants as C
 use Rattle.mmc.specs.Command as K
-use Rattle.mmc.specs.Command.{readByte, readLocate, readMove}
+use Rattle.mmc.specs.Command.{commandByName, readLocate, readMove}
 use Rattle.mmc.specs.Rp013Commands as P
 use Rattle.mmc.specs.Item.{commandItem}
 use Rattle.universal.specs.Emission.{sent}
 
 -- What each known name of one byte is read as, with its data.
 pub record NamesRead (d : List ℕ) : Type 0 where
-  pub stop : readByte (P.byteOf P.Stop) d ≡ K.stop
-  pub play : readByte (P.byteOf P.Play) d ≡ K.play
-  pub deferred-play : readByte (P.byteOf P.DeferredPlay) d ≡ K.deferredPlay
-  pub fast-forward : readByte (P.byteOf P.FastForward) d ≡ K.fastForward
-  pub rewind : readByte (P.byteOf P.Rewind) d ≡ K.rewind
-  pub record-strobe : readByte (P.byteOf P.RecordStrobe) d ≡ K.recordStrobe
-  pub record-exit : readByte (P.byteOf P.RecordExit) d ≡ K.recordExit
-  pub pause : readByte (P.byteOf P.Pause) d ≡ K.pause
-  pub reset : readByte (P.byteOf P.MmcReset) d ≡ K.reset
-  pub write : readByte (P.byteOf P.Write) d ≡ K.write
-  pub locate : readByte (P.byteOf P.Locate) d ≡ readLocate d
-  pub move : readByte (P.byteOf P.Move) d ≡ readMove d
+  pub stop : commandByName (P.byteOf P.Stop) d ≡ K.stop
+  pub play : commandByName (P.byteOf P.Play) d ≡ K.play
+  pub deferred-play : commandByName (P.byteOf P.DeferredPlay) d ≡ K.deferredPlay
+  pub fast-forward : commandByName (P.byteOf P.FastForward) d ≡ K.fastForward
+  pub rewind : commandByName (P.byteOf P.Rewind) d ≡ K.rewind
+  pub record-strobe : commandByName (P.byteOf P.RecordStrobe) d ≡ K.recordStrobe
+  pub record-exit : commandByName (P.byteOf P.RecordExit) d ≡ K.recordExit
+  pub pause : commandByName (P.byteOf P.Pause) d ≡ K.pause
+  pub reset : commandByName (P.byteOf P.MmcReset) d ≡ K.reset
+  pub write : commandByName (P.byteOf P.Write) d ≡ K.write
+  pub locate : commandByName (P.byteOf P.Locate) d ≡ readLocate d
+  pub move : commandByName (P.byteOf P.Move) d ≡ readMove d
 
 -- The commands that are a name alone go out as this name.
 pub record NamesSent (source : List ℕ) : Type 0 where

@@ -45,7 +45,7 @@ splitAt kind body at = named kind body at (prefixesAt body at)
 -- ---- one item after another
 
 -- Where an item's name and data are.
-pub record Located : Type 0 where
+pub record ItemPlace : Type 0 where
   pub name : Part
   pub «data» : Part
 
@@ -62,22 +62,22 @@ pub record Next (A : Type 0) : Type 0 where
   pub place : ℕ
 
 -- The item and the place after it; 2 and the end of a string that is cut short.
-abbrev pub found : Parts → ℕ → Next Located
+abbrev pub found : Parts → ℕ → Next ItemPlace
 found (Item n d after) end = record { answer = gives (record { name = n; «data» = d }); place = after }
 found Cut end = record { answer = refused (refusal 2); place = end }
 
 -- 9 at or past the end, which changes nothing.
-unfoldable pub next : Kind → List ℕ → ℕ → Next Located
+unfoldable pub next : Kind → List ℕ → ℕ → Next ItemPlace
 next kind body place =
     cond (ltb place (length body)) (found (splitAt kind body place) (length body))
     (record { answer = refused (refusal 9); place = place })
 
 -- The answer of a read, in the paper's numbers.
-abbrev pub partsAnswerOf : PartsAnswer → Answer Located
+abbrev pub partsAnswerOf : PartsAnswer → Answer ItemPlace
 partsAnswerOf (A.Found n d) = gives (record { name = n; «data» = d })
 partsAnswerOf (A.Refused e) = refused (refusalOf e)
 
-abbrev pub nextPartsOf : NextParts → Next Located
+abbrev pub nextPartsOf : NextParts → Next ItemPlace
 nextPartsOf r = record { answer = partsAnswerOf (r .answer); place = r .place }
 
 -- The item read as something.
@@ -89,5 +89,5 @@ abbrev pub nextAs : {A B : Type 0} → (A → B) → Next A → Next B
 nextAs f n = record { answer = answerAs f (n .answer); place = n .place }
 
 -- What is made of the bytes of an item's name and data, and of where they lie.
-abbrev pub partsAs : {A : Type 0} → (List ℕ → List ℕ → Part → Part → A) → List ℕ → Located → A
+abbrev pub partsAs : {A : Type 0} → (List ℕ → List ℕ → Part → Part → A) → List ℕ → ItemPlace → A
 partsAs make body l = make (partOf body (l .name)) (partOf body (l .«data»)) (l .name) (l .«data»)

@@ -16,14 +16,14 @@ use Rattle.mmc.specs.declared.length.Kind.the-variants.{Commands, Fields
 use Rattle.mmc.specs.declared.length.Length.{Length}
 use Rattle.mmc.specs.declared.length.Length.the-variants.{Fixed, Count}
 use Rattle.mmc.specs.declared.split.Parts.the-variants as P
-use Rattle.mmc.specs.Command.{CommandCase, stop, play, deferredPlay, fastForward, rewind, recordStrobe, recordExit, pause, reset, write, locateField, locateTarget, move, readCommand, located, nextCommand}
-use Rattle.mmc.specs.Field.{FieldCase, timeCode, short, readField, placed, nextField}
+use Rattle.mmc.specs.Command.{CommandCase, stop, play, deferredPlay, fastForward, rewind, recordStrobe, recordExit, pause, reset, write, locateField, locateTarget, move, readCommand, commandOfCase, nextCommand}
+use Rattle.mmc.specs.Field.{FieldCase, timeCode, short, readField, fieldOfCase, nextField}
 use Rattle.mmc.specs.Item.{commandItem, fieldItem}
 use Rattle.mmc.specs.Length.{lengthOf}
-use Rattle.mmc.specs.Named.{nameFits, lastOf}
+use Rattle.mmc.specs.Named.{nameFits, lastByte}
 use Rattle.mmc.specs.Part.{part, partOf}
 use Rattle.mmc.specs.Rp013.{Item, IsItem}
-use Rattle.mmc.specs.Split.{splitAt, Located, Next, next, nextAs}
+use Rattle.mmc.specs.Split.{splitAt, ItemPlace, Next, next, nextAs}
 use Rattle.codes.specs.TimeCode.{standardList, shortList, zeroed}
 use Rattle.universal.specs.Emission.{Emission, sent, _then_}
 use Rattle.universal.specs.Message.{allLow}
@@ -37,16 +37,16 @@ item name d = record { name = name; «data» = d }
 
 -- The rule that an item's name gives.
 abbrev pub ruleOf : Kind → Item → Length
-ruleOf kind x = lengthOf kind (lastOf (x .name))
+ruleOf kind x = lengthOf kind (lastByte (x .name))
 
 -- Data by the rule, with the count byte before them where it asks for one.
-abbrev pub counted : Length → List ℕ → List ℕ
-counted (Fixed n) d = d
-counted Count d = length d ∷ d
+abbrev pub withCount : Length → List ℕ → List ℕ
+withCount (Fixed n) d = d
+withCount Count d = length d ∷ d
 
 -- The bytes of an item: its name, a count byte where the rule asks for one, its data.
 unfoldable pub itemBytes : Kind → Item → List ℕ
-itemBytes kind x = x .name ++ counted (ruleOf kind x) (x .«data»)
+itemBytes kind x = x .name ++ withCount (ruleOf kind x) (x .«data»)
 
 -- The bytes of items one after another.
 unfoldable pub joined : Kind → List Item → List ℕ
@@ -73,7 +73,7 @@ zerosItem = item (0 ∷ 0 ∷ 0 ∷ []) []
 
 -- A name that ends with 00H: of the names that fit, only 00 00 00 does.
 abbrev pub isZeros : Item → Bool
-isZeros x = eqb (lastOf (x .name)) 0
+isZeros x = eqb (lastByte (x .name)) 0
 
 -- One of the items is named 00 00 00.
 unfoldable pub anyZeros : List Item → Bool
@@ -93,30 +93,30 @@ countBytes (Fixed n) = 0
 countBytes Count = 1
 
 -- Where the name and the data of an item stand that begins at a place.
-abbrev pub locatedAt : Kind → ℕ → Item → Located
-locatedAt kind place x =
+abbrev pub itemPlace : Kind → ℕ → Item → ItemPlace
+itemPlace kind place x =
     record {
       name = part place (length (x .name));
       «data» = part (place + length (x .name) + countBytes (ruleOf kind x)) (length (x .«data»));
     }
 
 -- Where those of items stand that begin at a place, one after another.
-unfoldable pub places : Kind → ℕ → List Item → List Located
-places kind place [] = []
-places kind place (x ∷ xs) = locatedAt kind place x ∷ places kind (place + length (itemBytes kind x)) xs
+unfoldable pub itemPlaces : Kind → ℕ → List Item → List ItemPlace
+itemPlaces kind place [] = []
+itemPlaces kind place (x ∷ xs) = itemPlace kind place x ∷ itemPlaces kind (place + length (itemBytes kind x)) xs
 
 -- Each item read by its name and data, and by where they stand.
-unfoldable pub readAs : {A : Type 0} → (List ℕ → List ℕ → Located → A) → Kind → ℕ → List Item → List A
+unfoldable pub readAs : {A : Type 0} → (List ℕ → List ℕ → ItemPlace → A) → Kind → ℕ → List Item → List A
 readAs read kind place [] = []
 readAs read kind place (x ∷ xs) =
-    read (x .name) (x .«data») (locatedAt kind place x) ∷ readAs read kind (place + length (itemBytes kind x)) xs
+    read (x .name) (x .«data») (itemPlace kind place x) ∷ readAs read kind (place + length (itemBytes kind x)) xs
 
 -- An item is found at a place: the splitter gives its parts there and the place after it, and the parts have its bytes.
 pub record Found (kind : Kind) (body : List ℕ) (place : ℕ) (x : Item) : Type 0 where
   pub split : splitAt kind body place
-      ≡ P.Item (locatedAt kind place x .name) (locatedAt kind place x .«data») (place + length (itemBytes kind x))
-  pub name-bytes : partOf body (locatedAt kind place x .name) ≡ x .name
-  pub data-bytes : partOf body (locatedAt kind place x .«data») ≡ x .«data»
+      ≡ P.Item (itemPlace kind place x .name) (itemPlace kind place x .«data») (place + length (itemBytes kind x))
+  pub name-bytes : partOf body (itemPlace kind place x .name) ≡ x .name
+  pub data-bytes : partOf body (itemPlace kind place x .«data») ≡ x .«data»
 
 -- ---- the walk over a string
 
@@ -140,7 +140,7 @@ abbrev pub readsOf : List ℕ → ℕ
 readsOf body = suc (length body)
 
 -- The bytes of a name and data that were found.
-abbrev pub itemAt : List ℕ → Located → Item
+abbrev pub itemAt : List ℕ → ItemPlace → Item
 itemAt body l = item (partOf body (l .name)) (partOf body (l .«data»))
 
 -- The items of a string from a place on.
@@ -155,9 +155,9 @@ Meaning Commands = MmcCommand
 Meaning Fields = InfoField
 
 -- What a name and data, which stand at two parts, are read as.
-abbrev pub meaning : (kind : Kind) → List ℕ → List ℕ → Located → Meaning kind
-meaning Commands name d l = located (readCommand name d) (l .name) (l .«data»)
-meaning Fields name d l = placed (readField name d) (l .name) (l .«data»)
+abbrev pub meaning : (kind : Kind) → List ℕ → List ℕ → ItemPlace → Meaning kind
+meaning Commands name d l = commandOfCase (readCommand name d) (l .name) (l .«data»)
+meaning Fields name d l = fieldOfCase (readField name d) (l .name) (l .«data»)
 
 -- What commands or fields the items are that begin at a place.
 abbrev pub meanings : (kind : Kind) → ℕ → List Item → List (Meaning kind)
@@ -215,7 +215,7 @@ fieldPair source (F.Other n d) = item (partOf source n) (partOf source d)
 
 -- What holds of an accepted item: its bytes are those of its name and data, which fit; each is at most 7FH; there are at most
 -- 131, a name of three, a count byte and 127.
-pub record Sound (kind : Kind) (x : Item) (bytes : List ℕ) : Type 0 where
+pub record AcceptedItem (kind : Kind) (x : Item) (bytes : List ℕ) : Type 0 where
   pub item-bytes : bytes ≡ itemBytes kind x
   pub fits : itemFits kind x ≡ true
   pub low : allLow bytes ≡ true
@@ -251,7 +251,7 @@ pairsOf kind gs = map (pairOf kind) gs
 
 -- What holds of the bytes of an accepted list: they are those of its items, which fit; each is at most 7FH; there are at most
 -- 131 for each item.
-pub record SoundList (kind : Kind) (xs : List Item) (bytes : List ℕ) : Type 0 where
+pub record AcceptedItems (kind : Kind) (xs : List Item) (bytes : List ℕ) : Type 0 where
   pub item-bytes : bytes ≡ joined kind xs
   pub fits : allFit kind xs ≡ true
   pub low : allLow bytes ≡ true
@@ -284,6 +284,6 @@ fieldBack source (F.Short f c) = short f c
 fieldBack source (F.Other n d) = readField (partOf source n) (partOf source d)
 
 -- What comes back, with its name and data at two parts.
-abbrev pub back : (kind : Kind) → Given kind → Located → Meaning kind
-back Commands g l = located (commandBack (g .source) (g .meant)) (l .name) (l .«data»)
-back Fields g l = placed (fieldBack (g .source) (g .meant)) (l .name) (l .«data»)
+abbrev pub back : (kind : Kind) → Given kind → ItemPlace → Meaning kind
+back Commands g l = commandOfCase (commandBack (g .source) (g .meant)) (l .name) (l .«data»)
+back Fields g l = fieldOfCase (fieldBack (g .source) (g .meant)) (l .name) (l .«data»)

@@ -12,7 +12,7 @@ use Rattle.mmc.specs.Length.{within}
 use Rattle.mmc.specs.Message.{messageFrom}
 use Rattle.mmc.specs.Rp013.{lastDevice}
 use Rattle.mmc.specs.Strings.{Given, emission, emissions, pairsOf, meanings, readFrom}
-use Rattle.mmc.specs.Write.{Writing, sound, admitted, closedMessage, wholeMessage, wholeFields}
+use Rattle.mmc.specs.Write.{Writing, orFailed, admitted, closedMessage, wholeMessage, wholeFields}
 use Rattle.mmc.specs.Writings.{State, opened, afterItem, openingOf, stringAnswer, headerOf, bodyOf, messageOf, fieldsOpened, fieldsAnswer}
 use Rattle.universal.specs.Emission.{Emission, sent, check, _then_, answer}
 use Rattle.universal.specs.Overlay.{overlay}
@@ -134,7 +134,7 @@ pub record HoldsAll (found : List ℕ) (e : Emission) (s : State) : Type 0 where
 
 -- What a writer with a refusal does: it repeats it to every further call, and writes nothing more.
 pub record Repeats (r : Refusal) (s t : State) : Type 0 where
-  pub failed : sound (t .writing) .stop ≡ some r
+  pub failed : orFailed (t .writing) .stop ≡ some r
   pub position : t .writing .at ≡ s .writing .at
   pub untouched : t .out ≡ s .out
   pub next-item : (x : Entry) → admitted (t .writing) (entryEmission x) ≡ record { bytes = []; stop = some r }

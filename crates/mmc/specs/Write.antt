@@ -8,7 +8,7 @@ use lib.Dec.{leb, ltb, eqb}
 use lib.ListN.{length}
 use Rattle.mmc.specs.declared.write.Writer.{Writer}
 use Rattle.mmc.specs.Length.{within}
-use Rattle.mmc.specs.Named.{Outcome, stopOf, summed}
+use Rattle.mmc.specs.Named.{Extent, stopOf, extentOf}
 use Rattle.universal.specs.Refusals.{Refusal, refusal, Answer, gives, refused}
 use Rattle.universal.specs.Emission.{Emission, sent, check, resume, _then_, fitted}
 use Rattle.universal.specs.Message.{opening, header}
@@ -25,8 +25,8 @@ abbrev pub writingOf : Writer → Writing
 writingOf w = record { at = w .at; items = w .items; stop = stopOf (w .checked) }
 
 -- A writer with over 256 items or a position above 40,000, which no calls leave, is failed by 10.
-unfoldable pub sound : Writing → Writing
-sound w =
+unfoldable pub orFailed : Writing → Writing
+orFailed w =
     cond (leb (w .items) 256 && leb (w .at) 40000) w (record { at = w .at; items = w .items; stop = some (refusal 10) })
 
 -- ---- opening
@@ -57,42 +57,42 @@ opensAt (refused r) = record { at = 0; items = 0; stop = some r }
 
 -- The refusal that a writing has for its next item, if any: its own, or 10 where 256 were accepted.
 unfoldable pub ready : Writing → Option Refusal
-ready w = resume [] (sound w .stop) (check (ltb (w .items) 256) 10) .stop
+ready w = resume [] (orFailed w .stop) (check (ltb (w .items) 256) 10) .stop
 
 -- What goes out of an item: nothing where the writing has a refusal, else its own.
 unfoldable pub admitted : Writing → Emission → Emission
 admitted w e = resume [] (ready w) e
 
 -- One more item where it was accepted.
-abbrev pub counted : Option Refusal → ℕ → ℕ
-counted none n = n + 1
-counted (some r) n = n
+abbrev pub itemsAfter : Option Refusal → ℕ → ℕ
+itemsAfter none n = n + 1
+itemsAfter (some r) n = n
 
 -- The writing after so many bytes of an item, and the refusal that ended it, if any did.
-abbrev pub moved : Writing → Outcome → Writing
-moved w o = record { at = w .at + o .len; items = counted (o .stop) (w .items); stop = o .stop }
+abbrev pub writingPast : Writing → Extent → Writing
+writingPast w o = record { at = w .at + o .len; items = itemsAfter (o .stop) (w .items); stop = o .stop }
 
 -- The writing after an item.
-unfoldable pub given : Writing → Emission → Writing
-given w e = moved w (summed (admitted w e))
+unfoldable pub writingAfter : Writing → Emission → Writing
+writingAfter w e = writingPast w (extentOf (admitted w e))
 
 -- ---- closing
 
 -- 2 for a body outside 1 to 48 bytes, which follows the four opening bytes; then F7H.
 unfoldable pub closedMessage : Writing → Emission
-closedMessage w = resume [] (sound w .stop) (check (within 5 53 (w .at)) 2 then sent (247 ∷ []))
+closedMessage w = resume [] (orFailed w .stop) (check (within 5 53 (w .at)) 2 then sent (247 ∷ []))
 
 -- A string of fields has no close.
 unfoldable pub closedFields : Writing → Emission
-closedFields w = resume [] (sound w .stop) (sent [])
+closedFields w = resume [] (orFailed w .stop) (sent [])
 
 -- The answer of a close: its refusal, else the length against the buffer's.
-abbrev pub ended : Option Refusal → ℕ → ℕ → Answer ℕ
-ended none n room = fitted (leb n room) n
-ended (some r) n room = refused r
+abbrev pub closeAnswer : Option Refusal → ℕ → ℕ → Answer ℕ
+closeAnswer none n room = fitted (leb n room) n
+closeAnswer (some r) n room = refused r
 
 unfoldable pub wholeMessage : Writing → ℕ → Answer ℕ
-wholeMessage w room = ended (closedMessage w .stop) (w .at + 1) room
+wholeMessage w room = closeAnswer (closedMessage w .stop) (w .at + 1) room
 
 unfoldable pub wholeFields : Writing → ℕ → Answer ℕ
-wholeFields w room = ended (closedFields w .stop) (w .at) room
+wholeFields w room = closeAnswer (closedFields w .stop) (w .at) room

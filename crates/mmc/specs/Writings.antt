@@ -33,7 +33,7 @@ opened e out = record { writing = begun e; out = overlay out 0 (e .bytes) }
 abbrev pub afterItem : (kind : Kind) → State → Given kind → State
 afterItem kind s g =
     record {
-      writing = W.given (s .writing) (emission kind g);
+      writing = W.writingAfter (s .writing) (emission kind g);
       out = overlay (s .out) (s .writing .at) (admitted (s .writing) (emission kind g) .bytes);
     }
 

@@ -9,7 +9,7 @@ use universal::SysexError;
 ghost use mathlib.Core.Path.{_≡_};
 ghost use Prim.Native.Nat.{_<_, _≤_};
 ghost use lib.ListN.{length};
-ghost use Rattle.mmc.specs.Command.{readCommand, readLocate, readMove, located, nextCommand, nextCommandOf};
+ghost use Rattle.mmc.specs.Command.{readCommand, readLocate, readMove, commandOfCase, nextCommand, nextCommandOf};
 
 // The names of the transport tier's commands (p. 14).
 pub const STOP: u8 = 0x01;
@@ -61,7 +61,7 @@ pub enum MmcCommand {
 
 // The command of a name and its data, which lie at these parts of the string.
 fn read(name: &[u8], data: &[u8], name_at: Part, data_at: Part) -> MmcCommand
-    ensures { λ r. ⌜ r ≡ located (readCommand (now (name .entry)) (now («data» .entry))) «name_at» «data_at» ⌝ }
+    ensures { λ r. ⌜ r ≡ commandOfCase (readCommand (now (name .entry)) (now («data» .entry))) «name_at» «data_at» ⌝ }
 {
     if name.len() != 1 {
         return MmcCommand::Other {
@@ -92,7 +92,7 @@ fn read(name: &[u8], data: &[u8], name_at: Part, data_at: Part) -> MmcCommand
 
 // Locate, by its sub-command: data past what it defines is passed over (p. 5).
 fn read_locate(data: &[u8], name_at: Part, data_at: Part) -> MmcCommand
-    ensures { λ r. ⌜ r ≡ located (readLocate (now («data» .entry))) «name_at» «data_at» ⌝ }
+    ensures { λ r. ⌜ r ≡ commandOfCase (readLocate (now («data» .entry))) «name_at» «data_at» ⌝ }
 {
     if data.len() < 2 {
         return MmcCommand::Other {
@@ -128,7 +128,7 @@ fn read_locate(data: &[u8], name_at: Part, data_at: Part) -> MmcCommand
 
 // Move, where both names are given.
 fn read_move(data: &[u8], name_at: Part, data_at: Part) -> MmcCommand
-    ensures { λ r. ⌜ r ≡ located (readMove (now («data» .entry))) «name_at» «data_at» ⌝ }
+    ensures { λ r. ⌜ r ≡ commandOfCase (readMove (now («data» .entry))) «name_at» «data_at» ⌝ }
 {
     if data.len() < 2 {
         return MmcCommand::Other {

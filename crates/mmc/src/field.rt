@@ -8,7 +8,7 @@ use codes::ShortTimeCode;
 use codes::StandardTimeCode;
 use universal::SysexError;
 ghost use mathlib.Core.Path.{_≡_};
-ghost use Rattle.mmc.specs.Field.{readField, placed, nextField, nextFieldOf};
+ghost use Rattle.mmc.specs.Field.{readField, fieldOfCase, nextField, nextFieldOf};
 
 // One information field.
 pub enum InfoField {
@@ -22,7 +22,7 @@ pub enum InfoField {
 
 // The field of a name and its data, which lie at these parts of the string.
 fn read(name: &[u8], data: &[u8], name_at: Part, data_at: Part) -> InfoField
-    ensures { λ r. ⌜ r ≡ placed (readField (now (name .entry)) (now («data» .entry))) «name_at» «data_at» ⌝ }
+    ensures { λ r. ⌜ r ≡ fieldOfCase (readField (now (name .entry)) (now («data» .entry))) «name_at» «data_at» ⌝ }
 {
     if name.len() != 1 {
         return InfoField::Other {

@@ -29,12 +29,12 @@ ghost use mathlib.Core.Path.{_≡_};
 ghost use Prim.Native.Nat.{_≤_};
 ghost use Rattle.universal.specs.Overlay.{overlay};
 ghost use Rattle.mmc.specs.Length.{within};
-ghost use Rattle.mmc.specs.Named.{putOf, summed};
+ghost use Rattle.mmc.specs.Named.{putOf, extentOf};
 ghost use Rattle.mmc.specs.Item.{checkedItem, standardItem, shortItem, otherItem, writeItem, locateFieldItem, locateTargetItem, moveItem, commandItem, formFits, codeFits, timeCodeItem, shortCodeItem, fieldItem};
 
 // Bytes that passed a check, or its refusal.
 fn put_checked(out: &mut [u8], at: usize, checked: Checked, bytes: &[u8]) -> Put
-    ensures { λ r. ⌜ putOf r ≡ summed (checkedItem checked (now (bytes .entry))) ⌝ }
+    ensures { λ r. ⌜ putOf r ≡ extentOf (checkedItem checked (now (bytes .entry))) ⌝ }
     ensures { λ _. ⌜ now (out .exit) ≡ overlay (now (out .entry)) at (checkedItem checked (now (bytes .entry)) .bytes) ⌝ }
 {
     if let Checked::Refused(e) = checked {
@@ -52,7 +52,7 @@ fn put_checked(out: &mut [u8], at: usize, checked: Checked, bytes: &[u8]) -> Put
 
 // The five bytes of a time code.
 fn put_standard(out: &mut [u8], at: usize, code: StandardTimeCode) -> Put
-    ensures { λ r. ⌜ putOf r ≡ summed (standardItem code) ⌝ }
+    ensures { λ r. ⌜ putOf r ≡ extentOf (standardItem code) ⌝ }
     ensures { λ _. ⌜ now (out .exit) ≡ overlay (now (out .entry)) at (standardItem code .bytes) ⌝ }
 {
     let written = code.to_bytes();
@@ -63,7 +63,7 @@ fn put_standard(out: &mut [u8], at: usize, code: StandardTimeCode) -> Put
 
 // The two bytes of a short one.
 fn put_short(out: &mut [u8], at: usize, code: ShortTimeCode) -> Put
-    ensures { λ r. ⌜ putOf r ≡ summed (shortItem code) ⌝ }
+    ensures { λ r. ⌜ putOf r ≡ extentOf (shortItem code) ⌝ }
     ensures { λ _. ⌜ now (out .exit) ≡ overlay (now (out .entry)) at (shortItem code .bytes) ⌝ }
 {
     let written = code.to_bytes();
@@ -75,7 +75,7 @@ fn put_short(out: &mut [u8], at: usize, code: ShortTimeCode) -> Put
 // A name and data of the source.
 fn put_other(out: &mut [u8], at: usize, source: &[u8], name: Part, data: Part, kind: Kind) -> Put
     requires { ⌜ at ≤ 40000 ⌝ }
-    ensures { λ r. ⌜ putOf r ≡ summed (otherItem kind (now (source .entry)) name «data») ⌝ }
+    ensures { λ r. ⌜ putOf r ≡ extentOf (otherItem kind (now (source .entry)) name «data») ⌝ }
     ensures { λ _. ⌜ now (out .exit) ≡ overlay (now (out .entry)) at (otherItem kind (now (source .entry)) name «data» .bytes) ⌝ }
 {
     if !name.is_inside(source) {
@@ -96,7 +96,7 @@ fn put_other(out: &mut [u8], at: usize, source: &[u8], name: Part, data: Part, k
 // Write: its data is a part of the source.
 fn put_write(out: &mut [u8], at: usize, source: &[u8], data: Part) -> Put
     requires { ⌜ at ≤ 40000 ⌝ }
-    ensures { λ r. ⌜ putOf r ≡ summed (writeItem (now (source .entry)) «data») ⌝ }
+    ensures { λ r. ⌜ putOf r ≡ extentOf (writeItem (now (source .entry)) «data») ⌝ }
     ensures { λ _. ⌜ now (out .exit) ≡ overlay (now (out .entry)) at (writeItem (now (source .entry)) «data» .bytes) ⌝ }
 {
     if !data.is_inside(source) {
@@ -111,7 +111,7 @@ fn put_write(out: &mut [u8], at: usize, source: &[u8], data: Part) -> Put
 
 // Locate to a register, 08H to 0FH.
 fn put_locate_field(out: &mut [u8], at: usize, register: u8) -> Put
-    ensures { λ r. ⌜ putOf r ≡ summed (locateFieldItem register) ⌝ }
+    ensures { λ r. ⌜ putOf r ≡ extentOf (locateFieldItem register) ⌝ }
     ensures { λ _. ⌜ now (out .exit) ≡ overlay (now (out .entry)) at (locateFieldItem register .bytes) ⌝ }
 {
     if register < 0x08 {
@@ -137,7 +137,7 @@ fn put_locate_field(out: &mut [u8], at: usize, register: u8) -> Put
 // Locate to a time, in the form with subframes.
 fn put_locate_target(out: &mut [u8], at: usize, target: StandardTimeCode) -> Put
     requires { ⌜ at ≤ 40000 ⌝ }
-    ensures { λ r. ⌜ putOf r ≡ summed (locateTargetItem target) ⌝ }
+    ensures { λ r. ⌜ putOf r ≡ extentOf (locateTargetItem target) ⌝ }
     ensures { λ _. ⌜ now (out .exit) ≡ overlay (now (out .entry)) at (locateTargetItem target .bytes) ⌝ }
 {
     let final_byte = target.final_byte;
@@ -159,7 +159,7 @@ fn put_locate_target(out: &mut [u8], at: usize, target: StandardTimeCode) -> Put
 
 // Move between two fields, 01H to 1FH.
 fn put_move(out: &mut [u8], at: usize, destination: u8, source: u8) -> Put
-    ensures { λ r. ⌜ putOf r ≡ summed (moveItem destination source) ⌝ }
+    ensures { λ r. ⌜ putOf r ≡ extentOf (moveItem destination source) ⌝ }
     ensures { λ _. ⌜ now (out .exit) ≡ overlay (now (out .entry)) at (moveItem destination source .bytes) ⌝ }
 {
     if !is_time_field(destination) {
@@ -195,7 +195,7 @@ fn is_time_field(name: u8) -> bool
 // One command.
 pub(crate) fn put_command(out: &mut [u8], at: usize, source: &[u8], command: MmcCommand) -> Put
     requires { ⌜ at ≤ 40000 ⌝ }
-    ensures { λ r. ⌜ putOf r ≡ summed (commandItem (now (source .entry)) command) ⌝ }
+    ensures { λ r. ⌜ putOf r ≡ extentOf (commandItem (now (source .entry)) command) ⌝ }
     ensures { λ _. ⌜ now (out .exit) ≡ overlay (now (out .entry)) at (commandItem (now (source .entry)) command .bytes) ⌝ }
 {
     match command {
@@ -247,7 +247,7 @@ fn code_fits(field: u8, negative: bool, final_byte: FinalByte) -> bool
 // A time code field.
 fn put_time_code(out: &mut [u8], at: usize, field: u8, code: StandardTimeCode) -> Put
     requires { ⌜ at ≤ 40000 ⌝ }
-    ensures { λ r. ⌜ putOf r ≡ summed (timeCodeItem field code) ⌝ }
+    ensures { λ r. ⌜ putOf r ≡ extentOf (timeCodeItem field code) ⌝ }
     ensures { λ _. ⌜ now (out .exit) ≡ overlay (now (out .entry)) at (timeCodeItem field code .bytes) ⌝ }
 {
     let final_byte = code.final_byte;
@@ -269,7 +269,7 @@ fn put_time_code(out: &mut [u8], at: usize, field: u8, code: StandardTimeCode) -
 // The short form of one, by the name 20H higher.
 fn put_short_code(out: &mut [u8], at: usize, field: u8, code: ShortTimeCode) -> Put
     requires { ⌜ at ≤ 40000 ⌝ }
-    ensures { λ r. ⌜ putOf r ≡ summed (shortCodeItem field code) ⌝ }
+    ensures { λ r. ⌜ putOf r ≡ extentOf (shortCodeItem field code) ⌝ }
     ensures { λ _. ⌜ now (out .exit) ≡ overlay (now (out .entry)) at (shortCodeItem field code .bytes) ⌝ }
 {
     let final_byte = code.final_byte;
@@ -291,7 +291,7 @@ fn put_short_code(out: &mut [u8], at: usize, field: u8, code: ShortTimeCode) -> 
 // One field.
 pub(crate) fn put_field(out: &mut [u8], at: usize, source: &[u8], field: InfoField) -> Put
     requires { ⌜ at ≤ 40000 ⌝ }
-    ensures { λ r. ⌜ putOf r ≡ summed (fieldItem (now (source .entry)) field) ⌝ }
+    ensures { λ r. ⌜ putOf r ≡ extentOf (fieldItem (now (source .entry)) field) ⌝ }
     ensures { λ _. ⌜ now (out .exit) ≡ overlay (now (out .entry)) at (fieldItem (now (source .entry)) field .bytes) ⌝ }
 {
     match field {

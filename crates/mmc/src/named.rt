@@ -12,7 +12,7 @@ ghost use mathlib.Core.List.{_∷_, []};
 ghost use Prim.Native.Nat.{_≤_};
 ghost use Rattle.universal.specs.Overlay.{overlay};
 ghost use Rattle.universal.specs.Emission.{sent};
-ghost use Rattle.mmc.specs.Named.{nameFits, byRule, namedItem, putOf, summed};
+ghost use Rattle.mmc.specs.Named.{nameFits, byRule, namedItem, putOf, extentOf};
 
 // How many bytes went out, and the check that they passed or that ended them.
 pub struct Put {
@@ -46,7 +46,7 @@ fn name_fits(name: &[u8]) -> bool
 // Data of the length that the rule asks for, after its count byte where it has one.
 fn put_by_rule(out: &mut [u8], at: usize, rule: Length, data: &[u8]) -> Put
     requires { ⌜ at ≤ 40003 ⌝ }
-    ensures { λ r. ⌜ putOf r ≡ summed (byRule rule (now («data» .entry))) ⌝ }
+    ensures { λ r. ⌜ putOf r ≡ extentOf (byRule rule (now («data» .entry))) ⌝ }
     ensures { λ _. ⌜ now (out .exit) ≡ overlay (now (out .entry)) at (byRule rule (now («data» .entry)) .bytes) ⌝ }
 {
     match rule {
@@ -96,7 +96,7 @@ fn put_by_rule(out: &mut [u8], at: usize, rule: Length, data: &[u8]) -> Put
 // A name and its data.
 pub(crate) fn put_named(out: &mut [u8], at: usize, name: &[u8], data: &[u8], kind: Kind) -> Put
     requires { ⌜ at ≤ 40000 ⌝ }
-    ensures { λ r. ⌜ putOf r ≡ summed (namedItem kind (now (name .entry)) (now («data» .entry))) ⌝ }
+    ensures { λ r. ⌜ putOf r ≡ extentOf (namedItem kind (now (name .entry)) (now («data» .entry))) ⌝ }
     ensures { λ _. ⌜ now (out .exit) ≡ overlay (now (out .entry)) at (namedItem kind (now (name .entry)) (now («data» .entry)) .bytes) ⌝ }
 {
     if !name_fits(name) {
@@ -124,7 +124,7 @@ pub(crate) fn put_named(out: &mut [u8], at: usize, name: &[u8], data: &[u8], kin
 
 // One byte.
 pub(crate) fn put_byte(out: &mut [u8], at: usize, byte: u8) -> Put
-    ensures { λ r. ⌜ putOf r ≡ summed (sent (byte ∷ [])) ⌝ }
+    ensures { λ r. ⌜ putOf r ≡ extentOf (sent (byte ∷ [])) ⌝ }
     ensures { λ _. ⌜ now (out .exit) ≡ overlay (now (out .entry)) at (sent (byte ∷ []) .bytes) ⌝ }
 {
     put(out, at, byte);

@@ -20,7 +20,7 @@ ghost use Rattle.universal.specs.Message.{openedOf, writtenOf};
 ghost use Rattle.universal.specs.Overlay.{overlay};
 ghost use Rattle.mmc.specs.Item.{commandItem, fieldItem};
 ghost use Rattle.mmc.specs.Named.{stopOf, putOf};
-ghost use Rattle.mmc.specs.Write.{writingOf, opensAt, moved, sound, ready, openedCommands, openedResponses, openedFields, begun, admitted, given, closedMessage, closedFields, wholeMessage, wholeFields};
+ghost use Rattle.mmc.specs.Write.{writingOf, opensAt, writingPast, orFailed, ready, openedCommands, openedResponses, openedFields, begun, admitted, writingAfter, closedMessage, closedFields, wholeMessage, wholeFields};
 
 // Sub-ID 1 of a command message.
 const COMMAND: u8 = 0x06;
@@ -110,8 +110,8 @@ pub fn open_fields() -> Writer
 
 impl Writer {
     // The check of a writer before its next call: its own refusal, or 10 for a record that no calls leave.
-    fn sound(self) -> Checked
-        ensures { λ r. ⌜ stopOf r ≡ sound (writingOf self) .stop ⌝ }
+    fn or_failed(self) -> Checked
+        ensures { λ r. ⌜ stopOf r ≡ orFailed (writingOf self) .stop ⌝ }
     {
         if self.items > MOST_ITEMS {
             return Checked::Refused(SysexError::ItemLimit);
@@ -132,7 +132,7 @@ impl Writer {
                 return self.checked;
             }
         }
-        let checked = self.sound();
+        let checked = self.or_failed();
         if let Checked::Refused(e) = checked {
             return Checked::Refused(e);
         }
@@ -144,7 +144,7 @@ impl Writer {
 
     // The writer that repeats a refusal.
     fn failed(self, error: SysexError) -> Wrote
-        ensures { λ r. ⌜ (writingOf (r .writer) ≡ moved (writingOf self) (record { len = 0; stop = some (refusalOf error) })) × (stopOf (r .checked) ≡ some (refusalOf error)) ⌝ }
+        ensures { λ r. ⌜ (writingOf (r .writer) ≡ writingPast (writingOf self) (record { len = 0; stop = some (refusalOf error) })) × (stopOf (r .checked) ≡ some (refusalOf error)) ⌝ }
     {
         let writer = Writer {
             at: self.at,
@@ -160,7 +160,7 @@ impl Writer {
     // The writer after an item that was put.
     fn after(self, put: Put) -> Wrote
         requires { ⌜ (self .at ≤ 40000) × ((self .items < 256) × (put .len ≤ 131)) ⌝ }
-        ensures { λ r. ⌜ (writingOf (r .writer) ≡ moved (writingOf self) (putOf put)) × (stopOf (r .checked) ≡ stopOf (put .checked)) ⌝ }
+        ensures { λ r. ⌜ (writingOf (r .writer) ≡ writingPast (writingOf self) (putOf put)) × (stopOf (r .checked) ≡ stopOf (put .checked)) ⌝ }
     {
         let checked = put.checked;
         let at = self.at + put.len;
@@ -186,7 +186,7 @@ impl Writer {
 
     // Writes one command. Its parts lie in the lent source.
     pub fn put_command(self, out: &mut [u8], source: &[u8], command: MmcCommand) -> Wrote
-        ensures { λ r. ⌜ (writingOf (r .writer) ≡ given (writingOf self) (commandItem (now (source .entry)) command)) × (stopOf (r .checked) ≡ admitted (writingOf self) (commandItem (now (source .entry)) command) .stop) ⌝ }
+        ensures { λ r. ⌜ (writingOf (r .writer) ≡ writingAfter (writingOf self) (commandItem (now (source .entry)) command)) × (stopOf (r .checked) ≡ admitted (writingOf self) (commandItem (now (source .entry)) command) .stop) ⌝ }
         ensures { λ _. ⌜ now (out .exit) ≡ overlay (now (out .entry)) (self .at) (admitted (writingOf self) (commandItem (now (source .entry)) command) .bytes) ⌝ }
     {
         let ready = self.ready();
@@ -200,7 +200,7 @@ impl Writer {
 
     // Writes one field, into a response or a string of fields.
     pub fn put_field(self, out: &mut [u8], source: &[u8], field: InfoField) -> Wrote
-        ensures { λ r. ⌜ (writingOf (r .writer) ≡ given (writingOf self) (fieldItem (now (source .entry)) field)) × (stopOf (r .checked) ≡ admitted (writingOf self) (fieldItem (now (source .entry)) field) .stop) ⌝ }
+        ensures { λ r. ⌜ (writingOf (r .writer) ≡ writingAfter (writingOf self) (fieldItem (now (source .entry)) field)) × (stopOf (r .checked) ≡ admitted (writingOf self) (fieldItem (now (source .entry)) field) .stop) ⌝ }
         ensures { λ _. ⌜ now (out .exit) ≡ overlay (now (out .entry)) (self .at) (admitted (writingOf self) (fieldItem (now (source .entry)) field) .bytes) ⌝ }
     {
         let ready = self.ready();
@@ -217,7 +217,7 @@ impl Writer {
         ensures { λ r. ⌜ writtenOf r ≡ wholeMessage (writingOf self) (length (now (out .entry))) ⌝ }
         ensures { λ _. ⌜ now (out .exit) ≡ overlay (now (out .entry)) (self .at) (closedMessage (writingOf self) .bytes) ⌝ }
     {
-        let checked = self.sound();
+        let checked = self.or_failed();
         if let Checked::Refused(e) = checked {
             return Written::Refused(e);
         }
@@ -235,7 +235,7 @@ impl Writer {
     pub fn close_fields(self, out: &[u8]) -> Written
         ensures { λ r. ⌜ writtenOf r ≡ wholeFields (writingOf self) (length (now (out .entry))) ⌝ }
     {
-        let checked = self.sound();
+        let checked = self.or_failed();
         if let Checked::Refused(e) = checked {
             return Written::Refused(e);
         }

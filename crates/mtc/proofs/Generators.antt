@@ -47,9 +47,9 @@ pub answers : (g : MtcGenerator) (s : Sent) {m : MaybePiece} {t : MtcTime} {p : 
 answers g s r k et ep q = let e = sends g r k et ep in (q .0 ∙ e .0, q .1 ∙ e .1)
 
 -- A stopped one refuses and stays as it is.
-pub stops : (g : MtcGenerator) → g .running ≡ false → (refused (refusal 8) ≡ nextByte g) × (g ≡ afterNextByte g)
+pub stopped-refuses : (g : MtcGenerator) → g .running ≡ false → (refused (refusal 8) ≡ nextByte g) × (g ≡ afterNextByte g)
 unfolding nextByte afterNextByte
-stops g r = (rw r, rw r)
+stopped-refuses g r = (rw r, rw r)
 
 -- ---- records that no calls leave
 

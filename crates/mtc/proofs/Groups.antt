@@ -47,19 +47,19 @@ data-low gs flags h f = all-low-append gs (flags ∷ []) ∙ rw (groups, all-low
 -- ---- eight of them
 
 -- The k values from a place on.
-from : List ℕ → ℕ → ℕ → List ℕ
-from gs i zero = []
-from gs i (suc k) = getD gs i 0 ∷ from gs (suc i) k
+valuesFrom : List ℕ → ℕ → ℕ → List ℕ
+valuesFrom gs i zero = []
+valuesFrom gs i (suc k) = getD gs i 0 ∷ valuesFrom gs (suc i) k
 
-all-from : (gs : List ℕ) (i k : ℕ) → length gs ≡ i + k → drop i gs ≡ from gs i k
-unfolding from
+all-from : (gs : List ℕ) (i k : ℕ) → length gs ≡ i + k → drop i gs ≡ valuesFrom gs i k
+unfolding valuesFrom
 all-from gs i zero n =
     let end : length gs ≤ i = omega arith in
     drop-of-length-le gs end
 all-from gs i (suc k) n =
     drop-cons gs i 0 (omega arith) ∙ ap (λ (l : List ℕ). getD gs i 0 ∷ l) (all-from gs (suc i) k (omega arith))
 
-pub eight : (gs : List ℕ) → length gs ≡ 8
+pub eight-spelled : (gs : List ℕ) → length gs ≡ 8
     → gs ≡ getD gs 0 0 ∷ getD gs 1 0 ∷ getD gs 2 0 ∷ getD gs 3 0 ∷ getD gs 4 0 ∷ getD gs 5 0 ∷ getD gs 6 0 ∷ getD gs 7 0 ∷ []
-unfolding from
-eight gs n = all-from gs 0 8 n
+unfolding valuesFrom
+eight-spelled gs n = all-from gs 0 8 n

@@ -14,13 +14,13 @@ use Rattle.mtc.specs.declared.reader.MaybeTime.{MaybeTime}
 use Rattle.mtc.specs.declared.reader.MtcReader.{MtcReader}
 use Rattle.mtc.specs.Generator.{final, move, started, GeneratorCall, afterGeneratorCalls}
 use Rattle.mtc.specs.QuarterFrame.{pieceOf, quarterFrame, fromByte, toByte, masked, pieces}
-use Rattle.mtc.specs.Reader.{fresh, pieceFits, isSound, rawOf, reported, afterByte, eventOf, afterFullMessage}
-use Rattle.mtc.specs.Ready.{Ready, NotAgainst, eightPieces, labelIn, Reads}
+use Rattle.mtc.specs.Reader.{fresh, pieceFits, isSound, rawOf, sequenceOfLabel, afterByte, eventOf, afterFullMessage}
+use Rattle.mtc.specs.Ready.{Ready, NotAgainst, eightPieces, labelOfBytes, ReadsLabel}
 use Rattle.mtc.specs.Rp004.{dataByte, InWidths, dataBytes, sequence, nextLabel, sequencesFrom, isBoundary, currentTime}
-use Rattle.mtc.specs.Stream.{Call, afterCall, afterCalls, events, sent, runFrom, StreamLaw, SentLaw}
+use Rattle.mtc.specs.Stream.{Call, afterCall, afterCalls, events, bytesSent, runFrom, StreamLaw, SentLaw}
 use Rattle.mtc.proofs.Generators
 -- A generator's next byte, running and stopped.
-pub use Rattle.mtc.proofs.Generators.{sends, stops}
+pub use Rattle.mtc.proofs.Generators.{sends, stopped-refuses}
 -- A sound reader's bounds, what keeps it sound, what it does with a piece by how that stands to those before it, and where the labels of
 -- a report stay.
 pub use Rattle.mtc.proofs.InOrder.{sound-by, Bounds, bounds, piece-stands, sequence-of, report-labels}
@@ -33,7 +33,7 @@ use Rattle.mtc.proofs.QuarterFrames
 use Rattle.mtc.proofs.Sending
 use Rattle.mtc.proofs.Streams
 -- A valid label's numbers fit their widths.
-pub use Rattle.mtc.proofs.Widths.{valid-widths}
+pub use Rattle.mtc.proofs.Widths.{valid-in-widths}
 
 -- ---- quarter frames, by RP-004/008
 
@@ -67,7 +67,7 @@ moves-practice = QuarterFrames.moves-practice
 -- A generator located at a valid time and set running sends RP-004/008's sequences from that time on, any number of them,
 -- whatever its record was.
 pub sends-practice : (g : MtcGenerator) (t : MtcTime) (d : Direction) (n : ℕ) → T (isValid t)
-    → sent (n * 8) (runFrom g t d) ≡ sequencesFrom d t n
+    → bytesSent (n * 8) (runFrom g t d) ≡ sequencesFrom d t n
 sends-practice = QuarterFrames.sends-practice
 
 -- The event of a data byte has its piece.
@@ -79,21 +79,21 @@ pub event-boundary : (r : MtcReader) (b : ℕ) → eventOf r b .boundary ≡ isB
 event-boundary = QuarterFrames.event-boundary
 
 -- Forward the current time that a report of a valid label has is RP-004/008's.
-pub current-forward : (t : MtcTime) (p : MaybeTime) → T (isValid t) → reported t Forward p .current ≡ currentTime t
+pub current-forward : (t : MtcTime) (p : MaybeTime) → T (isValid t) → sequenceOfLabel t Forward p .current ≡ currentTime t
 current-forward = QuarterFrames.current-forward
 
 -- In reverse, where the page does not say, it is the label before.
-pub current-reverse : (t : MtcTime) (p : MaybeTime) → T (isValid t) → reported t Reverse p .current ≡ labelBefore t
+pub current-reverse : (t : MtcTime) (p : MaybeTime) → T (isValid t) → sequenceOfLabel t Reverse p .current ≡ labelBefore t
 current-reverse = QuarterFrames.current-reverse
 
 -- A reader that is ready for a sequence reads it, of every label whose numbers fit their widths, and is ready for the next one.
-pub sequence-read : (r : MtcReader) (d : Direction) (t : MtcTime) → Ready d r → InWidths t → Reads d (sequence d t) t r
+pub sequence-read : (r : MtcReader) (d : Direction) (t : MtcTime) → Ready d r → InWidths t → ReadsLabel d (sequence d t) t r
 sequence-read = QuarterFrames.sequence-read
 
 -- More is taken than the page has: it reads eight pieces in the direction's order, whatever their nibbles are, as the label that
 -- these make.
 pub any-nibbles-read : (r : MtcReader) (d : Direction) (bs : List ℕ) → Ready d r → map pieceOf bs ≡ eightPieces d
-    → Reads d bs (labelIn d bs) r
+    → ReadsLabel d bs (labelOfBytes d bs) r
 any-nibbles-read = QuarterFrames.any-nibbles-read
 
 -- In that label the reserved bits of pieces 1, 3, 5 and 7 do not count: 1FH for piece 1 is taken as 11H.

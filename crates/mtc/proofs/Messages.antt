@@ -10,7 +10,7 @@ use native.Mathlib.Omega.{arith}
 use lib.Dec.{T, leb, lit≤}
 use lib.ListN.{length, getD}
 use borrow.Author.Tests.{le-leb}
-use Rattle.universal.specs.Emission.{Emission, sent, stopped, answer}
+use Rattle.universal.specs.Emission.{Emission, sent, refusing, answer}
 use Rattle.universal.specs.Message.{allLow, message}
 use Rattle.universal.specs.Refusals.{tooSmall, gives, refused}
 use Rattle.universal.proofs.Laws.{answer-fits, answer-short, all-low-cons, all-low-none, opening-with-sub-id2, message-whole}
@@ -18,7 +18,7 @@ use Rattle.labels.specs.St12.{isValid}
 use Rattle.labels.specs.Time.{typeOf, rawTime, hoursByte}
 use Rattle.mtc.specs.Rp004.{typeCode, InWidths, hoursCount}
 use Rattle.mtc.specs.Rp004Messages.{Groups, fullMessageBytes, userBitsBytes, fourBytes}
-use Rattle.mtc.specs.Kind.{timeCode, isTimeCode, partsOf, dataOf, ReadsOnly}
+use Rattle.mtc.specs.Kind.{timeCode, isTimeCode, messageHeader, messageData, ReadsOnly}
 use Rattle.mtc.specs.FullMessage.{fullMessage, receivedFull, fullMessageFrom, fullData, fullMessageWritten}
 use Rattle.mtc.specs.UserBits.{userBits, receivedBits, userBitsFrom, allNibbles, userBitsWritten, groupBytes, groupsOf}
 use Rattle.mtc.specs.declared.full_message.FullMessage.{FullMessage}
@@ -26,15 +26,12 @@ use Rattle.labels.specs.declared.time.MtcTime.{MtcTime}
 use Rattle.labels.specs.declared.time.TimeCodeType.{TimeCodeType}
 use Rattle.labels.specs.declared.time.TimeCodeType.the-variants.{Fps24, Fps25, Fps30Drop, Fps30}
 use Rattle.mtc.specs.declared.user_bits.UserBits.{UserBits}
-use Rattle.mtc.proofs.Groups.{eight, nibble-below, data-low}
+use Rattle.universal.proofs.Tests.{holds-true}
+use Rattle.mtc.proofs.Groups.{eight-spelled, nibble-below, data-low}
 use Rattle.mtc.proofs.Nibbles.{bits-code}
 use Rattle.mtc.proofs.Reading.{reads-only}
-use Rattle.mtc.proofs.Widths.{valid-widths}
+use Rattle.mtc.proofs.Widths.{valid-in-widths}
 use Rattle.mtc.proofs.Writing.{device-stopped, value-stopped, checks-passed}
-
-holds : (b : Bool) → T b → b ≡ true
-holds true h = refl
-holds false h = absurd h
 
 -- ---- a message of a kind, byte by byte
 
@@ -80,16 +77,16 @@ module _ (t : MtcTime) (w : InWidths t) where
 
 -- RP-004/008's full message of any device and any label in its widths, valid or not, is read as these.
 pub full-message-read : (device : ℕ) (t : MtcTime) → InWidths t
-    → fullMessageFrom (partsOf (fullMessageBytes device t)) (dataOf (fullMessageBytes device t)) ≡ gives (some (fullMessage device t))
+    → fullMessageFrom (messageHeader (fullMessageBytes device t)) (messageData (fullMessageBytes device t)) ≡ gives (some (fullMessage device t))
 unfolding fullMessageFrom isTimeCode fullMessageBytes
 full-message-read device t w = ap (λ (u : MtcTime). gives (some (fullMessage device u))) (raw-back t w)
 
 -- A device above 127 is refused with 5, whatever the label is; a label that is not valid with 3. Nothing goes out.
-pub full-message-device : (m : FullMessage) → 127 < m .«device_id» → fullMessageWritten m ≡ stopped 5
+pub full-message-device : (m : FullMessage) → 127 < m .«device_id» → fullMessageWritten m ≡ refusing 5
 unfolding fullMessageWritten
 full-message-device m h = device-stopped (m .«device_id») (isValid (m .time)) 1 (fullData (m .time)) h
 
-pub full-message-invalid : (m : FullMessage) → m .«device_id» ≤ 127 → isValid (m .time) ≡ false → fullMessageWritten m ≡ stopped 3
+pub full-message-invalid : (m : FullMessage) → m .«device_id» ≤ 127 → isValid (m .time) ≡ false → fullMessageWritten m ≡ refusing 3
 unfolding fullMessageWritten
 full-message-invalid m h v = value-stopped (m .«device_id») (isValid (m .time)) 1 (fullData (m .time)) h v
 
@@ -98,8 +95,8 @@ module _ (m : FullMessage) (low : m .«device_id» ≤ 127) (valid : T (isValid 
   pub full-message-bytes : fullMessageWritten m ≡ sent (fullMessageBytes (m .«device_id») (m .time))
   unfolding fullMessageWritten fullMessageBytes
   full-message-bytes =
-      let w : InWidths (m .time) = valid-widths (m .time) valid in
-      checks-passed (m .«device_id») (isValid (m .time)) 1 (fullData (m .time)) low (holds (isValid (m .time)) valid)
+      let w : InWidths (m .time) = valid-in-widths (m .time) valid in
+      checks-passed (m .«device_id») (isValid (m .time)) 1 (fullData (m .time)) low (holds-true (isValid (m .time)) valid)
       ∙ time-code-bytes (m .«device_id») 1 (fullData (m .time)) low (lit≤ tt) (full-data-low (m .time) w)
       ∙ rw (hours-with-type (m .time) w)
 
@@ -113,12 +110,12 @@ module _ (m : FullMessage) (low : m .«device_id» ≤ 127) (valid : T (isValid 
   full-message-short room h = rw full-message-bytes (answer-short (sent (fullMessageBytes (m .«device_id») (m .time))) room refl h)
 
   -- Reading what was written gives it back.
-  pub full-message-back : fullMessageFrom (partsOf (fullMessageWritten m .bytes)) (dataOf (fullMessageWritten m .bytes)) ≡ gives (some m)
-  full-message-back = rw full-message-bytes (full-message-read (m .«device_id») (m .time) (valid-widths (m .time) valid))
+  pub full-message-back : fullMessageFrom (messageHeader (fullMessageWritten m .bytes)) (messageData (fullMessageWritten m .bytes)) ≡ gives (some m)
+  full-message-back = rw full-message-bytes (full-message-read (m .«device_id») (m .time) (valid-in-widths (m .time) valid))
 
 -- The split parts of the practice's message: Real Time, 01, 01, and four data bytes.
 pub full-message-layout : (device : ℕ) (t : MtcTime)
-    → (partsOf (fullMessageBytes device t) ≡ timeCode device 1) × (length (dataOf (fullMessageBytes device t)) ≡ 4)
+    → (messageHeader (fullMessageBytes device t) ≡ timeCode device 1) × (length (messageData (fullMessageBytes device t)) ≡ 4)
 unfolding fullMessageBytes
 full-message-layout device t = (refl, refl)
 
@@ -134,7 +131,7 @@ nibble-same gs i h = mod-eq-of-lt (nibble-below gs i h)
 
 module _ (b : UserBits) (nibbles : T (allNibbles (b .groups))) where
   same : (i : ℕ) → getD (b .groups) i 0 % 16 ≡ getD (b .groups) i 0
-  same i = nibble-same (b .groups) i (holds (allNibbles (b .groups)) nibbles)
+  same i = nibble-same (b .groups) i (holds-true (allNibbles (b .groups)) nibbles)
 
   -- Groups of 4 bits make the practice's four bytes.
   pub group-bytes : groupBytes (b .groups) ≡ fourBytes (groupsOf b)
@@ -142,26 +139,26 @@ module _ (b : UserBits) (nibbles : T (allNibbles (b .groups))) where
   group-bytes = rw (same 0, same 1, same 2, same 3, same 4, same 5, same 6, same 7)
 
   module _ (size : length (b .groups) ≡ 8) (flags : b .flags < 4) where
-    bits-back : userBitsFrom (partsOf (userBitsBytes (b .«device_id») (groupsOf b))) (dataOf (userBitsBytes (b .«device_id») (groupsOf b)))
+    bits-back : userBitsFrom (messageHeader (userBitsBytes (b .«device_id») (groupsOf b))) (messageData (userBitsBytes (b .«device_id») (groupsOf b)))
         ≡ gives (some b)
     unfolding userBitsFrom isTimeCode userBitsBytes
     bits-back =
         let same-flags : (b .flags / 2 * 2 + b .flags % 2) % 4 ≡ b .flags = omega arith in
         rw (same 0, same 1, same 2, same 3, same 4, same 5, same 6, same 7, same-flags)
-        (ap (λ (gs : List ℕ). gives (some (userBits (b .«device_id») gs (b .flags)))) (sym (eight (b .groups) size)))
+        (ap (λ (gs : List ℕ). gives (some (userBits (b .«device_id») gs (b .flags)))) (sym (eight-spelled (b .groups) size)))
 
     module _ (low : b .«device_id» ≤ 127) where
       -- Eight groups below 16, flags below 4 and a device of at most 127 go out as RP-004/008's user bits.
       pub user-bits-bytes : userBitsWritten b ≡ sent (userBitsBytes (b .«device_id») (groupsOf b))
       unfolding userBitsWritten userBitsBytes
       user-bits-bytes =
-          let groups : allNibbles (b .groups) ≡ true = holds (allNibbles (b .groups)) nibbles in
+          let groups : allNibbles (b .groups) ≡ true = holds-true (allNibbles (b .groups)) nibbles in
           let two : b .flags ≡ b .flags / 2 * 2 + b .flags % 2 = omega arith in
           let inRange : allNibbles (b .groups) && leb (b .flags) 3 ≡ true = rw (groups, le-leb (b .flags) 3 (omega arith)) in
           checks-passed (b .«device_id») _ 2 (b .groups ++ b .flags ∷ []) low inRange
           ∙ time-code-bytes (b .«device_id») 2 (b .groups ++ b .flags ∷ []) low (lit≤ tt) (data-low (b .groups) (b .flags) groups flags)
           ∙ ap₂ (λ (gs : List ℕ) (f : ℕ). sent ((0xF0 ∷ 0x7F ∷ b .«device_id» ∷ 0x01 ∷ 0x02 ∷ gs ++ f ∷ []) ++ 0xF7 ∷ []))
-          (eight (b .groups) size) two
+          (eight-spelled (b .groups) size) two
 
       -- A buffer of 15 bytes or more holds it; a shorter one is refused with 4 and 15.
       pub user-bits-fits : (room : ℕ) → 15 ≤ room → answer (userBitsWritten b) room ≡ gives 15
@@ -173,12 +170,12 @@ module _ (b : UserBits) (nibbles : T (allNibbles (b .groups))) where
       user-bits-short room h = rw user-bits-bytes (answer-short (sent (userBitsBytes (b .«device_id») (groupsOf b))) room refl h)
 
       -- Reading what was written gives it back.
-      pub user-bits-back : userBitsFrom (partsOf (userBitsWritten b .bytes)) (dataOf (userBitsWritten b .bytes)) ≡ gives (some b)
+      pub user-bits-back : userBitsFrom (messageHeader (userBitsWritten b .bytes)) (messageData (userBitsWritten b .bytes)) ≡ gives (some b)
       user-bits-back = rw user-bits-bytes bits-back
 
 -- The split parts of the practice's message: Real Time, 01, 02, and nine data bytes.
 pub user-bits-layout : (device : ℕ) (u : Groups)
-    → (partsOf (userBitsBytes device u) ≡ timeCode device 2) × (length (dataOf (userBitsBytes device u)) ≡ 9)
+    → (messageHeader (userBitsBytes device u) ≡ timeCode device 2) × (length (messageData (userBitsBytes device u)) ≡ 9)
 unfolding userBitsBytes
 user-bits-layout device u = (refl, refl)
 

@@ -9,6 +9,7 @@ use Rattle.mtc.specs.Generator.{first}
 use Rattle.mtc.specs.QuarterFrame.{pieceOf, valueOf, pieces}
 use Rattle.mtc.specs.Reader.{rawOf}
 use Rattle.mtc.specs.Stream.{inOrder}
+use Rattle.labels.proofs.Laws.{bits-small}
 use Rattle.labels.specs.Time.{bitsOf, typeOf}
 use Rattle.labels.specs.declared.time.MtcTime.{MtcTime}
 use Rattle.labels.specs.declared.time.TimeCodeType.{TimeCodeType}
@@ -17,14 +18,7 @@ use Rattle.mtc.specs.declared.generator.Direction.{Direction}
 use Rattle.mtc.specs.declared.generator.Direction.the-variants.{Forward, Reverse}
 use Rattle.mtc.specs.Rp004.{typeCode, InWidths}
 
--- A rate has two bits.
-pub bits-small : (r : TimeCodeType) → bitsOf r ≤ 3
-bits-small Fps24 = lit≤ tt
-bits-small Fps25 = lit≤ tt
-bits-small Fps30Drop = lit≤ tt
-bits-small Fps30 = lit≤ tt
-
--- They are RP-004/008's time code type.
+-- The two bits of a rate are RP-004/008's time code type.
 pub bits-code : (r : TimeCodeType) → bitsOf r ≡ typeCode r
 bits-code Fps24 = refl
 bits-code Fps25 = refl
@@ -62,9 +56,9 @@ pub record Values : Type 0 where
   pub v7 : ℕ
 
 -- The values with their pieces, in a direction's order: the first one, and the other seven.
-abbrev pub opening : Direction → Values → ℕ
-opening Forward v = v .v0
-opening Reverse v = v .v7
+abbrev pub firstValue : Direction → Values → ℕ
+firstValue Forward v = v .v0
+firstValue Reverse v = v .v7
 
 abbrev pub seven : Direction → Values → List Nibble
 seven Forward v =
@@ -86,8 +80,8 @@ seven Reverse v =
     ∷ nibble 0 (v .v0)
     ∷ []
 
-abbrev pub numbered : Direction → Values → List Nibble
-numbered d v = nibble (first d) (opening d v) ∷ seven d v
+abbrev pub nibblesInOrder : Direction → Values → List Nibble
+nibblesInOrder d v = nibble (first d) (firstValue d v) ∷ seven d v
 
 -- The label that the values make.
 abbrev pub listed : Values → List ℕ
@@ -111,7 +105,7 @@ values t =
     }
 
 -- A label's data bytes hold its values.
-pub split-pieces : (t : MtcTime) (d : Direction) → map split (inOrder d (pieces t)) ≡ numbered d (values t)
+pub split-pieces : (t : MtcTime) (d : Direction) → map split (inOrder d (pieces t)) ≡ nibblesInOrder d (values t)
 unfolding pieces
 split-pieces t = go
   where
@@ -139,7 +133,7 @@ split-pieces t = go
     x7 : split (0x70 + bitsOf (t .rate) * 2 + t .hours / 16 % 2) ≡ nibble 7 (values t .v7)
     x7 = split-is _ 7 _ (omega arith) (lit< tt) (omega (arith, bits-small (t .rate)))
 
-    go : (d : Direction) → map split (inOrder d (pieces t)) ≡ numbered d (values t)
+    go : (d : Direction) → map split (inOrder d (pieces t)) ≡ nibblesInOrder d (values t)
     go Forward = λ i. x0 i ∷ x1 i ∷ x2 i ∷ x3 i ∷ x4 i ∷ x5 i ∷ x6 i ∷ x7 i ∷ []
     go Reverse = λ i. x7 i ∷ x6 i ∷ x5 i ∷ x4 i ∷ x3 i ∷ x2 i ∷ x1 i ∷ x0 i ∷ []
 

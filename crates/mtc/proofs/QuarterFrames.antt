@@ -12,11 +12,11 @@ use lib.IntN.{pos, negsuc}
 use lib.ListN.{length, getD}
 use Rattle.mtc.specs.Generator.{first, final, move, sentAt}
 use Rattle.mtc.specs.QuarterFrame.{pieceOf, valueOf, quarterFrame, fromByte, toByte, pieces, masked}
-use Rattle.mtc.specs.Reader.{fresh, Sound, taken, control, rawOf, sameTime, reported, afterByte, eventOf, afterFullMessage}
-use Rattle.mtc.specs.Ready.{Starts, Ready, NotAgainst, eightPieces, labelIn, afterBytes, Reads}
+use Rattle.mtc.specs.Reader.{fresh, Sound, orFresh, control, rawOf, sameTime, sequenceOfLabel, afterByte, eventOf, afterFullMessage}
+use Rattle.mtc.specs.Ready.{Starts, Ready, NotAgainst, eightPieces, labelOfBytes, afterBytes, ReadsLabel}
 use Rattle.mtc.specs.Rp004.{dataByte, typeCode, InWidths, dataBytes, sequence, nextLabel, sequencesFrom, isBoundary, currentTime}
 use Rattle.labels.specs.St12.{label, isValid, labelAfter, labelBefore}
-use Rattle.mtc.specs.Stream.{Call, byte, runFrom, sent, afterCalls, events, newest, silent, inOrder}
+use Rattle.mtc.specs.Stream.{Call, byte, runFrom, bytesSent, afterCalls, events, newest, silent, inOrder}
 use Rattle.labels.specs.Time.{addFrames, bitsOf, rateAt, typeOf}
 use Rattle.labels.specs.declared.time.MtcTime.{MtcTime}
 use Rattle.mtc.specs.declared.generator.Direction.{Direction}
@@ -27,14 +27,14 @@ use Rattle.mtc.specs.declared.reader.MaybeDirection.the-variants.{NoDire
 use Rattle.mtc.specs.declared.reader.MaybeSequence.the-variants.{Sequence}
 use Rattle.mtc.specs.declared.reader.MaybeTime.{MaybeTime}
 use Rattle.mtc.specs.declared.reader.MtcReader.{MtcReader}
-use Rattle.mtc.proofs.Nibbles.{bits-code, nibble, Values, numbered, assembled, values, split, split-pieces, type-of-bits, raw-values}
+use Rattle.mtc.proofs.Nibbles.{bits-code, nibble, Values, nibblesInOrder, assembled, values, split, split-pieces, type-of-bits, raw-values}
 use Rattle.labels.proofs.Laws.{moved-valid, moved-by-sum, moved-by-one, moved-back-one}
-use Rattle.mtc.proofs.Widths.{valid-widths}
+use Rattle.mtc.proofs.Widths.{valid-in-widths}
 use Rattle.mtc.proofs.Rounds.{run, leave, Eight, eight, eight-of, left, round, round-left}
-use Rattle.mtc.proofs.Sending.{later, sends-first, sends-next}
+use Rattle.mtc.proofs.Sending.{laterLabel, sends-first, sends-next}
 use Rattle.mtc.proofs.Sound.{as-is, last-is, full-sound}
 use Rattle.mtc.proofs.Starting.{starts-anew, starts-next, starts-after-last}
-use Rattle.mtc.proofs.Streams.{fresh-sound, fresh-past, past, reports, reports-run, bytes-sound, bytes-leave}
+use Rattle.mtc.proofs.Streams.{fresh-sound, fresh-past, past, reportsOf, reports-run, bytes-sound, bytes-leave}
 
 -- ---- a data byte
 
@@ -137,34 +137,34 @@ eight-more n = omega arith
 
 -- After a sequence, so many more.
 sends-on : (n : ℕ) (t : MtcTime) (d : Direction) → T (isValid t)
-    → sent (n * 8) (sentAt t d (final d)) ≡ sequencesFrom d (nextLabel d t) n
-unfolding sent sequencesFrom
+    → bytesSent (n * 8) (sentAt t d (final d)) ≡ sequencesFrom d (nextLabel d t) n
+unfolding bytesSent sequencesFrom
 sends-on zero t d h = refl
 sends-on (suc n) t d h =
-    let moves : later d t ≡ nextLabel d t = moves-practice t d h in
-    let valid : T (isValid (later d t)) = moved-valid t (move d) in
-    ap (λ (k : ℕ). sent k (sentAt t d (final d))) (eight-more n)
+    let moves : laterLabel d t ≡ nextLabel d t = moves-practice t d h in
+    let valid : T (isValid (laterLabel d t)) = moved-valid t (move d) in
+    ap (λ (k : ℕ). bytesSent k (sentAt t d (final d))) (eight-more n)
     ∙ sends-next t d (n * 8)
-    ∙ ap₂ _++_ (in-practice (later d t) d (valid-widths (later d t) valid)) (sends-on n (later d t) d valid)
+    ∙ ap₂ _++_ (in-practice (laterLabel d t) d (valid-in-widths (laterLabel d t) valid)) (sends-on n (laterLabel d t) d valid)
     ∙ ap (λ (u : MtcTime). sequence d u ++ sequencesFrom d (nextLabel d u) n) moves
 
 -- A generator located at a valid time and set running sends RP-004/008's sequences from that time on, as many as are asked for.
 pub sends-practice : (g : MtcGenerator) (t : MtcTime) (d : Direction) (n : ℕ) → T (isValid t)
-    → sent (n * 8) (runFrom g t d) ≡ sequencesFrom d t n
-unfolding sent sequencesFrom
+    → bytesSent (n * 8) (runFrom g t d) ≡ sequencesFrom d t n
+unfolding bytesSent sequencesFrom
 sends-practice g t d zero h = refl
 sends-practice g t d (suc n) h =
-    ap (λ (k : ℕ). sent k (runFrom g t d)) (eight-more n)
+    ap (λ (k : ℕ). bytesSent k (runFrom g t d)) (eight-more n)
     ∙ sends-first g t d (n * 8)
-    ∙ ap₂ _++_ (in-practice t d (valid-widths t h)) (sends-on n t d h)
+    ∙ ap₂ _++_ (in-practice t d (valid-in-widths t h)) (sends-on n t d h)
 
 -- ---- what a reader says of it
 
 -- Forward the reported current time is RP-004/008's; in reverse it is the label before.
-pub current-forward : (t : MtcTime) (p : MaybeTime) → T (isValid t) → reported t Forward p .current ≡ currentTime t
+pub current-forward : (t : MtcTime) (p : MaybeTime) → T (isValid t) → sequenceOfLabel t Forward p .current ≡ currentTime t
 current-forward t p h = moves-practice t Forward h
 
-pub current-reverse : (t : MtcTime) (p : MaybeTime) → T (isValid t) → reported t Reverse p .current ≡ labelBefore t
+pub current-reverse : (t : MtcTime) (p : MaybeTime) → T (isValid t) → sequenceOfLabel t Reverse p .current ≡ labelBefore t
 current-reverse t p h = moved-back-one t h
 
 -- The event of a data byte has its piece.
@@ -178,18 +178,18 @@ event-boundary r b = refl
 -- ---- eight bytes, read
 
 -- Bytes of eight pieces in a direction's order are read as the label of their values.
-module _ (r : MtcReader) (d : Direction) (bs : List ℕ) (v : Values) (h : Ready d r) (e : map split bs ≡ numbered d v) where
-  reports-are : reports (events r bs) ≡ silent 7 ++ (Sequence (reported (assembled v) d (r .previous)) ∷ [])
+module _ (r : MtcReader) (d : Direction) (bs : List ℕ) (v : Values) (h : Ready d r) (e : map split bs ≡ nibblesInOrder d v) where
+  reports-are : reportsOf (events r bs) ≡ silent 7 ++ (Sequence (sequenceOfLabel (assembled v) d (r .previous)) ∷ [])
   unfolding run
   reports-are =
       reports-run bs r (h .sound)
-      ∙ ap (run r) (e ∙ sym (append-nil (numbered d v)))
+      ∙ ap (run r) (e ∙ sym (append-nil (nibblesInOrder d v)))
       ∙ round v r d (h .sound .eight) (h .starts) []
 
   leaves : afterBytes r bs ≡ left v d
   leaves = bytes-leave bs r (h .sound) ∙ ap (leave r) e ∙ round-left v r d (h .sound .eight) (h .starts)
 
-  values-read : Reads d bs (assembled v) r
+  values-read : ReadsLabel d bs (assembled v) r
   values-read =
       record {
         reports = reports-are;
@@ -202,10 +202,10 @@ module _ (r : MtcReader) (d : Direction) (bs : List ℕ) (v : Values) (h : Ready
       }
 
 -- A reader that is ready for a sequence reads it.
-pub sequence-read : (r : MtcReader) (d : Direction) (t : MtcTime) → Ready d r → InWidths t → Reads d (sequence d t) t r
+pub sequence-read : (r : MtcReader) (d : Direction) (t : MtcTime) → Ready d r → InWidths t → ReadsLabel d (sequence d t) t r
 sequence-read r d t h w =
-    let e : map split (sequence d t) ≡ numbered d (values t) = ap (map split) (sym (in-practice t d w)) ∙ split-pieces t d in
-    subst (λ (u : MtcTime). Reads d (sequence d t) u r) (raw-values t w) (values-read r d (sequence d t) (values t) h e)
+    let e : map split (sequence d t) ≡ nibblesInOrder d (values t) = ap (map split) (sym (in-practice t d w)) ∙ split-pieces t d in
+    subst (λ (u : MtcTime). ReadsLabel d (sequence d t) u r) (raw-values t w) (values-read r d (sequence d t) (values t) h e)
 
 length-map : {A B : Type 0} (f : A → B) (l : List A) → length (map f l) ≡ length l
 length-map f [] = refl
@@ -241,7 +241,7 @@ module _ (a b c d e f g h : ℕ) where
         v7 = valueOf a;
       }
 
-  split-eight : (w : Direction) → map pieceOf eightBytes ≡ eightPieces w → map split eightBytes ≡ numbered w (valuesIn w)
+  split-eight : (w : Direction) → map pieceOf eightBytes ≡ eightPieces w → map split eightBytes ≡ nibblesInOrder w (valuesIn w)
   split-eight w k = go w (at 0) (at 1) (at 2) (at 3) (at 4) (at 5) (at 6) (at 7)
     where
       at : (i : ℕ) → getD (map pieceOf eightBytes) i 0 ≡ getD (eightPieces w) i 0
@@ -250,7 +250,7 @@ module _ (a b c d e f g h : ℕ) where
       go : (w : Direction) → pieceOf a ≡ getD (eightPieces w) 0 0 → pieceOf b ≡ getD (eightPieces w) 1 0
           → pieceOf c ≡ getD (eightPieces w) 2 0 → pieceOf d ≡ getD (eightPieces w) 3 0 → pieceOf e ≡ getD (eightPieces w) 4 0
           → pieceOf f ≡ getD (eightPieces w) 5 0 → pieceOf g ≡ getD (eightPieces w) 6 0 → pieceOf h ≡ getD (eightPieces w) 7 0
-          → map split eightBytes ≡ numbered w (valuesIn w)
+          → map split eightBytes ≡ nibblesInOrder w (valuesIn w)
       go Forward p q r s t u v w =
           λ i.
           nibble (p i) (valueOf a)
@@ -276,14 +276,14 @@ module _ (a b c d e f g h : ℕ) where
 
 -- It reads eight pieces in the direction's order, whatever their nibbles are.
 pub any-nibbles-read : (r : MtcReader) (d : Direction) (bs : List ℕ) → Ready d r → map pieceOf bs ≡ eightPieces d
-    → Reads d bs (labelIn d bs) r
+    → ReadsLabel d bs (labelOfBytes d bs) r
 any-nibbles-read r d bs h k = go d bs h k (eight-of bs (sym (length-map pieceOf bs) ∙ ap length k ∙ all d))
   where
     all : (w : Direction) → length (eightPieces w) ≡ 8
     all Forward = refl
     all Reverse = refl
 
-    go : (w : Direction) (bs : List ℕ) → Ready w r → map pieceOf bs ≡ eightPieces w → Eight bs → Reads w bs (labelIn w bs) r
+    go : (w : Direction) (bs : List ℕ) → Ready w r → map pieceOf bs ≡ eightPieces w → Eight bs → ReadsLabel w bs (labelOfBytes w bs) r
     go Forward bs h k (eight a b c d e f g i) =
         values-read r Forward bs (valuesIn a b c d e f g i Forward) h (split-eight a b c d e f g i Forward k)
     go Reverse bs h k (eight a b c d e f g i) =
@@ -312,7 +312,7 @@ full-ready r d t h n =
     record {
       sound = full-sound r h t;
       starts =
-          starts-anew d 0 (taken r .first) (taken r .direction) (subst (λ (x : MtcReader). NotAgainst d (x .direction)) (sym (as-is r h)) n);
+          starts-anew d 0 (orFresh r .first) (orFresh r .direction) (subst (λ (x : MtcReader). NotAgainst d (x .direction)) (sym (as-is r h)) n);
     }
 
 -- So is one that just got the direction's last piece, whatever calls came before it.

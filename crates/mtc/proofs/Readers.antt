@@ -12,7 +12,7 @@ use lib.Dec.{T, leb, eqb, leb→le, le→leb}
 use lib.ListN.{getD, set}
 use Rattle.mtc.specs.Generator.{first, after, move}
 use Rattle.mtc.specs.QuarterFrame.{fromByte}
-use Rattle.mtc.specs.Reader.{Standing, nibblesFit, pieceFits, isSound, taken, fresh, Control, control, found, ordered, outOfOrder, orderOf, starts, numberOf, passed, stored, completed, sequenceOf, readerBy, reportBy, eventWith, rawOf, directionOf, reported, sameTime, jumps, afterPiece, reportOf, afterByte, eventOf}
+use Rattle.mtc.specs.Reader.{Standing, nibblesFit, pieceFits, isSound, orFresh, fresh, Control, control, directionBetween, ordered, outOfOrder, orderOf, starts, numberOf, passed, stored, completed, sequenceOf, readerByNumber, reportByNumber, eventWith, rawOf, directionOf, sequenceOfLabel, sameTime, jumps, afterPiece, reportOf, afterByte, eventOf}
 use Rattle.labels.specs.Time.{addFrames, bitsOf}
 use Rattle.labels.specs.declared.time.MtcTime.{MtcTime}
 use Rattle.mtc.specs.declared.generator.Direction.{Direction}
@@ -38,14 +38,14 @@ pub both-r : (a b : Bool) → T (a && b) → T b
 both-r true b h = h
 both-r false b h = absurd h
 
-pub both : (a b : Bool) → T a → T b → T (a && b)
-both true b h k = k
-both false b h k = absurd h
+pub both-hold : (a b : Bool) → T a → T b → T (a && b)
+both-hold true b h k = k
+both-hold false b h k = absurd h
 
 -- ---- nibbles
 
-pub at-most : {j k : ℕ} → j < suc k → j ≤ k
-at-most h = omega arith
+pub below-suc : {j k : ℕ} → j < suc k → j ≤ k
+below-suc h = omega arith
 
 pub nibble-small : (n : List ℕ) (k j : ℕ) → j < k → T (nibblesFit k n) → getD n j 0 ≤ 15
 unfolding nibblesFit
@@ -55,7 +55,7 @@ nibble-small n (suc k) j h t =
     (λ e. leb→le (getD n j 0) 15
     (subst (λ (i : ℕ). T (leb (getD n i 0) 15)) (sym e) (both-r (nibblesFit k n) (leb (getD n k 0) 15) t)))
     (λ l. nibble-small n k j l (both-l (nibblesFit k n) (leb (getD n k 0) 15) t))
-    (eq-or-lt-of-le (at-most h))
+    (eq-or-lt-of-le (below-suc h))
 
 small-set : (n : List ℕ) (i v j : ℕ) → v ≤ 15 → getD n j 0 ≤ 15 → getD (set n i v) j 0 ≤ 15
 small-set [] i v j e h = h
@@ -68,7 +68,7 @@ pub fit-set : (k : ℕ) (n : List ℕ) (i v : ℕ) → T (nibblesFit k n) → v 
 unfolding nibblesFit
 fit-set zero n i v h e = tt
 fit-set (suc k) n i v h e =
-    both (nibblesFit k (set n i v)) (leb (getD (set n i v) k 0) 15)
+    both-hold (nibblesFit k (set n i v)) (leb (getD (set n i v) k 0) 15)
     (fit-set k n i v (both-l (nibblesFit k n) (leb (getD n k 0) 15) h) e)
     (le→leb _ 15 (small-set n i v k e (leb→le _ 15 (both-r (nibblesFit k n) (leb (getD n k 0) 15) h))))
 
@@ -104,18 +104,18 @@ module _ (r : MtcReader) where
   unfolding isSound
   sound-but c f h = rw (le-leb _ _ c, le-leb _ _ f, h)
 
-  pub taken-sound : true ≡ isSound r → (r ≡ taken r) × T (isSound r)
-  unfolding taken
-  taken-sound h = (rw (← h), rw (← h) tt)
+  pub or-fresh-sound : true ≡ isSound r → (r ≡ orFresh r) × T (isSound r)
+  unfolding orFresh
+  or-fresh-sound h = (rw (← h), rw (← h) tt)
 
-  pub taken-fresh : false ≡ isSound r → (fresh ≡ taken r) × T (isSound fresh)
-  unfolding taken isSound nibblesFit
-  taken-fresh h = (rw (← h), tt)
+  pub unsound-fresh : false ≡ isSound r → (fresh ≡ orFresh r) × T (isSound fresh)
+  unfolding orFresh isSound nibblesFit
+  unsound-fresh h = (rw (← h), tt)
 
   -- Its four parts, together and apart.
   pub sound : r .count ≤ 7 → r .first ≤ 7 → T (pieceFits (r .last)) → T (nibblesFit 8 (r .nibbles)) → T (isSound r)
   unfolding isSound
-  sound c f l n = rw (le-leb _ _ c, le-leb _ _ f) (both (pieceFits (r .last)) (nibblesFit 8 (r .nibbles)) l n)
+  sound c f l n = rw (le-leb _ _ c, le-leb _ _ f) (both-hold (pieceFits (r .last)) (nibblesFit 8 (r .nibbles)) l n)
 
   module _ (h : T (isSound r)) where
     rest : T (leb (r .first) 7 && (pieceFits (r .last) && nibblesFit 8 (r .nibbles)))
@@ -144,14 +144,14 @@ module _ (r : MtcReader) where
 -- ---- how a piece stands to those before it
 
 module _ (l p : ℕ) where
-  pub found-forward : after Direction.Forward l ≡ p → Going Direction.Forward ≡ found l p
-  found-forward h = rw (eq-eqb _ _ h)
+  pub between-forward : after Direction.Forward l ≡ p → Going Direction.Forward ≡ directionBetween l p
+  between-forward h = rw (eq-eqb _ _ h)
 
-  pub found-reverse : (after Direction.Forward l ≡ p → ⊥) → after Direction.Reverse l ≡ p → Going Direction.Reverse ≡ found l p
-  found-reverse n h = rw (ne-eqb _ _ n, eq-eqb _ _ h)
+  pub between-reverse : (after Direction.Forward l ≡ p → ⊥) → after Direction.Reverse l ≡ p → Going Direction.Reverse ≡ directionBetween l p
+  between-reverse n h = rw (ne-eqb _ _ n, eq-eqb _ _ h)
 
-  pub found-none : (after Direction.Forward l ≡ p → ⊥) → (after Direction.Reverse l ≡ p → ⊥) → NoDirection ≡ found l p
-  found-none n h = rw (ne-eqb _ _ n, ne-eqb _ _ h)
+  pub between-none : (after Direction.Forward l ≡ p → ⊥) → (after Direction.Reverse l ≡ p → ⊥) → NoDirection ≡ directionBetween l p
+  between-none n h = rw (ne-eqb _ _ n, ne-eqb _ _ h)
 
 module _ (r : Control) (d f : MaybeDirection) where
   pub no-neighbour : f ≡ NoDirection → ordered false d false ≡ outOfOrder r d f
@@ -177,7 +177,7 @@ module _ (r : Control) (p : ℕ) where
   order-alone e = rw e
 
   module _ {l : ℕ} (e : r .last ≡ Piece l) where
-    pub order-second : {f : MaybeDirection} → f ≡ found l p → r .direction ≡ NoDirection → outOfOrder r (r .direction) f ≡ orderOf r p
+    pub order-second : {f : MaybeDirection} → f ≡ directionBetween l p → r .direction ≡ NoDirection → outOfOrder r (r .direction) f ≡ orderOf r p
     unfolding orderOf
     order-second i g = rw (i, e, g)
 
@@ -185,7 +185,7 @@ module _ (r : Control) (p : ℕ) where
     unfolding orderOf
     order-next g h = rw (e, g, eq-eqb _ _ h)
 
-    pub order-turned : {f : MaybeDirection} {d : Direction} → f ≡ found l p → r .direction ≡ Going d → (after d l ≡ p → ⊥)
+    pub order-turned : {f : MaybeDirection} {d : Direction} → f ≡ directionBetween l p → r .direction ≡ Going d → (after d l ≡ p → ⊥)
         → outOfOrder r (Going d) f ≡ orderOf r p
     unfolding orderOf
     order-turned i g h = rw (i, e, g, ne-eqb _ _ h)
@@ -215,12 +215,12 @@ module _ (q : QuarterFrame) (b : ℕ) (e : q ≡ fromByte b) where
   value-small = rw e (omega arith)
 
 module _ (r₀ : MtcReader) (b : ℕ) {r : MtcReader} {q : QuarterFrame} {o : Standing} {n : ℕ}
-    (er : r ≡ taken r₀) (eq : q ≡ fromByte b) (eo : o ≡ orderOf (control r) (q .piece)) (en : n ≡ numberOf (control r) o (q .piece)) where
-  after-byte : readerBy r o n (q .piece) (q .value) ≡ afterByte r₀ b
+    (er : r ≡ orFresh r₀) (eq : q ≡ fromByte b) (eo : o ≡ orderOf (control r) (q .piece)) (en : n ≡ numberOf (control r) o (q .piece)) where
+  after-byte : readerByNumber r o n (q .piece) (q .value) ≡ afterByte r₀ b
   unfolding afterPiece
   after-byte = rw (en, eo, eq, er)
 
-  event-byte : eventWith (q .piece) (reportBy r o n (q .piece) (q .value)) ≡ eventOf r₀ b
+  event-byte : eventWith (q .piece) (reportByNumber r o n (q .piece) (q .value)) ≡ eventOf r₀ b
   unfolding reportOf
   event-byte = rw (en, eo, eq, er)
 
@@ -265,6 +265,6 @@ jumps-from m d raw e i j = rw (j, i, e)
 
 -- The sequence that eight nibbles, a direction and a previous label report.
 pub sequence-is : (r : MtcReader) {raw : MtcTime} {d : Direction} {s : MtcSequence}
-    → raw ≡ rawOf (r .nibbles) → d ≡ directionOf (r .direction) → s ≡ reported raw d (r .previous) → s ≡ sequenceOf r
+    → raw ≡ rawOf (r .nibbles) → d ≡ directionOf (r .direction) → s ≡ sequenceOfLabel raw d (r .previous) → s ≡ sequenceOf r
 unfolding sequenceOf
 sequence-is r er ed es = rw (es, ed, er)

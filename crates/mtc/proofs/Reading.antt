@@ -138,18 +138,18 @@ module _ (u : Universal) (bs : List ℕ) where
 -- ---- user bits
 
 -- What a reading of user bits owes: the answer, and the message beside it.
-abbrev pub Reads : ReadUserBits → Answer (Option UserBits) → Type 0
-Reads r a = (readUserBitsOf r ≡ a) × (r .bits ≡ bitsIn a)
+abbrev pub OwesUserBits : ReadUserBits → Answer (Option UserBits) → Type 0
+OwesUserBits r a = (readUserBitsOf r ≡ a) × (r .bits ≡ bitsIn a)
 
 module _ (r : ReadUserBits) (u : Universal) (bs : List ℕ) where
-  pub bits-other : isTimeCode u 2 ≡ false → (r .answer ≡ NotThis) × (r .bits ≡ noBits) → Reads r (userBitsFrom u bs)
+  pub bits-other : isTimeCode u 2 ≡ false → (r .answer ≡ NotThis) × (r .bits ≡ noBits) → OwesUserBits r (userBitsFrom u bs)
   unfolding userBitsFrom
   bits-other h p =
       let e : userBitsFrom u bs ≡ gives none = read-other _ (length bs) 9 _ h in
       rw e (ap₂ answerWith (p .0) (p .1), p .1)
 
   pub bits-short : isTimeCode u 2 ≡ true → (length bs ≡ 9 → ⊥) → (r .answer ≡ Refused Length) × (r .bits ≡ noBits)
-      → Reads r (userBitsFrom u bs)
+      → OwesUserBits r (userBitsFrom u bs)
   unfolding userBitsFrom
   bits-short h l p =
       let e : userBitsFrom u bs ≡ refused (refusal 2) = read-short _ (length bs) 9 _ h l in

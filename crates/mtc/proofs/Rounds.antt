@@ -7,7 +7,7 @@ use mathlib.Core.Path.{_≡_, refl, sym, _∙_, ap, ap₂, subst}
 use native.Mathlib.Omega.{arith}
 use lib.ListN.{length, set}
 use Rattle.mtc.specs.Generator.{first, final}
-use Rattle.mtc.specs.Reader.{control, offset, reported, orderOf, numberOf, sequenceOf, readerBy, reportBy, afterPiece, reportOf}
+use Rattle.mtc.specs.Reader.{control, offset, sequenceOfLabel, orderOf, numberOf, sequenceOf, readerByNumber, reportByNumber, afterPiece, reportOf}
 use Rattle.mtc.specs.Ready.{Starts, NotAgainst}
 use Rattle.mtc.specs.Stream.{silent}
 use Rattle.labels.specs.Time.{addFrames}
@@ -22,7 +22,7 @@ use Rattle.mtc.specs.declared.reader.MaybeSequence.the-variants.{NoSeque
 use Rattle.mtc.specs.declared.reader.MaybeTime.{MaybeTime}
 use Rattle.mtc.specs.declared.reader.MaybeTime.the-variants.{Time}
 use Rattle.mtc.specs.declared.reader.MtcReader.{MtcReader}
-use Rattle.mtc.proofs.Nibbles.{Nibble, Values, opening, seven, numbered, listed, assembled}
+use Rattle.mtc.proofs.Nibbles.{Nibble, Values, firstValue, seven, nibblesInOrder, listed, assembled}
 use Rattle.mtc.proofs.Shapes.{opposite, Begun, held, turning}
 use Rattle.mtc.proofs.Starting.{not-against, starts-next}
 
@@ -87,7 +87,7 @@ opened : (d : Direction) (r : MtcReader) (v : ℕ) → Starts d (control r) → 
 unfolding afterPiece reportOf
 opened d r v h =
     let o = orderOf (control r) (first d) in
-    subst (λ (n : ℕ). Opened d r v (readerBy r o n (first d) v) (reportBy r o n (first d) v)) (sym h)
+    subst (λ (n : ℕ). Opened d r v (readerByNumber r o n (first d) v) (reportByNumber r o n (first d) v)) (sym h)
     (record {
       way = o .direction;
       not-against = not-against d (control r) h;
@@ -118,21 +118,21 @@ module _ (v : Values) where
         time = Time (addFrames (assembled v) (offset d));
       }
 
-  pub run-first : (r : MtcReader) (d : Direction) (rest : List Nibble) → run r (numbered d v ++ rest)
-      ≡ reportOf r (first d) (opening d v) ∷ run (afterPiece r (first d) (opening d v)) (seven d v ++ rest)
+  pub run-first : (r : MtcReader) (d : Direction) (rest : List Nibble) → run r (nibblesInOrder d v ++ rest)
+      ≡ reportOf r (first d) (firstValue d v) ∷ run (afterPiece r (first d) (firstValue d v)) (seven d v ++ rest)
   unfolding run
   run-first r d rest = refl
 
   -- A reader that holds the first piece.
   abbrev holding : MtcReader → Direction → List ℕ → MaybeDirection → MtcReader
-  holding s d n m = with s (set n (first d) (opening d v)) 1 (first d) (Piece (first d)) m
+  holding s d n m = with s (set n (first d) (firstValue d v)) 1 (first d) (Piece (first d)) m
 
   -- Whether or not the direction is known, the other seven complete the sequence.
   Completes : MtcReader → Direction → List ℕ → List Nibble → MaybeDirection → Type 0
   Completes s d n rest m =
       (run (holding s d n m) (seven d v ++ rest)
       ≡ silent 6
-      ++ (Sequence (reported (assembled v) d (s .previous))
+      ++ (Sequence (sequenceOfLabel (assembled v) d (s .previous))
       ∷ run (left d) rest))
       × (leave (holding s d n m) (seven d v) ≡ left d)
 
@@ -148,10 +148,10 @@ module _ (v : Values) where
 
   module _ (r : MtcReader) (d : Direction) (eights : length (r .nibbles) ≡ 8) (starts : Starts d (control r)) where
     abbrev second : MtcReader
-    second = afterPiece r (first d) (opening d v)
+    second = afterPiece r (first d) (firstValue d v)
 
-    abbrev begun : Opened d r (opening d v) second (reportOf r (first d) (opening d v))
-    begun = opened d r (opening d v) starts
+    abbrev begun : Opened d r (firstValue d v) second (reportOf r (first d) (firstValue d v))
+    begun = opened d r (firstValue d v) starts
 
     is-holding : second ≡ holding second d (r .nibbles) (begun .way)
     is-holding =
@@ -162,17 +162,17 @@ module _ (v : Values) where
 
     -- The eighth piece reports, and no other.
     pub round : (rest : List Nibble)
-        → run r (numbered d v ++ rest)
-        ≡ silent 7 ++ (Sequence (reported (assembled v) d (r .previous)) ∷ run (left d) rest)
+        → run r (nibblesInOrder d v ++ rest)
+        ≡ silent 7 ++ (Sequence (sequenceOfLabel (assembled v) d (r .previous)) ∷ run (left d) rest)
     unfolding Completes
     round rest =
         run-first r d rest
         ∙ ap₂ _∷_ (begun .report)
         (ap (λ (x : MtcReader). run x (seven d v ++ rest)) is-holding ∙ completes rest .0
-        ∙ ap (λ (p : MaybeTime). silent 6 ++ (Sequence (reported (assembled v) d p) ∷ run (left d) rest)) (begun .previous))
+        ∙ ap (λ (p : MaybeTime). silent 6 ++ (Sequence (sequenceOfLabel (assembled v) d p) ∷ run (left d) rest)) (begun .previous))
 
     -- The reader that they leave.
-    pub round-left : leave r (numbered d v) ≡ left d
+    pub round-left : leave r (nibblesInOrder d v) ≡ left d
     unfolding Completes leave
     round-left = ap (λ (x : MtcReader). leave x (seven d v)) is-holding ∙ completes [] .1
 
@@ -182,7 +182,7 @@ module _ (v : Values) where
   -- What the seven after the first piece report, and the reader that they leave.
   pub record Eighth (d : Direction) (s : MtcReader) : Type 0 where
     pub report : MaybeSequence
-    pub is : (report ≡ NoSequence) ⊎ (report ≡ Sequence (reported (assembled v) d (s .previous)))
+    pub is : (report ≡ NoSequence) ⊎ (report ≡ Sequence (sequenceOfLabel (assembled v) d (s .previous)))
     pub next : MtcReader
     pub eights : length (next .nibbles) ≡ 8
     pub starts : Starts d (control next)
@@ -211,11 +211,11 @@ module _ (v : Values) where
   turning-at s Reverse rest = refl
 
   pub eighth : (s : MtcReader) (d : Direction) (n : List ℕ) → length n ≡ 8 → length (s .nibbles) ≡ 8
-      → Begun d (set n (first d) (opening d v)) s → Eighth d s
+      → Begun d (set n (first d) (firstValue d v)) s → Eighth d s
   unfolding Completes
   eighth s d n len _ (held m q en ec ef el ed) =
       record {
-        report = Sequence (reported (assembled v) d (s .previous));
+        report = Sequence (sequenceOfLabel (assembled v) d (s .previous));
         is = inr refl;
         next = left v d;
         eights = refl;

@@ -5,7 +5,7 @@ use mathlib.Core.List.{List, _++_, append-nil}
 use mathlib.Core.Path.{_≡_, refl, _∙_, ap}
 use Rattle.mtc.specs.Generator.{final, move, sentAt, nextByte, afterNextByte}
 use Rattle.mtc.specs.QuarterFrame.{pieces}
-use Rattle.mtc.specs.Stream.{runFrom, sent, inOrder, SentLaw}
+use Rattle.mtc.specs.Stream.{runFrom, bytesSent, inOrder, SentLaw}
 use Rattle.labels.specs.Time.{addFrames}
 use Rattle.labels.specs.declared.time.MtcTime.{MtcTime}
 use Rattle.mtc.specs.declared.generator.Direction.{Direction}
@@ -14,36 +14,36 @@ use Rattle.mtc.specs.declared.generator.MtcGenerator.{MtcGenerator}
 use Rattle.labels.proofs.Laws.{moved-by-sum}
 
 -- The time of the sequence after that of a time.
-abbrev pub later : Direction → MtcTime → MtcTime
-later d t = addFrames t (move d)
+abbrev pub laterLabel : Direction → MtcTime → MtcTime
+laterLabel d t = addFrames t (move d)
 
 -- The eight bytes of a sequence.
-abbrev pub sequence : Direction → MtcTime → List ℕ
-sequence d t = inOrder d (pieces t)
+abbrev pub eightBytes : Direction → MtcTime → List ℕ
+eightBytes d t = inOrder d (pieces t)
 
 -- The first eight bytes of a located, running generator are its time's sequence.
 pub sends-first : (g : MtcGenerator) (t : MtcTime) (d : Direction) (k : ℕ)
-    → sent (suc (suc (suc (suc (suc (suc (suc (suc k)))))))) (runFrom g t d) ≡ sequence d t ++ sent k (sentAt t d (final d))
-unfolding sent nextByte afterNextByte pieces
+    → bytesSent (suc (suc (suc (suc (suc (suc (suc (suc k)))))))) (runFrom g t d) ≡ eightBytes d t ++ bytesSent k (sentAt t d (final d))
+unfolding bytesSent nextByte afterNextByte pieces
 sends-first g t Forward k = refl
 sends-first g t Reverse k = refl
 
 -- The eight bytes after a sequence are the sequence two frames on.
 pub sends-next : (t : MtcTime) (d : Direction) (k : ℕ)
-    → sent (suc (suc (suc (suc (suc (suc (suc (suc k)))))))) (sentAt t d (final d))
-    ≡ sequence d (later d t) ++ sent k (sentAt (later d t) d (final d))
-unfolding sent nextByte afterNextByte pieces
+    → bytesSent (suc (suc (suc (suc (suc (suc (suc (suc k)))))))) (sentAt t d (final d))
+    ≡ eightBytes d (laterLabel d t) ++ bytesSent k (sentAt (laterLabel d t) d (final d))
+unfolding bytesSent nextByte afterNextByte pieces
 sends-next t Forward k = refl
 sends-next t Reverse k = refl
 
 pub sends-three : (g : MtcGenerator) (t : MtcTime) (d : Direction)
-    → sent 24 (runFrom g t d) ≡ sequence d t ++ (sequence d (later d t) ++ sequence d (later d (later d t)))
-unfolding sent
+    → bytesSent 24 (runFrom g t d) ≡ eightBytes d t ++ (eightBytes d (laterLabel d t) ++ eightBytes d (laterLabel d (laterLabel d t)))
+unfolding bytesSent
 sends-three g t d =
     sends-first g t d 16
-    ∙ ap (λ (l : List ℕ). sequence d t ++ l)
+    ∙ ap (λ (l : List ℕ). eightBytes d t ++ l)
     (sends-next t d 8
-    ∙ ap (λ (l : List ℕ). sequence d (later d t) ++ l) (sends-next (later d t) d 0 ∙ append-nil (sequence d (later d (later d t)))))
+    ∙ ap (λ (l : List ℕ). eightBytes d (laterLabel d t) ++ l) (sends-next (laterLabel d t) d 0 ∙ append-nil (eightBytes d (laterLabel d (laterLabel d t)))))
 
 pub sent-law : SentLaw
 sent-law g t Forward = sends-three g t Forward ∙ rw (moved-by-sum t (move Forward) (move Forward))

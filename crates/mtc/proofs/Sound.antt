@@ -6,43 +6,40 @@ use native.Mathlib.Omega.{arith}
 use lib.Dec.{T, eqb, le→leb}
 use lib.ListN.{length, length-set}
 use Rattle.mtc.specs.QuarterFrame.{pieceOf, valueOf}
-use Rattle.mtc.specs.Reader.{Standing, isSound, Sound, taken, control, orderOf, numberOf, passed, stored, completed, informed, afterPiece, reportOf, afterByte, eventOf, afterFullMessage}
+use Rattle.mtc.specs.Reader.{Standing, isSound, Sound, orFresh, control, orderOf, numberOf, passed, stored, completed, informed, afterPiece, reportOf, afterByte, eventOf, afterFullMessage}
 use Rattle.labels.specs.declared.time.MtcTime.{MtcTime}
 use Rattle.mtc.specs.declared.generator.MaybePiece.the-variants.{Piece}
 use Rattle.mtc.specs.declared.reader.MtcReader.{MtcReader}
-use Rattle.mtc.proofs.Readers.{fit-set, sound, sound-first, sound-nibbles, taken-sound}
+use Rattle.universal.proofs.Tests.{holds-true}
+use Rattle.mtc.proofs.Readers.{fit-set, sound, sound-first, sound-nibbles, or-fresh-sound}
 
 -- Of two things, whichever a test picks.
 picked : {A : Type 0} (P : A → Type 0) (b : Bool) {x y : A} → P x → P y → P (cond b x y)
 picked P true p q = p
 picked P false p q = q
 
-is-true : (b : Bool) → T b → true ≡ b
-is-true true h = refl
-is-true false h = absurd h
-
 module _ (r : MtcReader) (h : Sound r) where
   passed-sound : (o : Standing) (p : ℕ) → p ≤ 7 → Sound (passed r o p)
   passed-sound o p e =
       record {
-        within = sound (passed r o p) (omega arith) (sound-first r (h .within)) (le→leb p 7 e) (sound-nibbles r (h .within));
+        is-sound = sound (passed r o p) (omega arith) (sound-first r (h .is-sound)) (le→leb p 7 e) (sound-nibbles r (h .is-sound));
         eight = h .eight;
       }
 
   stored-sound : (o : Standing) (n p v : ℕ) → p ≤ 7 → v ≤ 15 → Sound (stored r o n p v)
   stored-sound o n p v e f =
       record {
-        within =
+        is-sound =
             sound (stored r o n p v) (omega arith)
-            (picked (λ x. x ≤ 7) (eqb n 1) e (sound-first r (h .within))) (le→leb p 7 e)
-            (fit-set 8 (r .nibbles) p v (sound-nibbles r (h .within)) f);
+            (picked (λ x. x ≤ 7) (eqb n 1) e (sound-first r (h .is-sound))) (le→leb p 7 e)
+            (fit-set 8 (r .nibbles) p v (sound-nibbles r (h .is-sound)) f);
         eight = length-set (r .nibbles) p v ∙ h .eight;
       }
 
   informed-sound : (t : MtcTime) → Sound (informed r t)
   informed-sound t =
       record {
-        within = sound (informed r t) (omega arith) (sound-first r (h .within)) tt (sound-nibbles r (h .within));
+        is-sound = sound (informed r t) (omega arith) (sound-first r (h .is-sound)) tt (sound-nibbles r (h .is-sound));
         eight = h .eight;
       }
 
@@ -65,7 +62,7 @@ last-is r p v =
 
 completed-sound : (r : MtcReader) → Sound r → Sound (completed r)
 unfolding isSound
-completed-sound r h = record { within = h .within; eight = h .eight }
+completed-sound r h = record { is-sound = h .is-sound; eight = h .eight }
 
 module _ (r : MtcReader) (h : Sound r) where
   pub piece-sound : (p v : ℕ) → p ≤ 7 → v ≤ 15 → Sound (afterPiece r p v)
@@ -76,8 +73,8 @@ module _ (r : MtcReader) (h : Sound r) where
       let s = stored-sound r h o n p v e f in
       picked Sound (eqb n 0) (passed-sound r h o p e) (picked Sound (eqb n 8) (completed-sound (stored r o n p v) s) s)
 
-  pub as-is : taken r ≡ r
-  as-is = sym (taken-sound r (is-true (isSound r) (h .within)) .0)
+  pub as-is : orFresh r ≡ r
+  as-is = sym (or-fresh-sound r (sym (holds-true (isSound r) (h .is-sound))) .0)
 
   -- A sound reader takes a byte and a full message as it is.
   pub by-piece : (b : ℕ) → afterByte r b ≡ afterPiece r (pieceOf b) (valueOf b)

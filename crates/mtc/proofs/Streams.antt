@@ -10,11 +10,11 @@ use lib.Dec.{T}
 use lib.ListN.{length, take, set, getD}
 use Rattle.mtc.specs.Generator.{first, move}
 use Rattle.mtc.specs.QuarterFrame.{pieceOf, pieces}
-use Rattle.mtc.specs.Reader.{Sound, fresh, isSound, nibblesFit, offset, sameTime, jumps, reported, reportOf, afterPiece, afterByte, afterFullMessage}
+use Rattle.mtc.specs.Reader.{Sound, fresh, isSound, nibblesFit, offset, sameTime, jumps, sequenceOfLabel, reportOf, afterPiece, afterByte, afterFullMessage}
 use Rattle.mtc.specs.Ready.{afterBytes}
 use Rattle.mtc.specs.Rp004.{InWidths}
 use Rattle.labels.specs.St12.{isValid}
-use Rattle.mtc.specs.Stream.{Call, byte, full, runFrom, sent, afterCalls, events, silent, newest, lastSeven, report, frames, shifted, reporting, sevenBefore, StreamLaw}
+use Rattle.mtc.specs.Stream.{Call, byte, full, runFrom, bytesSent, afterCalls, events, silent, newest, lastSeven, nthReport, frames, shifted, reportWith, sevenBefore, StreamLaw}
 use Rattle.labels.specs.Time.{addFrames, bitsOf}
 use Rattle.labels.specs.declared.time.MtcTime.{MtcTime}
 use Rattle.mtc.specs.declared.generator.Direction.{Direction}
@@ -28,10 +28,10 @@ use Rattle.mtc.specs.declared.reader.MaybeTime.the-variants.{Time}
 use Rattle.mtc.specs.declared.reader.MtcEvent.{MtcEvent}
 use Rattle.mtc.specs.declared.reader.MtcReader.{MtcReader}
 use Rattle.labels.proofs.Laws.{moved-valid, moved-by-sum}
-use Rattle.mtc.proofs.Widths.{valid-widths}
-use Rattle.mtc.proofs.Nibbles.{opening, numbered, assembled, values, split, split-pieces, raw-values}
+use Rattle.mtc.proofs.Widths.{valid-in-widths}
+use Rattle.mtc.proofs.Nibbles.{firstValue, nibblesInOrder, assembled, values, split, split-pieces, raw-values}
 use Rattle.mtc.proofs.Rounds.{run, leave, left, round, run-first, Eighth, eighth}
-use Rattle.mtc.proofs.Sending.{later, sequence, sends-three}
+use Rattle.mtc.proofs.Sending.{laterLabel, eightBytes, sends-three}
 use Rattle.mtc.proofs.Shapes.{opposite, history, Shape, idle, piece-shape, Begun, Quiet, first-byte}
 use Rattle.mtc.proofs.Starting.{starts-next}
 use Rattle.mtc.proofs.Sound.{by-piece, report-by-piece, byte-sound, full-sound, same-length}
@@ -77,7 +77,7 @@ pub record Past (bs : List ℕ) (r : MtcReader) : Type 0 where
 
 pub fresh-sound : Sound fresh
 unfolding isSound nibblesFit
-fresh-sound = record { within = tt; eight = refl }
+fresh-sound = record { is-sound = tt; eight = refl }
 
 pub fresh-past : Past [] fresh
 fresh-past = record { sound = fresh-sound; shape = idle refl }
@@ -96,14 +96,14 @@ past (full t ∷ cs) bs r h =
 
 -- No call leaves a record that is taken as fresh.
 pub calls-sound : (cs : List Call) → T (isSound (afterCalls fresh cs))
-calls-sound cs = past cs [] fresh fresh-past .sound .within
+calls-sound cs = past cs [] fresh fresh-past .sound .is-sound
 
 -- ---- reports of bytes
 
-abbrev pub reports : List MtcEvent → List MaybeSequence
-reports = map (λ (e : MtcEvent). e .sequence)
+abbrev pub reportsOf : List MtcEvent → List MaybeSequence
+reportsOf = map (λ (e : MtcEvent). e .sequence)
 
-pub reports-run : (bs : List ℕ) (r : MtcReader) → Sound r → reports (events r bs) ≡ run r (map split bs)
+pub reports-run : (bs : List ℕ) (r : MtcReader) → Sound r → reportsOf (events r bs) ≡ run r (map split bs)
 unfolding events run
 reports-run [] r h = refl
 reports-run (b ∷ bs) r h =
@@ -128,18 +128,18 @@ length-events [] r = refl
 length-events (b ∷ bs) r = ap suc (length-events bs (afterByte r b))
 
 -- The nibbles of three sequences.
-three : (a b c : MtcTime) (d : Direction) → map split (sequence d a ++ (sequence d b ++ sequence d c))
-    ≡ numbered d (values a) ++ (numbered d (values b) ++ (numbered d (values c) ++ []))
+three : (a b c : MtcTime) (d : Direction) → map split (eightBytes d a ++ (eightBytes d b ++ eightBytes d c))
+    ≡ nibblesInOrder d (values a) ++ (nibblesInOrder d (values b) ++ (nibblesInOrder d (values c) ++ []))
 three a b c d =
-    map-append split (sequence d a) (sequence d b ++ sequence d c)
+    map-append split (eightBytes d a) (eightBytes d b ++ eightBytes d c)
     ∙ ap₂ _++_ (split-pieces a d)
-    (map-append split (sequence d b) (sequence d c)
-    ∙ ap₂ _++_ (split-pieces b d) (split-pieces c d ∙ sym (append-nil (numbered d (values c)))))
+    (map-append split (eightBytes d b) (eightBytes d c)
+    ∙ ap₂ _++_ (split-pieces b d) (split-pieces c d ∙ sym (append-nil (nibblesInOrder d (values c)))))
 
 -- What the bytes of three sequences report.
 module _ (a b c : MtcTime) (d : Direction) (bs : List ℕ) (r : MtcReader) (h : Past bs r) where
   abbrev opened : ℕ
-  opened = opening d (values a)
+  opened = firstValue d (values a)
 
   abbrev second : MtcReader
   second = afterPiece r (first d) opened
@@ -156,20 +156,20 @@ module _ (a b c : MtcTime) (d : Direction) (bs : List ℕ) (r : MtcReader) (h : 
   report1 = reportOf r (first d) opened
 
   report16 : MaybeSequence
-  report16 = Sequence (reported (assembled (values b)) d (after-eight .next .previous))
+  report16 = Sequence (sequenceOfLabel (assembled (values b)) d (after-eight .next .previous))
 
   abbrev report24 : MaybeSequence
-  report24 = Sequence (reported (assembled (values c)) d (Time (assembled (values b))))
+  report24 = Sequence (sequenceOfLabel (assembled (values c)) d (Time (assembled (values b))))
 
-  all-reports : run r (numbered d (values a) ++ (numbered d (values b) ++ (numbered d (values c) ++ [])))
+  all-reports : run r (nibblesInOrder d (values a) ++ (nibblesInOrder d (values b) ++ (nibblesInOrder d (values c) ++ [])))
       ≡ spaced report1 (after-eight .report) report16 report24
   unfolding report16 run
   all-reports =
-      run-first (values a) r d (numbered d (values b) ++ (numbered d (values c) ++ []))
+      run-first (values a) r d (nibblesInOrder d (values b) ++ (nibblesInOrder d (values c) ++ []))
       ∙ ap (λ (l : List MaybeSequence). report1 ∷ l)
-      (after-eight .runs (numbered d (values b) ++ (numbered d (values c) ++ []))
+      (after-eight .runs (nibblesInOrder d (values b) ++ (nibblesInOrder d (values c) ++ []))
       ∙ ap (λ (l : List MaybeSequence). silent 6 ++ (after-eight .report ∷ l))
-      (round (values b) (after-eight .next) d (after-eight .eights) (after-eight .starts) (numbered d (values c) ++ [])
+      (round (values b) (after-eight .next) d (after-eight .eights) (after-eight .starts) (nibblesInOrder d (values c) ++ [])
       ∙ ap (λ (l : List MaybeSequence). silent 7 ++ (report16 ∷ l))
       (round (values c) (left (values b) d) d refl (starts-next d (first d) (Going d)) [])))
 
@@ -190,19 +190,19 @@ module _ (t : MtcTime) where
   on-2-1 Forward = refl
   on-2-1 Reverse = refl
 
-  on-2-2 : (d : Direction) → later d t ≡ shifted t d 2 2
+  on-2-2 : (d : Direction) → laterLabel d t ≡ shifted t d 2 2
   on-2-2 Forward = refl
   on-2-2 Reverse = refl
 
-  on-4-3 : (d : Direction) → addFrames (later d t) (offset d) ≡ shifted t d 4 3
+  on-4-3 : (d : Direction) → addFrames (laterLabel d t) (offset d) ≡ shifted t d 4 3
   on-4-3 Forward = moved-by-sum t (move Forward) (offset Forward)
   on-4-3 Reverse = moved-by-sum t (move Reverse) (offset Reverse)
 
-  on-4-4 : (d : Direction) → later d (later d t) ≡ shifted t d 4 4
+  on-4-4 : (d : Direction) → laterLabel d (laterLabel d t) ≡ shifted t d 4 4
   on-4-4 Forward = moved-by-sum t (move Forward) (move Forward)
   on-4-4 Reverse = moved-by-sum t (move Reverse) (move Reverse)
 
-  on-6-5 : (d : Direction) → addFrames (later d (later d t)) (offset d) ≡ shifted t d 6 5
+  on-6-5 : (d : Direction) → addFrames (laterLabel d (laterLabel d t)) (offset d) ≡ shifted t d 6 5
   on-6-5 d = ap (λ (u : MtcTime). addFrames u (offset d)) (on-4-4 d) ∙ go d
     where
       go : (x : Direction) → addFrames (addFrames t (frames x 4 4)) (offset x) ≡ addFrames t (frames x 6 5)
@@ -211,12 +211,12 @@ module _ (t : MtcTime) where
 
 -- A label that was put together from its own values.
 own-values : (t : MtcTime) → InWidths t → (d : Direction) (p : MaybeTime)
-    → Sequence (reported (assembled (values t)) d p) ≡ reporting d t (addFrames t (offset d)) (jumps p d t)
-own-values t w d p = ap (λ (u : MtcTime). Sequence (reported u d p)) (raw-values t w)
+    → Sequence (sequenceOfLabel (assembled (values t)) d p) ≡ reportWith d t (addFrames t (offset d)) (jumps p d t)
+own-values t w d p = ap (λ (u : MtcTime). Sequence (sequenceOfLabel u d p)) (raw-values t w)
 
 -- ---- the law
 
-length-three : (a b c : MtcTime) (d : Direction) → length (sequence d a ++ (sequence d b ++ sequence d c)) ≡ 24
+length-three : (a b c : MtcTime) (d : Direction) → length (eightBytes d a ++ (eightBytes d b ++ eightBytes d c)) ≡ 24
 unfolding pieces
 length-three a b c Forward = refl
 length-three a b c Reverse = refl
@@ -240,13 +240,13 @@ module _ (calls : List Call) (g : MtcGenerator) (t : MtcTime) (d : Direction) (v
   before = past calls [] fresh fresh-past
 
   abbrev t₂ : MtcTime
-  t₂ = later d t
+  t₂ = laterLabel d t
 
   abbrev t₄ : MtcTime
-  t₄ = later d t₂
+  t₄ = laterLabel d t₂
 
   abbrev es : List MtcEvent
-  es = events reader (sent 24 (runFrom g t d))
+  es = events reader (bytesSent 24 (runFrom g t d))
 
   abbrev after8 : Eighth (values t) d (second t t₂ t₄ d bytes reader before)
   after8 = after-eight t t₂ t₄ d bytes reader before
@@ -256,70 +256,70 @@ module _ (calls : List Call) (g : MtcGenerator) (t : MtcTime) (d : Direction) (v
       spaced (report1 t t₂ t₄ d bytes reader before) (after8 .report) (report16 t t₂ t₄ d bytes reader before)
       (report24 t t₂ t₄ d bytes reader before)
 
-  reported-are : reports es ≡ listed-reports
+  reported-are : reportsOf es ≡ listed-reports
   reported-are =
-      ap (λ (l : List ℕ). reports (events reader l)) (sends-three g t d)
-      ∙ reports-run (sequence d t ++ (sequence d t₂ ++ sequence d t₄)) reader (before .sound)
+      ap (λ (l : List ℕ). reportsOf (events reader l)) (sends-three g t d)
+      ∙ reports-run (eightBytes d t ++ (eightBytes d t₂ ++ eightBytes d t₄)) reader (before .sound)
       ∙ ap (run reader) (three t t₂ t₄ d)
       ∙ all-reports t t₂ t₄ d bytes reader before
 
-  place : (n : ℕ) → report (suc n) es ≡ getD listed-reports n NoSequence
+  place : (n : ℕ) → nthReport (suc n) es ≡ getD listed-reports n NoSequence
   place n = ap (λ (l : List MaybeSequence). getD l n NoSequence) reported-are
 
-  first-report : (report 1 es ≡ NoSequence) ⊎ (map pieceOf (lastSeven calls) ≡ sevenBefore d)
+  first-report : (nthReport 1 es ≡ NoSequence) ⊎ (map pieceOf (lastSeven calls) ≡ sevenBefore d)
   first-report = go (begun t t₂ t₄ d bytes reader before .1)
     where
       go : Quiet d bytes (report1 t t₂ t₄ d bytes reader before)
-          → (report 1 es ≡ NoSequence) ⊎ (map pieceOf (lastSeven calls) ≡ sevenBefore d)
+          → (nthReport 1 es ≡ NoSequence) ⊎ (map pieceOf (lastSeven calls) ≡ sevenBefore d)
       go (inl e) = inl (place 0 ∙ e)
       go (inr e) = inr (seven-before d bytes e)
 
-  eighth-report : (report 8 es ≡ NoSequence)
-      ⊎ ((jump : Bool) × (report 8 es ≡ reporting d t (shifted t d 2 1) jump))
+  eighth-report : (nthReport 8 es ≡ NoSequence)
+      ⊎ ((jump : Bool) × (nthReport 8 es ≡ reportWith d t (shifted t d 2 1) jump))
   eighth-report = go (after8 .is)
     where
       q : MaybeTime
       q = second t t₂ t₄ d bytes reader before .previous
 
-      go : (after8 .report ≡ NoSequence) ⊎ (after8 .report ≡ Sequence (reported (assembled (values t)) d q))
-          → (report 8 es ≡ NoSequence)
-          ⊎ ((jump : Bool) × (report 8 es ≡ reporting d t (shifted t d 2 1) jump))
+      go : (after8 .report ≡ NoSequence) ⊎ (after8 .report ≡ Sequence (sequenceOfLabel (assembled (values t)) d q))
+          → (nthReport 8 es ≡ NoSequence)
+          ⊎ ((jump : Bool) × (nthReport 8 es ≡ reportWith d t (shifted t d 2 1) jump))
       go (inl e) = inl (place 7 ∙ e)
       go (inr e) =
           inr (
             jumps q d t,
-            place 7 ∙ e ∙ own-values t (valid-widths t valid) d q
-                ∙ ap (λ (u : MtcTime). reporting d t u (jumps q d t)) (on-2-1 t d),
+            place 7 ∙ e ∙ own-values t (valid-in-widths t valid) d q
+                ∙ ap (λ (u : MtcTime). reportWith d t u (jumps q d t)) (on-2-1 t d),
           )
 
   sixteenth-report : (jump : Bool)
-      × (report 16 es ≡ reporting d (shifted t d 2 2) (shifted t d 4 3) jump)
+      × (nthReport 16 es ≡ reportWith d (shifted t d 2 2) (shifted t d 4 3) jump)
   unfolding report16
   sixteenth-report =
       let q = after8 .next .previous in (
         jumps q d t₂,
-        place 15 ∙ own-values t₂ (valid-widths t₂ (moved-valid t (move d))) d q
-            ∙ ap₂ (λ (x y : MtcTime). reporting d x y (jumps q d t₂)) (on-2-2 t d) (on-4-3 t d),
+        place 15 ∙ own-values t₂ (valid-in-widths t₂ (moved-valid t (move d))) d q
+            ∙ ap₂ (λ (x y : MtcTime). reportWith d x y (jumps q d t₂)) (on-2-2 t d) (on-4-3 t d),
       )
 
-  last-report : report 24 es ≡ reporting d (shifted t d 4 4) (shifted t d 6 5) false
+  last-report : nthReport 24 es ≡ reportWith d (shifted t d 4 4) (shifted t d 6 5) false
   last-report =
-      let w₂ = valid-widths t₂ (moved-valid t (move d)) in
-      let w₄ = valid-widths t₄ (moved-valid t₂ (move d)) in
+      let w₂ = valid-in-widths t₂ (moved-valid t (move d)) in
+      let w₄ = valid-in-widths t₄ (moved-valid t₂ (move d)) in
       place 23
-      ∙ ap (λ (u : MtcTime). Sequence (reported (assembled (values t₄)) d (Time u))) (raw-values t₂ w₂)
+      ∙ ap (λ (u : MtcTime). Sequence (sequenceOfLabel (assembled (values t₄)) d (Time u))) (raw-values t₂ w₂)
       ∙ own-values t₄ w₄ d (Time t₂)
-      ∙ ap (λ (x : Bool). reporting d t₄ (addFrames t₄ (offset d)) (not x)) (same-self t₄)
-      ∙ ap₂ (λ (x y : MtcTime). reporting d x y false) (on-4-4 t d) (on-6-5 t d)
+      ∙ ap (λ (x : Bool). reportWith d t₄ (addFrames t₄ (offset d)) (not x)) (same-self t₄)
+      ∙ ap₂ (λ (x y : MtcTime). reportWith d x y false) (on-4-4 t d) (on-6-5 t d)
 
-  no-other : (n : ℕ) → n ≢ 1 → n ≢ 8 → n ≢ 16 → n ≢ 24 → report n es ≡ NoSequence
+  no-other : (n : ℕ) → n ≢ 1 → n ≢ 8 → n ≢ 16 → n ≢ 24 → nthReport n es ≡ NoSequence
   no-other zero a b c e = refl
   no-other (suc n) a b c e = place n ∙ silent-else _ _ _ _ n a b c e
 
 pub stream-law : StreamLaw
 stream-law calls g t d valid =
     record {
-      count = length-events (sent 24 (runFrom g t d)) _ ∙ ap length (sends-three g t d) ∙ length-three t _ _ d;
+      count = length-events (bytesSent 24 (runFrom g t d)) _ ∙ ap length (sends-three g t d) ∙ length-three t _ _ d;
       first = first-report calls g t d valid;
       eighth = eighth-report calls g t d valid;
       sixteenth = sixteenth-report calls g t d valid;

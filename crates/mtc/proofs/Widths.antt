@@ -6,7 +6,7 @@ use Rattle.labels.proofs.Laws as labels
 use Rattle.labels.proofs.Laws.{Widths}
 use Rattle.mtc.specs.Rp004.{InWidths}
 
-pub valid-widths : (t : MtcTime) → T (isValid t) → InWidths t
-valid-widths t v =
+pub valid-in-widths : (t : MtcTime) → T (isValid t) → InWidths t
+valid-in-widths t v =
     let w : Widths t = labels.valid-widths t v in
     record { frames = w .frames; seconds = w .seconds; minutes = w .minutes; hours = w .hours }

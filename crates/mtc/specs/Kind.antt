@@ -47,9 +47,9 @@ pub record ReadsOnly {A : Type 0} (subId2 size : ℕ) (made : ℕ → List ℕ �
 -- ---- the five split parts of a whole message that carries a sub-ID 2
 
 -- Real Time or not, the device, sub-ID 1 and sub-ID 2: the second to the fifth byte.
-abbrev pub partsOf : List ℕ → Universal
-partsOf bs = header (eqb (getD bs 1 0) 127) (getD bs 2 0) (getD bs 3 0) (SubId2 (getD bs 4 0))
+abbrev pub messageHeader : List ℕ → Universal
+messageHeader bs = header (eqb (getD bs 1 0) 127) (getD bs 2 0) (getD bs 3 0) (SubId2 (getD bs 4 0))
 
 -- The data: the bytes after these, up to the closing F7H.
-abbrev pub dataOf : List ℕ → List ℕ
-dataOf bs = take (length bs - 6) (drop 5 bs)
+abbrev pub messageData : List ℕ → List ℕ
+messageData bs = take (length bs - 6) (drop 5 bs)

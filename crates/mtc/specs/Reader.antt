@@ -58,7 +58,7 @@ isSound r = leb (r .count) 7 && (leb (r .first) 7 && (pieceFits (r .last) && nib
 
 -- A record that calls leave: sound, with its eight nibbles.
 pub record Sound (r : MtcReader) : Type 0 where
-  pub within : T (isSound r)
+  pub is-sound : T (isSound r)
   pub eight : length (r .nibbles) ≡ 8
 
 -- The bounds of such a record.
@@ -70,8 +70,8 @@ pub record Bounds (r : MtcReader) : Type 0 where
   pub eight : length (r .nibbles) ≡ 8
 
 -- Any other record is taken as fresh.
-unfoldable pub taken : MtcReader → MtcReader
-taken r = cond (isSound r) r fresh
+unfoldable pub orFresh : MtcReader → MtcReader
+orFresh r = cond (isSound r) r fresh
 
 -- ---- what decides: count, first and last piece, direction
 
@@ -86,8 +86,8 @@ abbrev pub control : MtcReader → Control
 control r = record { count = r .count; first = r .first; last = r .last; direction = r .direction }
 
 -- The direction in which a piece comes right after another.
-abbrev pub found : ℕ → ℕ → MaybeDirection
-found l p = cond (eqb (after Forward l) p) (Going Forward) (cond (eqb (after Reverse l) p) (Going Reverse) NoDirection)
+abbrev pub directionBetween : ℕ → ℕ → MaybeDirection
+directionBetween l p = cond (eqb (after Forward l) p) (Going Forward) (cond (eqb (after Reverse l) p) (Going Reverse) NoDirection)
 
 -- How a piece stands to those before it: it is the next one in its direction; the direction that it leaves; it keeps the lock.
 pub record Standing : Type 0 where
@@ -109,9 +109,9 @@ outOfOrder c (Going d) NoDirection = ordered false (Going d) false
 -- A piece after a last piece, in a direction: it is the next one, or out of order. The first piece of all is not the next one.
 abbrev pub orderAfter : Control → MaybePiece → MaybeDirection → ℕ → Standing
 orderAfter c NoPiece d p = ordered false d true
-orderAfter c (Piece l) NoDirection p = outOfOrder c NoDirection (found l p)
+orderAfter c (Piece l) NoDirection p = outOfOrder c NoDirection (directionBetween l p)
 orderAfter c (Piece l) (Going d) p =
-    cond (eqb (after d l) p) (ordered true (Going d) true) (outOfOrder c (Going d) (found l p))
+    cond (eqb (after d l) p) (ordered true (Going d) true) (outOfOrder c (Going d) (directionBetween l p))
 
 -- How a piece stands to those before it.
 unfoldable pub orderOf : Control → ℕ → Standing
@@ -162,13 +162,13 @@ jumps NoTime d raw = false
 jumps (Time t) d raw = not (sameTime (addFrames t (move d)) raw)
 
 -- The report of a label, after a previous one.
-abbrev pub reported : MtcTime → Direction → MaybeTime → MtcSequence
-reported raw d previous =
+abbrev pub sequenceOfLabel : MtcTime → Direction → MaybeTime → MtcSequence
+sequenceOfLabel raw d previous =
     record { raw = raw; current = addFrames raw (offset d); direction = d; discontinuity = jumps previous d raw }
 
 -- The report of a reader that holds eight pieces.
 unfoldable pub sequenceOf : MtcReader → MtcSequence
-sequenceOf r = reported (rawOf (r .nibbles)) (directionOf (r .direction)) (r .previous)
+sequenceOf r = sequenceOfLabel (rawOf (r .nibbles)) (directionOf (r .direction)) (r .previous)
 
 -- The reader that a whole sequence leaves.
 abbrev pub completed : MtcReader → MtcReader
@@ -188,8 +188,8 @@ completed r =
 -- ---- one piece
 
 -- The reader after a piece, with these nibbles, count and first piece.
-abbrev pub taking : MtcReader → Standing → ℕ → List ℕ → ℕ → ℕ → MtcReader
-taking r o p nibbles count first =
+abbrev pub withPiece : MtcReader → Standing → ℕ → List ℕ → ℕ → ℕ → MtcReader
+withPiece r o p nibbles count first =
     record {
       nibbles = nibbles;
       count = count;
@@ -204,20 +204,20 @@ taking r o p nibbles count first =
 
 -- A piece that belongs to no sequence.
 abbrev pub passed : MtcReader → Standing → ℕ → MtcReader
-passed r o p = taking r o p (r .nibbles) 0 (r .first)
+passed r o p = withPiece r o p (r .nibbles) 0 (r .first)
 
 -- The n-th piece of a sequence.
 abbrev pub stored : MtcReader → Standing → ℕ → ℕ → ℕ → MtcReader
-stored r o n p v = taking r o p (set (r .nibbles) p v) (n % 8) (cond (eqb n 1) p (r .first))
+stored r o n p v = withPiece r o p (set (r .nibbles) p v) (n % 8) (cond (eqb n 1) p (r .first))
 
 -- By the piece's number: it passes, completes a sequence, or is kept.
-abbrev pub readerBy : MtcReader → Standing → ℕ → ℕ → ℕ → MtcReader
-readerBy r o n p v =
+abbrev pub readerByNumber : MtcReader → Standing → ℕ → ℕ → ℕ → MtcReader
+readerByNumber r o n p v =
     cond (eqb n 0) (passed r o p) (cond (eqb n 8) (completed (stored r o n p v)) (stored r o n p v))
 
 -- Only the eighth piece reports.
-abbrev pub reportBy : MtcReader → Standing → ℕ → ℕ → ℕ → MaybeSequence
-reportBy r o n p v = cond (eqb n 8) (Sequence (sequenceOf (stored r o n p v))) NoSequence
+abbrev pub reportByNumber : MtcReader → Standing → ℕ → ℕ → ℕ → MaybeSequence
+reportByNumber r o n p v = cond (eqb n 8) (Sequence (sequenceOf (stored r o n p v))) NoSequence
 
 -- A piece, with pieces 0 and 4 marking frame boundaries, and what it reports.
 abbrev pub eventWith : ℕ → MaybeSequence → MtcEvent
@@ -225,20 +225,20 @@ eventWith p s = record { piece = p; boundary = eqb p 0 || eqb p 4; sequence = s 
 
 -- The reader that a piece and its value leave, and what they report.
 unfoldable pub afterPiece : MtcReader → ℕ → ℕ → MtcReader
-afterPiece r p v = readerBy r (orderOf (control r) p) (numberOf (control r) (orderOf (control r) p) p) p v
+afterPiece r p v = readerByNumber r (orderOf (control r) p) (numberOf (control r) (orderOf (control r) p) p) p v
 
 unfoldable pub reportOf : MtcReader → ℕ → ℕ → MaybeSequence
-reportOf r p v = reportBy r (orderOf (control r) p) (numberOf (control r) (orderOf (control r) p) p) p v
+reportOf r p v = reportByNumber r (orderOf (control r) p) (numberOf (control r) (orderOf (control r) p) p) p v
 
 -- ---- the calls
 
 -- The reader that a data byte leaves.
 abbrev pub afterByte : MtcReader → ℕ → MtcReader
-afterByte r byte = afterPiece (taken r) (pieceOf byte) (valueOf byte)
+afterByte r byte = afterPiece (orFresh r) (pieceOf byte) (valueOf byte)
 
 -- What a data byte gives.
 abbrev pub eventOf : MtcReader → ℕ → MtcEvent
-eventOf r byte = eventWith (pieceOf byte) (reportOf (taken r) (pieceOf byte) (valueOf byte))
+eventOf r byte = eventWith (pieceOf byte) (reportOf (orFresh r) (pieceOf byte) (valueOf byte))
 
 -- Where a report's labels stay: the reader that it leaves has both, and without a report those that it had.
 abbrev pub ReportLabels : MaybeSequence → MtcReader → MtcReader → Type 0
@@ -262,4 +262,4 @@ informed r t =
 
 -- The reader that a full message leaves.
 abbrev pub afterFullMessage : MtcReader → MtcTime → MtcReader
-afterFullMessage r t = informed (taken r) t
+afterFullMessage r t = informed (orFresh r) t

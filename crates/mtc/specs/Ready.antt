@@ -5,7 +5,7 @@ use mathlib.Core.Logic.{_⊎_}
 use mathlib.Core.Path.{_≡_}
 use Rattle.mtc.specs.Generator.{first}
 use Rattle.mtc.specs.QuarterFrame.{valueOf}
-use Rattle.mtc.specs.Reader.{Sound, Control, control, orderOf, numberOf, rawOf, reported}
+use Rattle.mtc.specs.Reader.{Sound, Control, control, orderOf, numberOf, rawOf, sequenceOfLabel}
 use Rattle.mtc.specs.Stream.{byte, afterCalls, events, silent, inOrder}
 use Rattle.labels.specs.declared.time.MtcTime.{MtcTime}
 use Rattle.mtc.specs.declared.generator.Direction.{Direction}
@@ -37,8 +37,8 @@ abbrev pub eightPieces : Direction → List ℕ
 eightPieces d = inOrder d (0 ∷ 1 ∷ 2 ∷ 3 ∷ 4 ∷ 5 ∷ 6 ∷ 7 ∷ [])
 
 -- The label that the nibbles of eight bytes make, which came in a direction's order.
-abbrev pub labelIn : Direction → List ℕ → MtcTime
-labelIn d bs = rawOf (map valueOf (inOrder d bs))
+abbrev pub labelOfBytes : Direction → List ℕ → MtcTime
+labelOfBytes d bs = rawOf (map valueOf (inOrder d bs))
 
 -- The reader that data bytes leave.
 abbrev pub afterBytes : MtcReader → List ℕ → MtcReader
@@ -46,7 +46,7 @@ afterBytes r bs = afterCalls r (map byte bs)
 
 -- Eight bytes are read as a label: seven report nothing, the eighth reports the label, and the reader is ready for the next
 -- sequence, with the label as the previous one.
-pub record Reads (d : Direction) (bs : List ℕ) (t : MtcTime) (r : MtcReader) : Type 0 where
-  pub reports : map (λ e. e .sequence) (events r bs) ≡ silent 7 ++ (Sequence (reported t d (r .previous)) ∷ [])
+pub record ReadsLabel (d : Direction) (bs : List ℕ) (t : MtcTime) (r : MtcReader) : Type 0 where
+  pub reports : map (λ e. e .sequence) (events r bs) ≡ silent 7 ++ (Sequence (sequenceOfLabel t d (r .previous)) ∷ [])
   pub ready : Ready d (afterBytes r bs)
   pub previous : afterBytes r bs .previous ≡ Time t

@@ -31,14 +31,14 @@ abbrev pub runFrom : MtcGenerator → MtcTime → Direction → MtcGenerator
 runFrom g t d = withRunning (withDirection (located g t) d) true
 
 -- The byte of an answer; a refusal sends none.
-abbrev pub byteOf : Answer ℕ → List ℕ
-byteOf (gives b) = b ∷ []
-byteOf (refused e) = []
+abbrev pub byteAnswered : Answer ℕ → List ℕ
+byteAnswered (gives b) = b ∷ []
+byteAnswered (refused e) = []
 
 -- The bytes of so many calls.
-unfoldable pub sent : ℕ → MtcGenerator → List ℕ
-sent zero g = []
-sent (suc n) g = byteOf (nextByte g) ++ sent n (afterNextByte g)
+unfoldable pub bytesSent : ℕ → MtcGenerator → List ℕ
+bytesSent zero g = []
+bytesSent (suc n) g = byteAnswered (nextByte g) ++ bytesSent n (afterNextByte g)
 
 -- ---- the reader's calls
 
@@ -79,9 +79,9 @@ silent n = replicate n NoSequence
 -- ---- the claim
 
 -- What the n-th byte reports; the first is number 1.
-abbrev pub report : ℕ → List MtcEvent → MaybeSequence
-report zero es = NoSequence
-report (suc n) es = getD (map (λ e. e .sequence) es) n NoSequence
+abbrev pub nthReport : ℕ → List MtcEvent → MaybeSequence
+nthReport zero es = NoSequence
+nthReport (suc n) es = getD (map (λ e. e .sequence) es) n NoSequence
 
 -- So many frames on forward, so many back in reverse.
 abbrev pub frames : Direction → ℕ → ℕ → ℤ
@@ -93,8 +93,8 @@ abbrev pub shifted : MtcTime → Direction → ℕ → ℕ → MtcTime
 shifted t d on back = addFrames t (frames d on back)
 
 -- A report of a raw and a current time.
-abbrev pub reporting : Direction → MtcTime → MtcTime → Bool → MaybeSequence
-reporting d raw current jump =
+abbrev pub reportWith : Direction → MtcTime → MtcTime → Bool → MaybeSequence
+reportWith d raw current jump =
     Sequence (record { raw = raw; current = current; direction = d; discontinuity = jump })
 
 -- The seven pieces after which a direction's first piece ends a sequence of the other direction.
@@ -107,25 +107,25 @@ pub record Answers (calls : List Call) (d : Direction) (t : MtcTime) (es : List 
   -- there are twenty-four
   pub count : length es ≡ 24
   -- the first reports nothing, unless the last seven bytes were pieces 7 down to 1 (reverse: 0 up to 6)
-  pub first : (report 1 es ≡ NoSequence) ⊎ (map pieceOf (lastSeven calls) ≡ sevenBefore d)
+  pub first : (nthReport 1 es ≡ NoSequence) ⊎ (map pieceOf (lastSeven calls) ≡ sevenBefore d)
   -- the eighth reports nothing or T, with T plus 2 as the current time (reverse: minus 1)
   pub eighth :
-      (report 8 es ≡ NoSequence)
-      ⊎ ((jump : Bool) × (report 8 es ≡ reporting d t (shifted t d 2 1) jump))
+      (nthReport 8 es ≡ NoSequence)
+      ⊎ ((jump : Bool) × (nthReport 8 es ≡ reportWith d t (shifted t d 2 1) jump))
   -- the sixteenth reports T plus 2 and T plus 4 (reverse: minus 2, minus 3)
   pub sixteenth :
       (jump : Bool)
-      × (report 16 es ≡ reporting d (shifted t d 2 2) (shifted t d 4 3) jump)
+      × (nthReport 16 es ≡ reportWith d (shifted t d 2 2) (shifted t d 4 3) jump)
   -- the twenty-fourth reports T plus 4 and T plus 6 (reverse: minus 4, minus 5), without a discontinuity
-  pub twentyFourth : report 24 es ≡ reporting d (shifted t d 4 4) (shifted t d 6 5) false
+  pub twentyFourth : nthReport 24 es ≡ reportWith d (shifted t d 4 4) (shifted t d 6 5) false
   -- no other byte reports
-  pub others : (n : ℕ) → n ≢ 1 → n ≢ 8 → n ≢ 16 → n ≢ 24 → report n es ≡ NoSequence
+  pub others : (n : ℕ) → n ≢ 1 → n ≢ 8 → n ≢ 16 → n ≢ 24 → nthReport n es ≡ NoSequence
 
 -- The stream law: after any list of calls from fresh on, whatever the generator's record was, for every valid T and each direction.
 abbrev pub StreamLaw : Type 0
 StreamLaw =
     (calls : List Call) (g : MtcGenerator) (t : MtcTime) (d : Direction) → T (isValid t)
-    → Answers calls d t (events (afterCalls fresh calls) (sent 24 (runFrom g t d)))
+    → Answers calls d t (events (afterCalls fresh calls) (bytesSent 24 (runFrom g t d)))
 
 -- A label's eight data bytes in a direction's order.
 abbrev pub inOrder : Direction → List ℕ → List ℕ
@@ -136,6 +136,6 @@ inOrder Reverse ps = reverse ps
 abbrev pub SentLaw : Type 0
 SentLaw =
     (g : MtcGenerator) (t : MtcTime) (d : Direction)
-    → sent 24 (runFrom g t d)
+    → bytesSent 24 (runFrom g t d)
     ≡ inOrder d (pieces t)
     ++ (inOrder d (pieces (shifted t d 2 2)) ++ inOrder d (pieces (shifted t d 4 4)))

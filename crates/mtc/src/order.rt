@@ -8,7 +8,7 @@ ghost use mathlib.Core.Path.{_≡_};
 ghost use Prim.Native.Nat.{_≤_};
 ghost use mathlib.Core.Bool.{cond};
 ghost use lib.Dec.{T};
-ghost use Rattle.mtc.specs.Reader.{isSound, control, ordered, found, outOfOrder, orderOf, starts, numberOf};
+ghost use Rattle.mtc.specs.Reader.{isSound, control, ordered, directionBetween, outOfOrder, orderOf, starts, numberOf};
 
 // How a piece stands to those before it: whether it is the next one, the direction that it leaves, and whether it keeps the
 // lock.
@@ -29,12 +29,12 @@ pub(crate) fn order_of(r: MtcReader, p: u8) -> Order
         return ordered(false, direction, true);
     };
     match direction {
-        MaybeDirection::NoDirection => out_of_order(r, direction, found(l, p)),
+        MaybeDirection::NoDirection => out_of_order(r, direction, direction_between(l, p)),
         MaybeDirection::Going(d) => {
             if d.after(l) == p {
                 return ordered(true, direction, true);
             }
-            out_of_order(r, direction, found(l, p))
+            out_of_order(r, direction, direction_between(l, p))
         }
     }
 }
@@ -84,9 +84,9 @@ fn ordered(next: bool, direction: MaybeDirection, keeps: bool) -> Order
 }
 
 // The direction in which `p` comes right after `last`.
-fn found(last: u8, p: u8) -> MaybeDirection
+fn direction_between(last: u8, p: u8) -> MaybeDirection
     requires { ⌜ last ≤ 7 ⌝ }
-    ensures { λ r. ⌜ r ≡ found last p ⌝ }
+    ensures { λ r. ⌜ r ≡ directionBetween last p ⌝ }
 {
     if Direction::Forward.after(last) == p {
         return MaybeDirection::Going(Direction::Forward);

@@ -13,7 +13,7 @@ ghost use Prim.Native.Nat.{_≤_};
 ghost use mathlib.Core.Bool.{cond};
 ghost use lib.Dec.{T, eqb};
 ghost use Rattle.labels.specs.Time.{addFrames};
-ghost use Rattle.mtc.specs.Reader.{fresh, nibblesFit, pieceFits, isSound, taken, ordered, rawOf, offset, directionOf, sameTime, jumps, reported, sequenceOf, completed, taking, passed, stored, eventWith, afterByte, eventOf, afterFullMessage};
+ghost use Rattle.mtc.specs.Reader.{fresh, nibblesFit, pieceFits, isSound, orFresh, ordered, rawOf, offset, directionOf, sameTime, jumps, sequenceOfLabel, sequenceOf, completed, withPiece, passed, stored, eventWith, afterByte, eventOf, afterFullMessage};
 
 // A direction, or none yet.
 pub enum MaybeDirection {
@@ -109,7 +109,7 @@ impl MtcReader {
     pub fn step(self, byte: u8) -> Stepped
         ensures { λ r. ⌜ (r .reader ≡ afterByte self byte) × (r .event ≡ eventOf self byte) ⌝ }
     {
-        let r = self.taken();
+        let r = self.or_fresh();
         let q = QuarterFrame::from_byte(byte);
         let p = q.piece;
         let o = order_of(r, p);
@@ -134,7 +134,7 @@ impl MtcReader {
     pub fn informed(self, message: FullMessage) -> Self
         ensures { λ r. ⌜ r ≡ afterFullMessage self (message .time) ⌝ }
     {
-        let r = self.taken();
+        let r = self.or_fresh();
         let nibbles = r.nibbles;
         let direction = r.direction;
         let previous = MaybeTime::NoTime;
@@ -154,39 +154,39 @@ impl MtcReader {
 
     // True after a full sequence, until a broken order, a turn or a full message.
     pub fn is_locked(self) -> bool
-        ensures { λ r. ⌜ r ≡ taken self .locked ⌝ }
+        ensures { λ r. ⌜ r ≡ orFresh self .locked ⌝ }
     {
-        let r = self.taken();
+        let r = self.or_fresh();
         r.locked
     }
 
     // True after a data byte, false after a full message.
     pub fn is_running(self) -> bool
-        ensures { λ r. ⌜ r ≡ taken self .running ⌝ }
+        ensures { λ r. ⌜ r ≡ orFresh self .running ⌝ }
     {
-        let r = self.taken();
+        let r = self.or_fresh();
         r.running
     }
 
     // The direction, once two pieces gave it.
     pub fn direction(self) -> MaybeDirection
-        ensures { λ r. ⌜ r ≡ taken self .direction ⌝ }
+        ensures { λ r. ⌜ r ≡ orFresh self .direction ⌝ }
     {
-        let r = self.taken();
+        let r = self.or_fresh();
         r.direction
     }
 
     // The current time of the last full sequence, or the time of a full message after it.
     pub fn time(self) -> MaybeTime
-        ensures { λ r. ⌜ r ≡ taken self .time ⌝ }
+        ensures { λ r. ⌜ r ≡ orFresh self .time ⌝ }
     {
-        let r = self.taken();
+        let r = self.or_fresh();
         r.time
     }
 
     // The record itself, or a fresh one.
-    fn taken(self) -> Self
-        ensures { λ r. ⌜ (r ≡ taken self) × T (isSound r) ⌝ }
+    fn or_fresh(self) -> Self
+        ensures { λ r. ⌜ (r ≡ orFresh self) × T (isSound r) ⌝ }
     {
         if self.is_sound() {
             return self;
@@ -213,8 +213,8 @@ impl MtcReader {
     }
 
     // The reader after a piece, with these nibbles, count and first piece.
-    fn taking(self, o: Order, p: u8, nibbles: [u8; 8], count: u8, first: u8) -> Self
-        ensures { λ r. ⌜ r ≡ taking self (ordered (o .next) (o .direction) (o .keeps)) p nibbles count first ⌝ }
+    fn with_piece(self, o: Order, p: u8, nibbles: [u8; 8], count: u8, first: u8) -> Self
+        ensures { λ r. ⌜ r ≡ withPiece self (ordered (o .next) (o .direction) (o .keeps)) p nibbles count first ⌝ }
     {
         let direction = o.direction;
         let previous = self.previous;
@@ -237,7 +237,7 @@ impl MtcReader {
         ensures { λ r. ⌜ r ≡ passed self (ordered (o .next) (o .direction) (o .keeps)) p ⌝ }
     {
         let nibbles = self.nibbles;
-        self.taking(o, p, nibbles, 0, self.first)
+        self.with_piece(o, p, nibbles, 0, self.first)
     }
 
     // The reader after the n-th piece of a sequence.
@@ -247,7 +247,7 @@ impl MtcReader {
     {
         let mut nibbles = self.nibbles;
         nibbles[p as usize] = value;
-        self.taking(o, p, nibbles, n % 8, began(n, p, self.first))
+        self.with_piece(o, p, nibbles, n % 8, began(n, p, self.first))
     }
 
     // The end of a full sequence, at its last piece.
@@ -349,7 +349,7 @@ fn way(direction: MaybeDirection) -> Direction
 
 // What a full sequence reports after a previous label.
 fn report(raw: MtcTime, direction: Direction, previous: MaybeTime) -> MtcSequence
-    ensures { λ r. ⌜ r ≡ reported raw direction previous ⌝ }
+    ensures { λ r. ⌜ r ≡ sequenceOfLabel raw direction previous ⌝ }
 {
     MtcSequence {
         raw,

@@ -14,13 +14,10 @@ use Rattle.mtc.specs.Reader.{pieceFits}
 use Rattle.mtc.specs.declared.generator.MtcGenerator.{MtcGenerator}
 use Rattle.labels.specs.declared.time.MtcTime.{MtcTime}
 use Rattle.labels.proofs.Laws.{next-valid-valid, next-valid-least}
+use Rattle.universal.proofs.Tests.{holds-true}
 use Rattle.universal.specs.Message.{isAddressed}
 use Rattle.universal.specs.Refusals.{gives}
-use Rattle.transport.specs.Transport.{resolved, Outcome, notMine, unchanged, locatedAt, acted, applied}
-
-pub is-true : (b : Bool) → T b → b ≡ true
-is-true true h = refl
-is-true false h = absurd h
+use Rattle.transport.specs.Transport.{resolved, Outcome, notMine, unchanged, locateOutcome, acted, applied}
 
 -- ---- a target
 
@@ -43,26 +40,26 @@ valid-some c t b e v = rw (b, ← e, v)
 
 -- A valid label that is not blank is itself.
 pub valid-same : (c : StandardTimeCode) → c .blank ≡ false → T (isValid (c .time)) → resolved c ≡ some (c .time)
-valid-same c b v = valid-some c (c .time) b (sym (next-valid-valid (c .time) v)) (is-true (isValid (c .time)) v)
+valid-same c b v = valid-some c (c .time) b (sym (next-valid-valid (c .time) v)) (holds-true (isValid (c .time)) v)
 
 -- A skipped label that is not blank, with hours and minutes in range, is the least valid label above it.
 pub skipped-moved : (c : StandardTimeCode) → c .blank ≡ false → T (isSkipped (c .time)) → c .time .hours ≤ 23 → c .time .minutes ≤ 59
     → (resolved c ≡ some (nextValid (c .time))) × LeastAbove (c .time) (nextValid (c .time))
 skipped-moved c b k h m =
     let l : LeastAbove (c .time) (nextValid (c .time)) = next-valid-least (c .time) k h m in
-    (valid-some c (nextValid (c .time)) b refl (is-true (isValid (nextValid (c .time))) (l .valid)), l)
+    (valid-some c (nextValid (c .time)) b refl (holds-true (isValid (nextValid (c .time))) (l .valid)), l)
 
 -- ---- a command
 
 -- A command that is known as another.
-pub told : (g : MtcGenerator) (c d : MmcCommand) (o : Outcome) → c ≡ d → o ≡ acted g d → o ≡ acted g c
-told g c d o e h = h ∙ ap (acted g) (sym e)
+pub acted-as : (g : MtcGenerator) (c d : MmcCommand) (o : Outcome) → c ≡ d → o ≡ acted g d → o ≡ acted g c
+acted-as g c d o e h = h ∙ ap (acted g) (sym e)
 
 -- Locate to a target that is known to resolve so.
-pub located-so : (g : MtcGenerator) (c : StandardTimeCode) (t : Option MtcTime) (o : Outcome) → resolved c ≡ t → o ≡ locatedAt g t
+pub located-so : (g : MtcGenerator) (c : StandardTimeCode) (t : Option MtcTime) (o : Outcome) → resolved c ≡ t → o ≡ locateOutcome g t
     → o ≡ acted g (LocateTarget c)
 unfolding acted
-located-so g c t o e h = h ∙ ap (locatedAt g) (sym e)
+located-so g c t o e h = h ∙ ap (locateOutcome g) (sym e)
 
 -- ---- a call
 
@@ -89,7 +86,7 @@ mine g device own c h k a = rw (le-leb device 127 h, le-leb own 127 k, a)
 
 -- ---- a generator's last piece
 
-located-fits : (g : MtcGenerator) (t : Option MtcTime) → T (pieceFits (g .last)) → T (pieceFits (locatedAt g t .generator .last))
+located-fits : (g : MtcGenerator) (t : Option MtcTime) → T (pieceFits (g .last)) → T (pieceFits (locateOutcome g t .generator .last))
 located-fits g none h = h
 located-fits g (some t) h = tt
 

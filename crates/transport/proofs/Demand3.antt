@@ -22,11 +22,12 @@ use Rattle.mtc.specs.declared.generator.Direction.the-variants.{Forward, Revers
 use Rattle.mtc.specs.declared.generator.MtcGenerator.{MtcGenerator}
 use Rattle.labels.specs.declared.time.MtcTime.{MtcTime}
 use Rattle.mtc.proofs.Laws.{stream-law}
+use Rattle.universal.proofs.Tests.{holds-true}
 use Rattle.universal.specs.Message.{isAddressed}
 use Rattle.universal.specs.Refusals.{Answer, gives}
 use Rattle.transport.specs.Transport.{resolved}
 use Rattle.transport.specs.Demand3.{Run, obeyMessage, obeyed, appliedAll, appliedWalk, EndsAt, Promised, endingAt, Demand3, Demand3Reverse, Demand3Written}
-use Rattle.transport.proofs.Acting.{is-true, valid-same}
+use Rattle.transport.proofs.Acting.{valid-same}
 use Rattle.transport.proofs.Obeying.{read-acts, applied-append, resolved-valid, locate-play}
 
 -- ---- demand 3
@@ -45,7 +46,7 @@ generator-at : (s : List ℕ) (device own : ℕ) (g : MtcGenerator) (t : MtcTime
 generator-at s device own g t h k a e =
     ap (appliedAll device own g) (e .read)
     ∙ applied-append device own g (e .before) (LocateTarget (e .target) ∷ Play ∷ [])
-    ∙ locate-play device own (appliedAll device own g (e .before)) (e .target) t h k (is-true (isAddressed device own) a) (e .resolves)
+    ∙ locate-play device own (appliedAll device own g (e .before)) (e .target) t h k (holds-true (isAddressed device own) a) (e .resolves)
 
 promised : (gs : List (Given Commands)) (device own : ℕ) (s : List ℕ) (g : MtcGenerator) (calls : List Call) (t : MtcTime)
     → ReadBack Commands device gs s → own ≤ 127 → T (isAddressed device own) → EndsAt s t → Promised s device own g calls t

@@ -14,9 +14,9 @@ use Rattle.mtc.specs.declared.reader.MaybeSequence.the-variants.{NoSequence, Se
 use Rattle.mtc.specs.declared.reader.MtcEvent.{MtcEvent}
 use Rattle.mtc.specs.Generator.{nextByte, afterNextByte, started}
 use Rattle.mtc.specs.QuarterFrame.{pieces}
-use Rattle.mtc.specs.Reader.{fresh, nibblesFit, isSound, taken, orderOf, numberOf, sequenceOf, afterPiece, reportOf}
+use Rattle.mtc.specs.Reader.{fresh, nibblesFit, isSound, orFresh, orderOf, numberOf, sequenceOf, afterPiece, reportOf}
 use Rattle.labels.specs.St12.{label, isValid}
-use Rattle.mtc.specs.Stream.{sent, byte, afterCalls, events}
+use Rattle.mtc.specs.Stream.{bytesSent, byte, afterCalls, events}
 use Rattle.labels.specs.Time.{addFrames, bitsOf}
 use Rattle.mtc.specs.UserBits.{groupBytes}
 use mathlib.Core.Bool.{false}
@@ -27,7 +27,7 @@ use Rattle.mmc.specs.declared.length.Kind.the-variants.{Commands}
 use Rattle.mmc.specs.declared.part.Part.{Part}
 use Rattle.codes.specs.declared.time_code.FinalByte.the-variants.{Subframes}
 use Rattle.codes.specs.declared.time_code.StandardTimeCode.{StandardTimeCode}
-use Rattle.mmc.specs.Command.{readCommand, readByte, readLocate, nextCommand}
+use Rattle.mmc.specs.Command.{readCommand, commandByName, readLocate, nextCommand}
 use Rattle.mmc.specs.Item.{commandItem, locateTargetItem, locateFieldItem, standardItem}
 use Rattle.mmc.specs.Length.{commandLength, lengthOf}
 use Rattle.mmc.specs.Part.{isInside, partOf}
@@ -35,7 +35,7 @@ use Rattle.mmc.specs.Split.{prefixesAt, measured, splitAt, next}
 use Rattle.mmc.specs.Strings.{Given, given, Walk, walkFrom, readFrom, commandsRead}
 use Rattle.codes.specs.TimeCode.{standardFits, standardList}
 use Rattle.mmc.specs.Write as W
-use Rattle.mmc.specs.Write.{sound, openedCommands, begun, ready, admitted, closedMessage, wholeMessage}
+use Rattle.mmc.specs.Write.{orFailed, openedCommands, begun, ready, admitted, closedMessage, wholeMessage}
 use Rattle.mmc.specs.Writings.{afterItems, stringState, stringAnswer, stringLeft}
 use Rattle.universal.specs.Refusals.{Refusal, Answer, gives, refused}
 use Rattle.universal.specs.Message.{opening}
@@ -66,13 +66,13 @@ currents [] = []
 currents (e ∷ es) = current (e .sequence) ++ currents es
 
 -- The numbers of the events that report, counted from n.
-abbrev reporting : ℕ → MaybeSequence → List ℕ
-reporting n NoSequence = []
-reporting n (Sequence s) = n ∷ []
+abbrev reportNumber : ℕ → MaybeSequence → List ℕ
+reportNumber n NoSequence = []
+reportNumber n (Sequence s) = n ∷ []
 
-abbrev reports : ℕ → List MtcEvent → List ℕ
-reports n [] = []
-reports n (e ∷ es) = reporting n (e .sequence) ++ reports (suc n) es
+abbrev reportNumbers : ℕ → List MtcEvent → List ℕ
+reportNumbers n [] = []
+reportNumbers n (e ∷ es) = reportNumber n (e .sequence) ++ reportNumbers (suc n) es
 
 abbrev refusalNumbers : Refusal → List ℕ
 refusalNumbers r = r .number ∷ r .values
@@ -125,8 +125,8 @@ locatePlay subframes = given Commands [] (LocateTarget (target subframes)) ∷ g
 abbrev locateSeven : List (Given Commands)
 locateSeven = given Commands [] (LocateField 7) ∷ []
 
-abbrev stops : ℕ → List (Given Commands)
-stops n = replicate n (given Commands [] Stop)
+abbrev stopCommands : ℕ → List (Given Commands)
+stopCommands n = replicate n (given Commands [] Stop)
 
 pub table : List Row
 table =
@@ -142,7 +142,7 @@ table =
     -- backwards, 76H first: current 01:37:52:15
     ∷ row (currents (events fresh (reverse (pieces t)))) (1 ∷ 37 ∷ 52 ∷ 15 ∷ 3 ∷ [])
     -- a fresh reader given 76 61 H, then a forward stream, first reports at that stream's sixteenth byte
-    ∷ row (reports 1 (events (afterCalls fresh (byte 0x76 ∷ byte 0x61 ∷ [])) (sent 24 (started t Forward)))) (16 ∷ 24 ∷ [])
+    ∷ row (reportNumbers 1 (events (afterCalls fresh (byte 0x76 ∷ byte 0x61 ∷ [])) (bytesSent 24 (started t Forward)))) (16 ∷ 24 ∷ [])
     -- user groups 1 to 8 give 87 65 43 21 H
     ∷ row (groupBytes (1 ∷ 2 ∷ 3 ∷ 4 ∷ 5 ∷ 6 ∷ 7 ∷ 8 ∷ [])) (0x87 ∷ 0x65 ∷ 0x43 ∷ 0x21 ∷ [])
     -- Locate 01:00:00:00 at 25, subframes 0, then Play, device 7FH: a buffer of 14 passes
@@ -157,9 +157,9 @@ table =
     ∷ row (readNumbers (commandsRead (0 ∷ []))) (2 ∷ [])
     ∷ row (readNumbers (commandsRead (0 ∷ 0 ∷ 0 ∷ []))) (255 ∷ 0 ∷ 3 ∷ 3 ∷ 0 ∷ 9 ∷ [])
     -- 48 Stops pass, 49 and 0 are 2
-    ∷ row (answerNumbers (stringAnswer Commands 0 (stops 48) (replicate 60 0xEE))) (0 ∷ 53 ∷ [])
-    ∷ row (answerNumbers (stringAnswer Commands 0 (stops 49) (replicate 60 0xEE))) (2 ∷ [])
-    ∷ row (answerNumbers (stringAnswer Commands 0 (stops 0) (replicate 60 0xEE))) (2 ∷ [])
+    ∷ row (answerNumbers (stringAnswer Commands 0 (stopCommands 48) (replicate 60 0xEE))) (0 ∷ 53 ∷ [])
+    ∷ row (answerNumbers (stringAnswer Commands 0 (stopCommands 49) (replicate 60 0xEE))) (2 ∷ [])
+    ∷ row (answerNumbers (stringAnswer Commands 0 (stopCommands 0) (replicate 60 0xEE))) (2 ∷ [])
     -- 44 02 00 07 H reads as Locate field 7; writing that is 3
     ∷ row (readNumbers (commandsRead (0x44 ∷ 0x02 ∷ 0x00 ∷ 0x07 ∷ []))) (68 ∷ 0 ∷ 7 ∷ 9 ∷ [])
     ∷ row (answerNumbers (stringAnswer Commands 127 locateSeven (replicate 9 0xEE))) (3 ∷ [])
@@ -171,5 +171,5 @@ table =
     ∷ []
 
 pub instances : map (λ (r : Row). r .given) table ≡ map (λ (r : Row). r .stated) table
-unfolding table groupBytes pieces events sent afterCalls nextByte afterNextByte nibblesFit isSound taken orderOf numberOf sequenceOf afterPiece reportOf addFrames stringAnswer stringLeft stringState afterItems openedCommands begun sound ready admitted W.given closedMessage wholeMessage commandItem locateTargetItem locateFieldItem standardItem standardFits standardList isValid opening overlay readFrom walkFrom nextCommand next splitAt prefixesAt measured lengthOf commandLength readCommand readByte readLocate partOf isInside
+unfolding table groupBytes pieces events bytesSent afterCalls nextByte afterNextByte nibblesFit isSound orFresh orderOf numberOf sequenceOf afterPiece reportOf addFrames stringAnswer stringLeft stringState afterItems openedCommands begun orFailed ready admitted W.writingAfter closedMessage wholeMessage commandItem locateTargetItem locateFieldItem standardItem standardFits standardList isValid opening overlay readFrom walkFrom nextCommand next splitAt prefixesAt measured lengthOf commandLength readCommand commandByName readLocate partOf isInside
 instances = refl

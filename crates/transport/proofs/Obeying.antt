@@ -22,7 +22,7 @@ use Rattle.mtc.specs.declared.generator.MtcGenerator.{MtcGenerator}
 use Rattle.labels.specs.declared.time.MtcTime.{MtcTime}
 use Rattle.universal.specs.Message.{isAddressed}
 use Rattle.universal.specs.Refusals.{Refusal, refusal, Answer, gives, refused}
-use Rattle.transport.specs.Transport.{notMine, Outcome, resolved, unchanged, locatedAt, acted, applied}
+use Rattle.transport.specs.Transport.{notMine, Outcome, resolved, unchanged, locateOutcome, acted, applied}
 use Rattle.transport.specs.Demand3.{Run, answered, onRead, obeyFrom, appliedAll, answersTo, appliedWalk, ReadActs, CutActs, RefusedPasses}
 use Rattle.transport.proofs.Acting.{mine}
 
@@ -85,7 +85,7 @@ cut-acts a b device own g h k =
 -- ---- refused commands
 
 -- A target that resolves to none, or to a label.
-refused-locate : (g : MtcGenerator) (t : Option MtcTime) (r : Refusal) → locatedAt g t .answer ≡ refused r → locatedAt g t .generator ≡ g
+refused-locate : (g : MtcGenerator) (t : Option MtcTime) (r : Refusal) → locateOutcome g t .answer ≡ refused r → locateOutcome g t .generator ≡ g
 refused-locate g (some t) r h = let z : _≡_ {A = ℕ} 0 1 = cc in absurd (omega arith)
 refused-locate g none r h = refl
 
@@ -155,7 +155,7 @@ pub locate-play : (device own : ℕ) (g : MtcGenerator) (c : StandardTimeCode) (
     → appliedAll device own g (LocateTarget c ∷ Play ∷ []) ≡ runFrom g t Forward
 unfolding appliedAll acted
 locate-play device own g c t h k a e =
-    let l : applied g device own (LocateTarget c) ≡ locatedAt g (some t) =
-    mine g device own (LocateTarget c) h k a ∙ ap (locatedAt g) e in
+    let l : applied g device own (LocateTarget c) ≡ locateOutcome g (some t) =
+    mine g device own (LocateTarget c) h k a ∙ ap (locateOutcome g) e in
     ap (λ (o : Outcome). applied (o .generator) device own Play .generator) l
-    ∙ ap (λ (o : Outcome). o .generator) (mine (locatedAt g (some t) .generator) device own Play h k a)
+    ∙ ap (λ (o : Outcome). o .generator) (mine (locateOutcome g (some t) .generator) device own Play h k a)

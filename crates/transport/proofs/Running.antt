@@ -17,7 +17,7 @@ use Rattle.transport.specs.declared.run.TurnAnswer.the-variants as A
 use Rattle.transport.specs.declared.transport.Applied.{Applied}
 use Rattle.transport.specs.declared.transport.TransportAnswer.{TransportAnswer}
 use Rattle.transport.specs.Demand3.{Run, over, answered, onRead, obeyFrom, obey}
-use Rattle.transport.specs.Obey.{Told, Taking, takenBy, obeyNext, toldOf, turnOf, oneRefused, refusedIn, Summary, summedUp, summaryAfter}
+use Rattle.transport.specs.Obey.{CommandReply, TurnOutcome, turnBy, obeyNext, commandReplyOf, turnOf, oneRefused, refusedIn, Summary, summedUp, summaryAfter}
 use Rattle.transport.specs.Transport.{Outcome, applied, appliedOf, answerOf}
 use Rattle.transport.proofs.Obeying.{obey-more}
 use Rattle.universal.specs.Refusals.{Refusal, Answer, gives, refused, refusalOf}
@@ -33,40 +33,40 @@ module _ (body : List ℕ) (device own place : ℕ) (g : MtcGenerator) (n : Next
   unfolding obeyNext
   turn-read c b a e =
       ap (λ (o : Outcome). record { generator = o .generator; told = gives (record { command = c; reply = o .answer }); place = n .place }) e
-      ∙ ap (λ (x : Answer MmcCommand). takenBy x (n .place) (applied g device own) g) (sym (ap commandAnswerOf a))
-      ∙ ap (λ (x : Next MmcCommand). takenBy (x .answer) (x .place) (applied g device own) g) h
+      ∙ ap (λ (x : Answer MmcCommand). turnBy x (n .place) (applied g device own) g) (sym (ap commandAnswerOf a))
+      ∙ ap (λ (x : Next MmcCommand). turnBy (x .answer) (x .place) (applied g device own) g) h
 
   -- A refused read leaves the generator.
   pub turn-ended : (e : SysexError) → n .answer ≡ C.Refused e
       → record { generator = g; told = refused (refusalOf e); place = n .place } ≡ obeyNext body device own place g
   unfolding obeyNext
   turn-ended e a =
-      ap (λ (x : Answer MmcCommand). takenBy x (n .place) (applied g device own) g) (sym (ap commandAnswerOf a))
-      ∙ ap (λ (x : Next MmcCommand). takenBy (x .answer) (x .place) (applied g device own) g) h
+      ap (λ (x : Answer MmcCommand). turnBy x (n .place) (applied g device own) g) (sym (ap commandAnswerOf a))
+      ∙ ap (λ (x : Next MmcCommand). turnBy (x .answer) (x .place) (applied g device own) g) h
 
 -- ---- what a turn tells
 
 -- A turn that gave a command read it, and has the transport's answer to it and the generator that came back.
-record Gave (a : Answer MmcCommand) (act : MmcCommand → Outcome) (t : Taking) (x : Told) : Type 0 where
+record Gave (a : Answer MmcCommand) (act : MmcCommand → Outcome) (t : TurnOutcome) (x : CommandReply) : Type 0 where
   read : a ≡ gives (x .command)
   reply : x .reply ≡ act (x .command) .answer
   generator : t .generator ≡ act (x .command) .generator
 
-gave : (a : Answer MmcCommand) (place : ℕ) (act : MmcCommand → Outcome) (g : MtcGenerator) (x : Told)
-    → takenBy a place act g .told ≡ gives x → Gave a act (takenBy a place act g) x
+gave : (a : Answer MmcCommand) (place : ℕ) (act : MmcCommand → Outcome) (g : MtcGenerator) (x : CommandReply)
+    → turnBy a place act g .told ≡ gives x → Gave a act (turnBy a place act g) x
 gave (gives c) place act g x h =
     let e : record { command = c; reply = act c .answer } ≡ x = cc in
-    let k : c ≡ x .command = ap (λ (y : Told). y .command) e in
+    let k : c ≡ x .command = ap (λ (y : CommandReply). y .command) e in
     record {
       read = ap gives k;
-      reply = sym (ap (λ (y : Told). y .reply) e) ∙ ap (λ (y : MmcCommand). act y .answer) k;
+      reply = sym (ap (λ (y : CommandReply). y .reply) e) ∙ ap (λ (y : MmcCommand). act y .answer) k;
       generator = ap (λ (y : MmcCommand). act y .generator) k;
     }
 gave (refused r) place act g x h = let z : _≡_ {A = ℕ} 0 1 = cc in absurd (omega arith)
 
 -- A turn that gave none was a refused read.
 ended-by : (a : Answer MmcCommand) (place : ℕ) (act : MmcCommand → Outcome) (g : MtcGenerator) (r : Refusal)
-    → takenBy a place act g .told ≡ refused r → a ≡ refused r
+    → turnBy a place act g .told ≡ refused r → a ≡ refused r
 ended-by (gives c) place act g r h = let z : _≡_ {A = ℕ} 0 1 = cc in absurd (omega arith)
 ended-by (refused q) place act g r h = cc
 
@@ -107,14 +107,14 @@ module _ (body : List ℕ) (device own place : ℕ) (g : MtcGenerator) (t : Turn
   gives-told c r a =
       gave (nextCommand body place .answer) (nextCommand body place .place) (applied g device own) g
       (record { command = c; reply = answerOf r })
-      (ap (λ (x : Taking). x .told) (sym h) ∙ ap toldOf a)
+      (ap (λ (x : TurnOutcome). x .told) (sym h) ∙ ap commandReplyOf a)
 
   -- The place after it is that of the read.
   after-place : t .place ≡ nextCommand body place .place
   unfolding obeyNext
-  after-place = ap (λ (x : Taking). x .place) h ∙ go (nextCommand body place .answer)
+  after-place = ap (λ (x : TurnOutcome). x .place) h ∙ go (nextCommand body place .answer)
     where
-      go : (a : Answer MmcCommand) → takenBy a (nextCommand body place .place) (applied g device own) g .place ≡ nextCommand body place .place
+      go : (a : Answer MmcCommand) → turnBy a (nextCommand body place .place) (applied g device own) g .place ≡ nextCommand body place .place
       go (gives c) = refl
       go (refused r) = refl
 
@@ -137,7 +137,7 @@ module _ (body : List ℕ) (device own place : ℕ) (g : MtcGenerator) (t : Turn
     last-turn e a =
         let b : nextCommand body place .answer ≡ refused (refusalOf e) =
         ended-by (nextCommand body place .answer) (nextCommand body place .place) (applied g device own) g (refusalOf e)
-        (ap (λ (x : Taking). x .told) (sym h) ∙ ap toldOf a) in
+        (ap (λ (x : TurnOutcome). x .told) (sym h) ∙ ap commandReplyOf a) in
         sym (i
         ∙ ap (summaryAfter commands refusals) (obey-more (length body - commands) body device own place g ∙ ap (λ (x : Answer MmcCommand). onRead x rest g) b)
         ∙ ends-with commands refusals g (refusalOf e))
@@ -151,7 +151,7 @@ module _ (body : List ℕ) (device own place : ℕ) (g : MtcGenerator) (t : Turn
     next-turn c r k a l q =
         let m : length body - commands ≡ suc (length body - (commands + 1)) = omega arith in
         let v = gives-told c r a in
-        let left : t .generator ≡ applied g device own c .generator = ap (λ (x : Taking). x .generator) h ∙ v .generator in
+        let left : t .generator ≡ applied g device own c .generator = ap (λ (x : TurnOutcome). x .generator) h ∙ v .generator in
         i
         ∙ ap (summaryAfter commands refusals) (obey-more (length body - commands) body device own place g ∙ ap (λ (x : Answer MmcCommand). onRead x rest g) (v .read))
         ∙ counts commands refusals (applied g device own c) (obeyFrom (length body - commands) body device own (nextCommand body place .place) (applied g device own c .generator))

@@ -1,7 +1,7 @@
 -- Demand 3, as document 01 reads it ("Sequence", second paragraph): a list of commands is written, its string is read back from the
 -- bytes left in the buffer, its commands are applied one by one as they are read, and a reader gets the generator's next twenty-four
 -- bytes. The lists are folded with the definitions in the contracts of the calls: `stringAnswer` and `stringOf` with those of the
--- writer, `messageFrom` and `nextCommand` with those of the reading, `applied` with that of the transport, `sent`, `afterCalls` and
+-- writer, `messageFrom` and `nextCommand` with those of the reading, `applied` with that of the transport, `bytesSent`, `afterCalls` and
 -- `events` with those of generator and reader. Assumes nothing.
 use Prim.Native.Nat.{ℕ, zero, suc, _≤_}
 use mathlib.Core.Path.{_≡_}
@@ -22,7 +22,7 @@ use Rattle.mmc.specs.Strings.{Given, given, Walk, walk, readsOf, commandsRead}
 use Rattle.mmc.specs.Writings.{stringAnswer, stringOf, headerOf, bodyOf}
 use Rattle.mtc.specs.Reader.{fresh}
 use Rattle.labels.specs.St12.{isValid}
-use Rattle.mtc.specs.Stream.{Call, Answers, runFrom, sent, afterCalls, events}
+use Rattle.mtc.specs.Stream.{Call, Answers, runFrom, bytesSent, afterCalls, events}
 use Rattle.mtc.specs.declared.generator.Direction.the-variants.{Forward, Reverse}
 use Rattle.mtc.specs.declared.generator.MtcGenerator.{MtcGenerator}
 use Rattle.labels.specs.declared.time.MtcTime.{MtcTime}
@@ -113,7 +113,7 @@ pub record Promised (s : List ℕ) (device own : ℕ) (g : MtcGenerator) (calls 
   -- T is a valid time
   pub valid : T (isValid t)
   -- what the reader answers to the generator's next twenty-four bytes
-  pub answers : Answers calls Forward t (events (afterCalls fresh calls) (sent 24 (obeyed s own g .generator)))
+  pub answers : Answers calls Forward t (events (afterCalls fresh calls) (bytesSent 24 (obeyed s own g .generator)))
 
 -- Demand 3: for every list of commands, each with its lent source, whose writing into any buffer is accepted (its close answers a
 -- length, which is so just where none of its calls is refused: `accepted-none-refused` of mmc), every device that addresses the transport's own, any generator, and any
@@ -129,7 +129,7 @@ Demand3 =
 abbrev pub Demand3Reverse : Type 0
 Demand3Reverse =
     (g : MtcGenerator) (calls : List Call) (t : MtcTime) → T (isValid t)
-    → Answers calls Reverse t (events (afterCalls fresh calls) (sent 24 (runFrom g t Reverse)))
+    → Answers calls Reverse t (events (afterCalls fresh calls) (bytesSent 24 (runFrom g t Reverse)))
 
 -- A list that is written with Locate to a target and Play at its end.
 abbrev pub endingAt : List (Given Commands) → List ℕ → List ℕ → StandardTimeCode → List (Given Commands)

@@ -17,34 +17,34 @@ use Rattle.universal.specs.Refusals.{Refusal, Answer, gives, refused, refusalOf
 -- ---- one command
 
 -- A command that was read, and the transport's answer to it.
-pub record Told : Type 0 where
+pub record CommandReply : Type 0 where
   pub command : MmcCommand
   pub reply : Answer Reply
 
 -- One read: the generator that came back, the command with its answer or the refusal that ends the reading, and the place to read
 -- on from.
-pub record Taking : Type 0 where
+pub record TurnOutcome : Type 0 where
   pub generator : MtcGenerator
-  pub told : Answer Told
+  pub told : Answer CommandReply
   pub place : ℕ
 
 -- What is read at a place is given to the transport; a refused read leaves the generator.
-abbrev pub takenBy : Answer MmcCommand → ℕ → (MmcCommand → Outcome) → MtcGenerator → Taking
-takenBy (gives c) place act g =
+abbrev pub turnBy : Answer MmcCommand → ℕ → (MmcCommand → Outcome) → MtcGenerator → TurnOutcome
+turnBy (gives c) place act g =
     record { generator = act c .generator; told = gives (record { command = c; reply = act c .answer }); place = place }
-takenBy (refused r) place act g = record { generator = g; told = refused r; place = place }
+turnBy (refused r) place act g = record { generator = g; told = refused r; place = place }
 
-unfoldable pub obeyNext : List ℕ → ℕ → ℕ → ℕ → MtcGenerator → Taking
+unfoldable pub obeyNext : List ℕ → ℕ → ℕ → ℕ → MtcGenerator → TurnOutcome
 obeyNext body device own place g =
-    takenBy (nextCommand body place .answer) (nextCommand body place .place) (λ c. applied g device own c) g
+    turnBy (nextCommand body place .answer) (nextCommand body place .place) (λ c. applied g device own c) g
 
 -- The answer, in the paper's numbers.
-abbrev pub toldOf : TurnAnswer → Answer Told
-toldOf (A.Command c reply) = gives (record { command = c; reply = answerOf reply })
-toldOf (A.Ended e) = refused (refusalOf e)
+abbrev pub commandReplyOf : TurnAnswer → Answer CommandReply
+commandReplyOf (A.Command c reply) = gives (record { command = c; reply = answerOf reply })
+commandReplyOf (A.Ended e) = refused (refusalOf e)
 
-abbrev pub turnOf : Turn → Taking
-turnOf t = record { generator = t .generator; told = toldOf (t .answer); place = t .place }
+abbrev pub turnOf : Turn → TurnOutcome
+turnOf t = record { generator = t .generator; told = commandReplyOf (t .answer); place = t .place }
 
 -- ---- all commands
 

@@ -76,9 +76,9 @@ abbrev pub playing : MtcGenerator → MtcGenerator
 playing g = withRunning (withDirection g Forward) true
 
 -- Located at a target and stopped; 7 where it resolves to none.
-abbrev pub locatedAt : MtcGenerator → Option MtcTime → Outcome
-locatedAt g (some t) = finished (stopped (located g t))
-locatedAt g none = unchanged g 7
+abbrev pub locateOutcome : MtcGenerator → Option MtcTime → Outcome
+locateOutcome g (some t) = finished (stopped (located g t))
+locateOutcome g none = unchanged g 7
 
 -- What a command does to a generator.
 unfoldable pub acted : MtcGenerator → MmcCommand → Outcome
@@ -93,7 +93,7 @@ acted g Pause = finished (stopped g)
 acted g Reset = finished g
 acted g (Write d) = finished g
 acted g (LocateField r) = finished g
-acted g (LocateTarget c) = locatedAt g (resolved c)
+acted g (LocateTarget c) = locateOutcome g (resolved c)
 acted g (Move d s) = finished g
 acted g (Other n d) = finished g
 

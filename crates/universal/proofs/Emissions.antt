@@ -16,8 +16,8 @@ resume-after bs d e = go (d .stop)
     go (some r) = refl
 
 -- A value is no refusal.
-pub gives-refused : (n : ℕ) (r : Refusal) → _≡_ {A = Answer ℕ} (gives n) (refused r) → ⊥
-gives-refused n r h = let z : _≡_ {A = ℕ} 0 1 = cc in omega arith
+pub gives-refused : {A : Type 0} (a : A) (r : Refusal) → _≡_ {A = Answer A} (refused r) (gives a) → ⊥
+gives-refused a r h = let z : _≡_ {A = ℕ} 0 1 = cc in omega arith
 
 -- Nothing is no refusal.
 pub none-some : (r : Refusal) → _≡_ {A = Option Refusal} (some r) none → ⊥

@@ -9,7 +9,7 @@ use lib.Dec.{leb}
 use lib.ListN.{length}
 use borrow.Author.Tests.{le-leb, lt-leb, leb-true}
 use Rattle.universal.specs.Refusals.{refusal}
-use Rattle.universal.specs.Emission.{Emission, sent, stopped, check, _then_}
+use Rattle.universal.specs.Emission.{Emission, sent, refusing, check, _then_}
 use Rattle.universal.specs.Midi1.{hasSubId2, subId2Given, subId2Bytes, classId}
 use Rattle.universal.specs.Message.{subId2Value, value, allLow, opening}
 use Rattle.universal.specs.declared.message.MaybeSubId2.{MaybeSubId2}
@@ -23,7 +23,7 @@ pub value-low : (v : ℕ) → v ≤ 127 → value v ≡ sent (v ∷ [])
 value-low v h = rw (le-leb v 127 h)
 
 -- One above is refused.
-pub value-high : (v : ℕ) → 127 < v → value v ≡ stopped 3
+pub value-high : (v : ℕ) → 127 < v → value v ≡ refusing 3
 value-high v h = rw (lt-leb v 127 h)
 
 -- The fields of an opening that is not refused are in range, and its bytes are these.

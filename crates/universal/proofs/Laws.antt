@@ -14,12 +14,14 @@ use lib.ListN.{length, take, drop, getD, set, length-set, length-append, List·g
 use lib.Seq.{length-sets, sets-eq, set-out, getD-set-same, getD-set-other}
 use Rattle.universal.specs.Refusals.{Refusal, refusal, tooSmall, gives, refused}
 use Rattle.universal.specs.Overlay.{overlay}
-use Rattle.universal.specs.Emission.{Emission, sent, stopped, check, resume, _then_, answerIn, answer, reached, reachedIn, fitted}
+use Rattle.universal.specs.Emission.{Emission, sent, refusing, check, resume, _then_, answerIn, answer, reached, reachedIn, fitted}
 use Rattle.universal.specs.Midi1.{hasSubId2, subId2Given, subId2Bytes, classId, inside, universalBytes, InLayout, Allowed}
-use Rattle.universal.specs.Message.{subId2Value, allLow, dataBytes, header, opening, message, lengthAt, closing}
+use Rattle.universal.specs.Message.{subId2Value, allLow, dataEmission, header, opening, message, lengthAt, closing}
 use Rattle.universal.specs.declared.message.Universal.{Universal}
 use Rattle.universal.specs.declared.message.MaybeSubId2.the-variants.{NoSubId2, SubId2}
-use Rattle.universal.proofs.Emissions.{resume-after, gives-refused, none-some}
+use Rattle.universal.proofs.Emissions.{resume-after}
+-- A value is no refusal, and nothing is none.
+pub use Rattle.universal.proofs.Emissions.{gives-refused, none-some}
 use Rattle.universal.proofs.Fields.{Accepted, accepted, opening-fields, inner-low, value-low, value-high, sub-id2-short, sub-id2-bytes, sub-id2-sent}
 use Rattle.universal.proofs.Tests.{and-parts, beq-other}
 
@@ -151,11 +153,11 @@ answer-gives e room n h = go (e .stop) h
   where
     fits : (b : Bool) → leb (length (e .bytes)) room ≡ b → fitted b (length (e .bytes)) ≡ gives n → (n ≡ length (e .bytes)) × (n ≤ room)
     fits true q p = let same : n ≡ length (e .bytes) = cc in (same, omega (arith, leb-true (length (e .bytes)) room q))
-    fits false q p = absurd (gives-refused n _ (sym p))
+    fits false q p = absurd (gives-refused n _ p)
 
     go : (s : Option Refusal) → answerIn s (length (e .bytes)) room ≡ gives n → (n ≡ length (e .bytes)) × (n ≤ room)
     go none p = fits (leb (length (e .bytes)) room) refl p
-    go (some r) p = absurd (gives-refused n r (sym p))
+    go (some r) p = absurd (gives-refused n r p)
 
 -- A part that is not refused has come to its length.
 pub reached-sent : (e : Emission) → e .stop ≡ none → reached e ≡ gives (length (e .bytes))
@@ -174,7 +176,7 @@ reached-gives e n h = go (e .stop) h
   where
     go : (s : Option Refusal) → reachedIn s (length (e .bytes)) ≡ gives n → (s ≡ none) × (length (e .bytes) ≡ n)
     go none p = (refl, cc)
-    go (some r) p = absurd (gives-refused n r (sym p))
+    go (some r) p = absurd (gives-refused n r p)
 
 -- Where a part has come to a refusal, that is its own.
 pub reached-refused : (e : Emission) (r : Refusal) → reached e ≡ refused r → e .stop ≡ some r
@@ -182,7 +184,7 @@ unfolding reached
 reached-refused e r h = go (e .stop) h
   where
     go : (s : Option Refusal) → reachedIn s (length (e .bytes)) ≡ refused r → s ≡ some r
-    go none p = absurd (gives-refused (length (e .bytes)) r p)
+    go none p = absurd (gives-refused (length (e .bytes)) r (sym p))
     go (some q) p = cc
 
 -- ---- data bytes
@@ -228,25 +230,25 @@ all-low-high bs i l h = go (allLow bs) refl
     go false e = e
 
 -- Low data bytes go out.
-pub data-sent : (bs : List ℕ) → allLow bs ≡ true → dataBytes bs ≡ sent bs
-unfolding dataBytes
+pub data-sent : (bs : List ℕ) → allLow bs ≡ true → dataEmission bs ≡ sent bs
+unfolding dataEmission
 data-sent bs h = rw h
 
 -- Others are refused with 1, and none goes out.
-pub data-refused : (bs : List ℕ) → allLow bs ≡ false → dataBytes bs ≡ stopped 1
-unfolding dataBytes
+pub data-refused : (bs : List ℕ) → allLow bs ≡ false → dataEmission bs ≡ refusing 1
+unfolding dataEmission
 data-refused bs h = rw h
 
 -- ---- the opening of a message
 
 -- A device above 127 is refused with 5, and nothing goes out.
-pub opening-device : (u : Universal) → 127 < u .«device_id» → opening u ≡ stopped 5
+pub opening-device : (u : Universal) → 127 < u .«device_id» → opening u ≡ refusing 5
 unfolding opening
 opening-device u h = rw (lt-leb (u .«device_id») 127 h)
 
 -- A sub-ID 2 against the family's rule is refused with 3, and nothing goes out.
 pub opening-family : (u : Universal) → u .«device_id» ≤ 127
-    → (subId2Given (u .«sub_id2») ≡ hasSubId2 (u .«real_time») (u .«sub_id1») → ⊥) → opening u ≡ stopped 3
+    → (subId2Given (u .«sub_id2») ≡ hasSubId2 (u .«real_time») (u .«sub_id1») → ⊥) → opening u ≡ refusing 3
 unfolding opening
 opening-family u d f = rw (le-leb (u .«device_id») 127 d, beq-other _ _ f)
 
@@ -295,22 +297,22 @@ message-refused u bs r h = then-refused (opening u) _ r h
 pub message-data : (u : Universal) (bs : List ℕ) → opening u .stop ≡ none → allLow bs ≡ false
     → message u bs ≡ record { bytes = opening u .bytes; stop = some (refusal 1) }
 unfolding message
-message-data u bs h l = then-sent (opening u) (dataBytes bs then sent (247 ∷ [])) h ∙ rw (data-refused bs l, append-nil)
+message-data u bs h l = then-sent (opening u) (dataEmission bs then sent (247 ∷ [])) h ∙ rw (data-refused bs l, append-nil)
 
 -- A message in which nothing is refused.
 pub message-whole : (u : Universal) (bs : List ℕ) → opening u .stop ≡ none → allLow bs ≡ true
     → message u bs ≡ sent (opening u .bytes ++ bs ++ 247 ∷ [])
 unfolding message
 message-whole u bs h l =
-    then-sent (opening u) (dataBytes bs then sent (247 ∷ [])) h
+    then-sent (opening u) (dataEmission bs then sent (247 ∷ [])) h
     ∙ rw (data-sent bs l, append-assoc (opening u .bytes) bs (247 ∷ []))
 
 -- In a message that is not refused neither the opening nor the data is.
 pub message-accepted : (u : Universal) (bs : List ℕ) → message u bs .stop ≡ none → (opening u .stop ≡ none) × (allLow bs ≡ true)
-unfolding message dataBytes
+unfolding message dataEmission
 message-accepted u bs h =
     let parts = then-accepted (opening u) _ h in
-    let inner = then-accepted (dataBytes bs) (sent (247 ∷ [])) (parts .1) in
+    let inner = then-accepted (dataEmission bs) (sent (247 ∷ [])) (parts .1) in
     (parts .0, check-held (allLow bs) 1 (then-accepted (check (allLow bs) 1) (sent bs) (inner .0) .0))
 
 -- The bytes of a message that is not refused: opening, data, F7H.

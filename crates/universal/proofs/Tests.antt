@@ -20,9 +20,13 @@ and-second false b e = refl
 pub and-all : (a b : Bool) → a ≡ true → b ≡ true → a && b ≡ true
 and-all a b e f = rw (e, f)
 
--- A test that came out true holds.
-pub holds : (b : Bool) → b ≡ true → T b
-holds b e = subst T (sym e) tt
+-- A test that came out true holds, and one that holds came out true.
+pub true-holds : (b : Bool) → b ≡ true → T b
+true-holds b e = subst T (sym e) tt
+
+pub holds-true : (b : Bool) → T b → b ≡ true
+holds-true true h = refl
+holds-true false h = absurd h
 
 -- Outcomes that are the same compare so.
 pub beq-same : (a b : Bool) → a ≡ b → Bool·beq a b ≡ true

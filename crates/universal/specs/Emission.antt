@@ -18,13 +18,13 @@ abbrev pub sent : List ℕ → Emission
 sent bs = record { bytes = bs; stop = none }
 
 -- A refusal by its number, with nothing emitted.
-abbrev pub stopped : ℕ → Emission
-stopped n = record { bytes = []; stop = some (refusal n) }
+abbrev pub refusing : ℕ → Emission
+refusing n = record { bytes = []; stop = some (refusal n) }
 
 -- A check: nothing where it holds, else the refusal of that number.
 abbrev pub check : Bool → ℕ → Emission
 check true n = sent []
-check false n = stopped n
+check false n = refusing n
 
 -- What comes after bytes that went out, and after a refusal, which nothing follows.
 abbrev pub resume : List ℕ → Option Refusal → Emission → Emission

@@ -45,8 +45,8 @@ allLow [] = true
 allLow (b ∷ bs) = leb b 127 && allLow bs
 
 -- Data bytes: 1 for one above 7FH, before any goes out.
-unfoldable pub dataBytes : List ℕ → Emission
-dataBytes bs = check (allLow bs) 1 then sent bs
+unfoldable pub dataEmission : List ℕ → Emission
+dataEmission bs = check (allLow bs) 1 then sent bs
 
 -- ---- a message
 
@@ -65,7 +65,7 @@ opening u =
 
 -- The whole message: opening, data, F7H.
 unfoldable pub message : Universal → List ℕ → Emission
-message u bs = opening u then dataBytes bs then sent (247 ∷ [])
+message u bs = opening u then dataEmission bs then sent (247 ∷ [])
 
 -- The length of a message whose F7H stands at a position, or the largest number where it has none.
 abbrev pub lengthAt : ℕ → ℕ

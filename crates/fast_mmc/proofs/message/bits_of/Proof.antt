@@ -1,10 +1,10 @@
 -- `fast_mmc::message::bits_of` meets its contract. Assumes nothing.
-use Rattle.fast_mmc.specs.Message.{bitsOf}
+use Rattle.fast_mmc.specs.Message.{userBitsOf}
 use Rattle.fast_mmc.proofs.message.bits_of.Statement.{statement}
 use Rattle.fast_mmc.proofs.message.bits_of.Tie as tie
 
 returns : tie.Need-returns
-unfolding bitsOf
+unfolding userBitsOf
 returns c = cc
 
 pub bits-of-spec : {M : Type 1} → statement M

@@ -1,7 +1,7 @@
 use borrow.Author.Needs.{needs}
 use native.Mathlib.Omega.{arith}
 use Rattle.fast_mmc.specs.Contracts.{nothing}
-use Rattle.fast_mmc.proofs.WordItems.{move-sent}
+use Rattle.fast_mmc.proofs.WordItems.{word-move-sent}
 use Rattle.fast_mmc.proofs.WordPuts.{put-four}
 use Rattle.fast_mmc.proofs.whole.put_move.Statement.{statement}
 use Rattle.fast_mmc.proofs.whole.put_move.Tie as tie
@@ -37,7 +37,7 @@ same-length : tie.Need-same-length
 same-length c = search needs
 
 returns-6 : tie.Need-returns-6
-returns-6 c = (search needs, put-four _ _ _ _ _ _ _ _ (move-sent _ (c .before .before .before .before .before .before .before .before .before .before .pre .1) (c .before .before .before .before .before .before .before .before .if1 .left) (omega (arith, c .before .before .before .before .before .before .before .if2 .left)) (c .before .before .before .before .before .before .if3 .left) (omega (arith, c .before .before .before .before .before .if4 .left)) (c .before .before .before .before .if5 .left)) (c .before .before .put-four .ensures))
+returns-6 c = (search needs, put-four _ _ _ _ _ _ _ _ (word-move-sent _ (c .before .before .before .before .before .before .before .before .before .before .pre .1) (c .before .before .before .before .before .before .before .before .if1 .left) (omega (arith, c .before .before .before .before .before .before .before .if2 .left)) (c .before .before .before .before .before .before .if3 .left) (omega (arith, c .before .before .before .before .before .if4 .left)) (c .before .before .before .before .if5 .left)) (c .before .before .put-four .ensures))
 
 pub put-move-spec : {M : Type 1} → statement M
 put-move-spec = tie.close (tie.spec cast-destination cast-source returns returns-2 returns-3 returns-4 returns-5 put-four-requires add-result same-length returns-6)

@@ -1,6 +1,6 @@
 use borrow.Author.Needs.{needs}
 use Rattle.fast_mmc.proofs.WordReading.{counted-name, no-count-word, few-data-word, counted-word}
-use Rattle.mmc.proofs.ReadingLaws.{part-inside, in-range}
+use Rattle.mmc.proofs.ReadingLaws.{part-inside, within-range}
 use native.Mathlib.Omega.{arith}
 use native.Mathlib.Nat.{add-sub-cancel-left}
 use Prim.Native.Nat.{_+_}
@@ -11,7 +11,7 @@ add-after : tie.Need-add-after
 add-after c = search needs
 
 returns : tie.Need-returns
-returns c = no-count-word _ _ (c .before .before .pre .0) (counted-name _ (in-range 64 120 _ (c .before .before .pre .1 .0) (c .before .before .pre .1 .1))) (c .if1 .taken)
+returns c = no-count-word _ _ (c .before .before .pre .0) (counted-name _ (within-range 64 120 _ (c .before .before .pre .1 .0) (c .before .before .pre .1 .1))) (c .if1 .taken)
 
 add-start : tie.Need-add-start
 add-start c = search needs
@@ -26,7 +26,7 @@ sub-if2 : tie.Need-sub-if2
 sub-if2 c = search needs
 
 returns-2 : tie.Need-returns-2
-returns-2 c = few-data-word _ _ (c .before .before .before .before .pre .0) (counted-name _ (in-range 64 120 _ (c .before .before .before .before .pre .1 .0) (c .before .before .before .before .pre .1 .1))) (c .before .before .if1 .left) (c .if2 .taken)
+returns-2 c = few-data-word _ _ (c .before .before .before .before .pre .0) (counted-name _ (within-range 64 120 _ (c .before .before .before .before .pre .1 .0) (c .before .before .before .before .pre .1 .1))) (c .before .before .if1 .left) (c .if2 .taken)
 
 add-end : tie.Need-add-end
 add-end c = search needs
@@ -47,7 +47,7 @@ read-word-requires : tie.Need-read-word-requires
 read-word-requires c κs = search needs
 
 returns-3 : tie.Need-returns-3
-returns-3 c = counted-word _ _ (c .before .before .before .before .before .before .before .pre .0) (counted-name _ (in-range 64 120 _ (c .before .before .before .before .before .before .before .pre .1 .0) (c .before .before .before .before .before .before .before .pre .1 .1))) _ _ (c .before .before .before .before .before .if1 .left) (c .before .before .before .if2 .left) (c .read-word .ensures) (rw add-sub-cancel-left (part-inside _ _ _ (omega arith)))
+returns-3 c = counted-word _ _ (c .before .before .before .before .before .before .before .pre .0) (counted-name _ (within-range 64 120 _ (c .before .before .before .before .before .before .before .pre .1 .0) (c .before .before .before .before .before .before .before .pre .1 .1))) _ _ (c .before .before .before .before .before .if1 .left) (c .before .before .before .if2 .left) (c .read-word .ensures) (rw add-sub-cancel-left (part-inside _ _ _ (omega arith)))
 
 pub counted-word-spec : {M : Type 1} → statement M
 counted-word-spec = tie.close (tie.spec add-after returns add-start shared-slice-read-count cast-count sub-if2 returns-2 add-end shared-slice-read-read-word sub-read-word part-read-word-start part-read-word-end read-word-requires returns-3)

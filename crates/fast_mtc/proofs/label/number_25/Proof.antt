@@ -1,7 +1,7 @@
 -- `fast_mtc::label::number_25` meets its contract. Assumes nothing.
 use native.Mathlib.Omega.{arith}
 use lib.Dec.{lit≤}
-use Rattle.fast_mtc.proofs.ShortWays.{number-25, parts-fit, number-fits}
+use Rattle.fast_mtc.proofs.ShortWays.{number-25, parts-fit, label-number-fits}
 use borrow.Author.Needs.{needs}
 use Rattle.fast_mtc.proofs.label.number_25.Statement.{statement}
 use Rattle.fast_mtc.proofs.label.number_25.Tie as tie
@@ -58,7 +58,7 @@ add-result : tie.Need-add-result
 add-result c = parts-fit _ _ _ _ (omega arith) (omega arith)
 
 add-result-2 : tie.Need-add-result-2
-add-result-2 c = number-fits _ _ _ _ _ (omega arith) (omega arith) (lit≤ tt)
+add-result-2 c = label-number-fits _ _ _ _ _ (omega arith) (omega arith) (lit≤ tt)
 
 returns : tie.Need-returns
 returns c = number-25 _ (c .pre)

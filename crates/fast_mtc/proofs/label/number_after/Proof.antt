@@ -4,7 +4,7 @@ use mir.Syntax.{w32}
 use mir.ValLaws.{toZ-ofZ}
 use Rattle.labels.proofs.Laws.{day-positive, passed-mod}
 use Rattle.fast_mtc.specs.Label.{labelNumber}
-use Rattle.fast_mtc.proofs.ShortWays.{drop-below, drop-added, sum-fits, added}
+use Rattle.fast_mtc.proofs.ShortWays.{drop-count-below, drop-added, added}
 use borrow.Author.Needs.{needs}
 use Rattle.fast_mtc.proofs.label.number_after.Statement.{statement}
 use Rattle.fast_mtc.proofs.label.number_after.Tie as tie
@@ -16,7 +16,7 @@ frame-count-requires : tie.Need-frame-count-requires
 frame-count-requires c κs = search needs
 
 drop-moved-requires : tie.Need-drop-moved-requires
-drop-moved-requires c κs = drop-below _ _ (sym (c .before .before .into-bits .ensures) ∙ c .before .if1 .taken) (c .frame-count .ensures)
+drop-moved-requires c κs = drop-count-below _ _ (sym (c .before .before .into-bits .ensures) ∙ c .before .if1 .taken) (c .frame-count .ensures)
 
 drop-number-requires : tie.Need-drop-number-requires
 drop-number-requires c κs = search needs

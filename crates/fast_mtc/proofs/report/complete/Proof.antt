@@ -1,7 +1,7 @@
 -- `fast_mtc::report::complete` meets its contract. Assumes nothing.
 use mathlib.Core.Path.{sym, ap, _∙_}
 use Rattle.mtc.specs.declared.reader.MaybeDirection.the-variants.{Going}
-use Rattle.fast_mtc.proofs.Steady.{reports, previous-at}
+use Rattle.fast_mtc.proofs.Steady.{reports-sequence, previous-at}
 use borrow.Author.Needs.{needs}
 use Rattle.fast_mtc.proofs.report.complete.Statement.{statement}
 use Rattle.fast_mtc.proofs.report.complete.Tie as tie
@@ -19,7 +19,7 @@ keep-requires : tie.Need-keep-requires
 keep-requires c κs = search needs
 
 returns : tie.Need-returns
-returns c = (c .keep .ensures) (reports _ _ _ _ _ (c .before .before .before .before .before .before .before .before .pre) (c .before .before .before .before .before .before .raw-in .ensures) (previous-at _) ((c .before .steady .ensures) ∙ sym ((c .before .before .before .before .is-steady .ensures) (c .before .before .before .if1 .taken) .report)))
+returns c = (c .keep .ensures) (reports-sequence _ _ _ _ _ (c .before .before .before .before .before .before .before .before .pre) (c .before .before .before .before .before .before .raw-in .ensures) (previous-at _) ((c .before .steady .ensures) ∙ sym ((c .before .before .before .before .is-steady .ensures) (c .before .before .before .if1 .taken) .report)))
 
 enum-told : tie.Need-enum-told
 enum-told c = search needs

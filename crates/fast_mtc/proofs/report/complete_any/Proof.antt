@@ -1,6 +1,6 @@
 -- `fast_mtc::report::complete_any` meets its contract. Assumes nothing.
 use mathlib.Core.Path.{refl, sym, _∙_}
-use Rattle.fast_mtc.proofs.Steady.{reports}
+use Rattle.fast_mtc.proofs.Steady.{reports-sequence}
 use borrow.Author.Needs.{needs}
 use Rattle.fast_mtc.proofs.report.complete_any.Statement.{statement}
 use Rattle.fast_mtc.proofs.report.complete_any.Tie as tie
@@ -18,7 +18,7 @@ keep-requires : tie.Need-keep-requires
 keep-requires c κs = search needs
 
 returns : tie.Need-returns
-returns c = (c .keep .ensures) (reports _ _ _ _ _ (c .before .before .before .before .before .before .pre .0) (c .before .before .before .before .before .before .pre .1) (c .before .before .before .before .previous .ensures) (rw ((c .before .before .before .current .ensures), (c .before .before .jumps .ensures))))
+returns c = (c .keep .ensures) (reports-sequence _ _ _ _ _ (c .before .before .before .before .before .before .pre .0) (c .before .before .before .before .before .before .pre .1) (c .before .before .before .before .previous .ensures) (rw ((c .before .before .before .current .ensures), (c .before .before .jumps .ensures))))
 
 pub complete-any-spec : {M : Type 1} → statement M
 complete-any-spec = tie.close (tie.spec previous-requires current-requires jumps-requires keep-requires returns)

@@ -1,9 +1,10 @@
 -- `fast_mtc::report::is_steady` meets its contract. Assumes nothing.
+use mathlib.Core.Bool.{false≢true}
 use mathlib.Core.Path.{refl}
 use native.Mathlib.Omega.{arith}
 use borrow.Author.Tests.{eqb-true, not-false}
 use Rattle.fast_mtc.proofs.ShortWays.{two-fit}
-use Rattle.fast_mtc.proofs.Steady.{never, word-fits, word-room, told-forward, told-reverse}
+use Rattle.fast_mtc.proofs.Steady.{word-fits, word-room, told-forward, told-reverse}
 use Rattle.labels.proofs.Laws.{fps-small}
 use borrow.Author.Needs.{needs}
 use Rattle.fast_mtc.proofs.report.is_steady.Statement.{statement}
@@ -16,16 +17,16 @@ rate-mark-requires : tie.Need-rate-mark-requires
 rate-mark-requires c κs = search needs
 
 returns : tie.Need-returns
-returns c = λ h. never h
+returns c = λ h. absurd (false≢true h)
 
 is-in-day-requires : tie.Need-is-in-day-requires
 is-in-day-requires c κs = search needs
 
 returns-2 : tie.Need-returns-2
-returns-2 c = λ h. never h
+returns-2 c = λ h. absurd (false≢true h)
 
 returns-3 : tie.Need-returns-3
-returns-3 c = λ h. never h
+returns-3 c = λ h. absurd (false≢true h)
 
 frames-per-second-requires : tie.Need-frames-per-second-requires
 frames-per-second-requires c κs = search needs
@@ -34,7 +35,7 @@ sub-if4 : tie.Need-sub-if4
 sub-if4 c = rw (c .frames-per-second .ensures) (two-fit (c .before .before .before .before .before .before .before .args .raw .rate))
 
 returns-4 : tie.Need-returns-4
-returns-4 c = λ h. never h
+returns-4 c = λ h. absurd (false≢true h)
 
 label-word-requires : tie.Need-label-word-requires
 label-word-requires c κs = search needs

@@ -1,6 +1,6 @@
 -- `fast_mtc::words::rate_mark` meets its contract. Assumes nothing.
 use native.Mathlib.Omega.{arith}
-use Rattle.fast_mtc.proofs.LabelWords.{bits-small}
+use Rattle.labels.proofs.Laws.{bits-small}
 use borrow.Author.Needs.{needs}
 use Rattle.fast_mtc.proofs.words.rate_mark.Statement.{statement}
 use Rattle.fast_mtc.proofs.words.rate_mark.Tie as tie

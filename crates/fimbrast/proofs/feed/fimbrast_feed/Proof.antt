@@ -7,12 +7,12 @@ use lib.ListN.{length}
 use Rattle.fast_mtc.proofs.Laws.{none-reported}
 use Rattle.fast_mtc.specs.Reader.{readerIn}
 use Rattle.fimbrast.specs.Feed.{flatFed}
-use Rattle.fimbrast.proofs.Feeding.{After, before-all, after-one, after-all}
+use Rattle.fimbrast.proofs.Feeding.{FedSoFar, before-all, after-one, after-all}
 use Rattle.fimbrast.proofs.feed.fimbrast_feed.Statement.{statement}
 use Rattle.fimbrast.proofs.feed.fimbrast_feed.Tie as tie
 
 abbrev Inv-loop : tie.InvT-loop
-Inv-loop reader₀ bytes f₀ i₀ reader f i = (i ≤ length bytes) × After (readerIn reader₀) bytes reader f i
+Inv-loop reader₀ bytes f₀ i₀ reader f i = (i ≤ length bytes) × FedSoFar (readerIn reader₀) bytes reader f i
 
 abbrev μ-loop : tie.MeasureT-loop
 μ-loop reader₀ bytes f₀ i₀ reader f i = length bytes - i

@@ -3,7 +3,7 @@ use Rattle.mmc.proofs.command.next_command.Statement.{statement}
 use Rattle.mmc.proofs.command.next_command.Tie as tie
 use mathlib.Core.List.{List}
 use Prim.Native.Nat.{ℕ}
-use Rattle.mmc.specs.Command.{readCommand, located, nextCommand}
+use Rattle.mmc.specs.Command.{readCommand, commandOfCase, nextCommand}
 use Rattle.mmc.specs.Split.{partsAs}
 use Rattle.mmc.proofs.Splits.{read-parts, read-found, read-refused}
 
@@ -27,11 +27,11 @@ enum-known-answer-2 c = search needs
 
 returns : tie.Need-returns
 unfolding nextCommand
-returns c = read-found (partsAs (λ (x y : List ℕ). located (readCommand x y)) _) _ _ _ (c .before .before .before .before .before .before .next-parts .ensures) _ _ _ (c .before .before .before .before .answer .given .1) (read-parts (λ (x y : List ℕ). located (readCommand x y)) _ _ _ _ _ _ (c .read .ensures) (c .before .before .of .ensures) (c .before .of2 .ensures))
+returns c = read-found (partsAs (λ (x y : List ℕ). commandOfCase (readCommand x y)) _) _ _ _ (c .before .before .before .before .before .before .next-parts .ensures) _ _ _ (c .before .before .before .before .answer .given .1) (read-parts (λ (x y : List ℕ). commandOfCase (readCommand x y)) _ _ _ _ _ _ (c .read .ensures) (c .before .before .of .ensures) (c .before .of2 .ensures))
 
 returns-2 : tie.Need-returns-2
 unfolding nextCommand
-returns-2 c = read-refused (partsAs (λ (x y : List ℕ). located (readCommand x y)) _) _ _ _ (c .before .before .before .next-parts .ensures) _ (c .before .answer2 .given .1)
+returns-2 c = read-refused (partsAs (λ (x y : List ℕ). commandOfCase (readCommand x y)) _) _ _ _ (c .before .before .before .next-parts .ensures) _ (c .before .answer2 .given .1)
 
 pub next-command-spec : {M : Type 1} → statement M
 next-command-spec =

@@ -3,7 +3,7 @@ use Rattle.mmc.proofs.field.next_field.Statement.{statement}
 use Rattle.mmc.proofs.field.next_field.Tie as tie
 use mathlib.Core.List.{List}
 use Prim.Native.Nat.{ℕ}
-use Rattle.mmc.specs.Field.{readField, placed, nextField}
+use Rattle.mmc.specs.Field.{readField, fieldOfCase, nextField}
 use Rattle.mmc.specs.Split.{partsAs}
 use Rattle.mmc.proofs.Splits.{read-parts, read-found, read-refused}
 
@@ -27,11 +27,11 @@ enum-known-answer-2 c = search needs
 
 returns : tie.Need-returns
 unfolding nextField
-returns c = read-found (partsAs (λ (x y : List ℕ). placed (readField x y)) _) _ _ _ (c .before .before .before .before .before .before .next-parts .ensures) _ _ _ (c .before .before .before .before .answer .given .1) (read-parts (λ (x y : List ℕ). placed (readField x y)) _ _ _ _ _ _ (c .read .ensures) (c .before .before .of .ensures) (c .before .of2 .ensures))
+returns c = read-found (partsAs (λ (x y : List ℕ). fieldOfCase (readField x y)) _) _ _ _ (c .before .before .before .before .before .before .next-parts .ensures) _ _ _ (c .before .before .before .before .answer .given .1) (read-parts (λ (x y : List ℕ). fieldOfCase (readField x y)) _ _ _ _ _ _ (c .read .ensures) (c .before .before .of .ensures) (c .before .of2 .ensures))
 
 returns-2 : tie.Need-returns-2
 unfolding nextField
-returns-2 c = read-refused (partsAs (λ (x y : List ℕ). placed (readField x y)) _) _ _ _ (c .before .before .before .next-parts .ensures) _ (c .before .answer2 .given .1)
+returns-2 c = read-refused (partsAs (λ (x y : List ℕ). fieldOfCase (readField x y)) _) _ _ _ (c .before .before .before .next-parts .ensures) _ (c .before .answer2 .given .1)
 
 pub next-field-spec : {M : Type 1} → statement M
 next-field-spec =

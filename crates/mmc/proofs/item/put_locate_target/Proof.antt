@@ -5,7 +5,7 @@ use Rattle.mmc.proofs.ItemPuts.{puts-as, standard-length, target-status
 use Rattle.mmc.proofs.Puts.{puts-none, puts-after}
 use mathlib.Core.Path.{refl, ap}
 use native.Mathlib.Omega.{arith}
-use Rattle.mmc.specs.Named.{Outcome}
+use Rattle.mmc.specs.Named.{Extent}
 
 enum-told : tie.Need-enum-told
 enum-told c = search needs
@@ -29,7 +29,7 @@ put-standard-requires : tie.Need-put-standard-requires
 put-standard-requires c κs = search needs
 
 add-t17 : tie.Need-add-t17
-add-t17 c = omega (arith, ap (λ (o : Outcome). o .len) (c .before .before .before .put-standard .ensures .0), standard-length (c .before .before .before .before .before .before .before .before .before .before .before .before .before .args .target))
+add-t17 c = omega (arith, ap (λ (o : Extent). o .len) (c .before .before .before .put-standard .ensures .0), standard-length (c .before .before .before .before .before .before .before .before .before .before .before .before .before .args .target))
 
 same-length : tie.Need-same-length
 same-length c = search needs

@@ -6,7 +6,7 @@ use Rattle.mmc.proofs.Puts.{puts-none, puts-after}
 use borrow.Author.Tests.{not-true, not-false}
 use mathlib.Core.Path.{_∙_, sym, ap, refl}
 use native.Mathlib.Omega.{arith}
-use Rattle.mmc.specs.Named.{Outcome}
+use Rattle.mmc.specs.Named.{Extent}
 
 code-fits-requires : tie.Need-code-fits-requires
 code-fits-requires c κs = search needs
@@ -27,7 +27,7 @@ put-short-requires : tie.Need-put-short-requires
 put-short-requires c κs = search needs
 
 add-t18 : tie.Need-add-t18
-add-t18 c = omega (arith, ap (λ (o : Outcome). o .len) (c .before .before .before .put-short .ensures .0), short-length (c .before .before .before .before .before .before .before .before .before .before .before .before .args .code))
+add-t18 c = omega (arith, ap (λ (o : Extent). o .len) (c .before .before .before .put-short .ensures .0), short-length (c .before .before .before .before .before .before .before .before .before .before .before .before .args .code))
 
 same-length : tie.Need-same-length
 same-length c = search needs

@@ -6,7 +6,7 @@ use Rattle.mmc.proofs.Puts.{puts-none, puts-after}
 use borrow.Author.Tests.{not-true, not-false}
 use mathlib.Core.Path.{_∙_, sym, ap, refl}
 use native.Mathlib.Omega.{arith}
-use Rattle.mmc.specs.Named.{Outcome}
+use Rattle.mmc.specs.Named.{Extent}
 
 code-fits-requires : tie.Need-code-fits-requires
 code-fits-requires c κs = search needs
@@ -24,7 +24,7 @@ put-standard-requires : tie.Need-put-standard-requires
 put-standard-requires c κs = search needs
 
 add-t17 : tie.Need-add-t17
-add-t17 c = omega (arith, ap (λ (o : Outcome). o .len) (c .before .before .before .put-standard .ensures .0), standard-length (c .before .before .before .before .before .before .before .before .before .before .before .before .args .code))
+add-t17 c = omega (arith, ap (λ (o : Extent). o .len) (c .before .before .before .put-standard .ensures .0), standard-length (c .before .before .before .before .before .before .before .before .before .before .before .before .args .code))
 
 same-length : tie.Need-same-length
 same-length c = search needs

@@ -1,11 +1,11 @@
 use Rattle.mmc.proofs.length.command_length.Statement.{statement}
 use Rattle.mmc.proofs.length.command_length.Tie as tie
-use Rattle.mmc.proofs.Ranges.{in-range, below-range, above-range}
+use Rattle.mmc.proofs.Ranges.{within-range, below-range, above-range}
 use Rattle.mmc.specs.Length.{commandLength}
 
 returns : tie.Need-returns
 unfolding commandLength
-returns c = rw (in-range 64 120 _ (c .before .if1 .left) (c .if2 .taken))
+returns c = rw (within-range 64 120 _ (c .before .if1 .left) (c .if2 .taken))
 
 returns-2 : tie.Need-returns-2
 unfolding commandLength

@@ -5,7 +5,7 @@ use Rattle.mmc.proofs.Puts.{puts-none, name-unfit, name-high, name-leng
 use mathlib.Core.Path.{_∙_, sym, ap}
 use borrow.Author.Tests.{not-true, not-false}
 use native.Mathlib.Omega.{arith}
-use Rattle.mmc.specs.Named.{Outcome}
+use Rattle.mmc.specs.Named.{Extent}
 
 name-fits-requires : tie.Need-name-fits-requires
 name-fits-requires c κs = search needs
@@ -38,7 +38,7 @@ put-by-rule-requires : tie.Need-put-by-rule-requires
 put-by-rule-requires c κs = omega (arith, name-length _ (sym (c .before .before .before .before .before .before .before .before .before .before .name-fits .ensures) ∙ not-false _ (c .before .before .before .before .before .before .before .before .before .if1 .left)))
 
 add-t19 : tie.Need-add-t19
-add-t19 c = omega (arith, name-length _ (sym (c .before .before .before .before .before .before .before .before .before .before .before .before .before .before .name-fits .ensures) ∙ not-false _ (c .before .before .before .before .before .before .before .before .before .before .before .before .before .if1 .left)), ap (λ (o : Outcome). o .len) (c .before .before .before .put-by-rule .ensures .0), rule-length (c .before .before .before .before .before .length-of .result) (c .before .before .before .before .before .before .before .before .before .before .before .before .before .before .before .before .before .before .args .«data» .now), c .before .before .before .before .before .before .before .before .before .before .before .before .before .before .before .before .before .before .good)
+add-t19 c = omega (arith, name-length _ (sym (c .before .before .before .before .before .before .before .before .before .before .before .before .before .before .name-fits .ensures) ∙ not-false _ (c .before .before .before .before .before .before .before .before .before .before .before .before .before .if1 .left)), ap (λ (o : Extent). o .len) (c .before .before .before .put-by-rule .ensures .0), rule-length (c .before .before .before .before .before .length-of .result) (c .before .before .before .before .before .before .before .before .before .before .before .before .before .before .before .before .before .before .args .«data» .now), c .before .before .before .before .before .before .before .before .before .before .before .before .before .before .before .before .before .before .good)
 
 same-length : tie.Need-same-length
 same-length c = search needs

@@ -20,8 +20,8 @@ returns c = c .ordered .ensures ∙ order-alone _ _ (c .before .enum-told .given
 enum-told-2 : tie.Need-enum-told-2
 enum-told-2 c = search needs
 
-found-requires : tie.Need-found-requires
-found-requires c κs = sound-last _ (c .before .before .before .before .before .pre) (c .before .before .before .last .given .1)
+direction-between-requires : tie.Need-direction-between-requires
+direction-between-requires c κs = sound-last _ (c .before .before .before .before .before .pre) (c .before .before .before .last .given .1)
 
 out-of-order-requires : tie.Need-out-of-order-requires
 out-of-order-requires c κs = search needs
@@ -41,8 +41,8 @@ returns-2 c =
     ∙ order-next _ _ (c .before .before .before .before .before .before .before .last .given .1) (c .before .before .before .before .direction .given .1)
     (sym (c .before .before .after .ensures .0) ∙ c .before .if1 .taken)
 
-found-requires-2 : tie.Need-found-requires-2
-found-requires-2 c κs = sound-last _ (c .before .before .before .before .before .before .before .before .pre) (c .before .before .before .before .before .before .last .given .1)
+direction-between-requires-2 : tie.Need-direction-between-requires-2
+direction-between-requires-2 c κs = sound-last _ (c .before .before .before .before .before .before .before .before .pre) (c .before .before .before .before .before .before .last .given .1)
 
 out-of-order-requires-2 : tie.Need-out-of-order-requires-2
 out-of-order-requires-2 c κs = search needs
@@ -50,12 +50,12 @@ out-of-order-requires-2 c κs = search needs
 returns-3 : tie.Need-returns-3
 returns-3 c =
     c .out-of-order .ensures
-    ∙ order-second _ _ (c .before .before .before .before .before .last .given .1) (c .before .found .ensures) (c .before .before .enum-told2 .given .1)
+    ∙ order-second _ _ (c .before .before .before .before .before .last .given .1) (c .before .direction-between .ensures) (c .before .before .enum-told2 .given .1)
 
 returns-4 : tie.Need-returns-4
 returns-4 c =
     c .out-of-order2 .ensures
-    ∙ order-turned _ _ (c .before .before .before .before .before .before .before .before .last .given .1) (c .before .found2 .ensures) (c .before .before .before .before .before .direction .given .1)
+    ∙ order-turned _ _ (c .before .before .before .before .before .before .before .before .last .given .1) (c .before .direction-between2 .ensures) (c .before .before .before .before .before .direction .given .1)
     (λ e. c .before .before .if1 .left (c .before .before .before .after .ensures .0 ∙ e))
 
 pub order-of-spec : {M : Type 1} → statement M
@@ -67,13 +67,13 @@ order-of-spec =
     ordered-requires
     returns
     enum-told-2
-    found-requires
+    direction-between-requires
     out-of-order-requires
     enum-known-direction
     after-requires
     ordered-requires-2
     returns-2
-    found-requires-2
+    direction-between-requires-2
     out-of-order-requires-2
     returns-3
     returns-4)

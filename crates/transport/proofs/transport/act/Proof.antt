@@ -2,7 +2,7 @@
 use mathlib.Core.Path.{ap, _∙_}
 use Rattle.mmc.specs.declared.command.MmcCommand.the-variants.{Stop, Play, DeferredPlay, FastForward, Rewind, RecordStrobe, RecordExit, Pause, Reset, Write, LocateField, LocateTarget, Move, Other}
 use Rattle.transport.specs.Transport.{finished, acted}
-use Rattle.transport.proofs.Acting.{told}
+use Rattle.transport.proofs.Acting.{acted-as}
 use borrow.Author.Needs.{needs}
 use Rattle.transport.proofs.transport.act.Statement.{statement}
 use Rattle.transport.proofs.transport.act.Tie as tie
@@ -99,57 +99,57 @@ done-requires-11 c κs = search needs
 
 returns : tie.Need-returns
 unfolding acted
-returns c = told _ _ Stop _ (c .before .before .enum-told .given .1) (c .done .ensures ∙ ap finished (c .before .set-running .ensures))
+returns c = acted-as _ _ Stop _ (c .before .before .enum-told .given .1) (c .done .ensures ∙ ap finished (c .before .set-running .ensures))
 
 returns-2 : tie.Need-returns-2
-returns-2 c = told _ _ Play _ (c .before .enum-told2 .given .1) (c .play .ensures)
+returns-2 c = acted-as _ _ Play _ (c .before .enum-told2 .given .1) (c .play .ensures)
 
 returns-3 : tie.Need-returns-3
 unfolding acted
-returns-3 c = told _ _ DeferredPlay _ (c .before .enum-told3 .given .1) (c .play2 .ensures)
+returns-3 c = acted-as _ _ DeferredPlay _ (c .before .enum-told3 .given .1) (c .play2 .ensures)
 
 returns-4 : tie.Need-returns-4
 unfolding acted
-returns-4 c = told _ _ FastForward _ (c .before .enum-told4 .given .1) (c .done2 .ensures)
+returns-4 c = acted-as _ _ FastForward _ (c .before .enum-told4 .given .1) (c .done2 .ensures)
 
 returns-5 : tie.Need-returns-5
 unfolding acted
-returns-5 c = told _ _ Rewind _ (c .before .enum-told5 .given .1) (c .done3 .ensures)
+returns-5 c = acted-as _ _ Rewind _ (c .before .enum-told5 .given .1) (c .done3 .ensures)
 
 returns-6 : tie.Need-returns-6
 unfolding acted
-returns-6 c = told _ _ RecordStrobe _ (c .before .enum-told6 .given .1) (c .done4 .ensures)
+returns-6 c = acted-as _ _ RecordStrobe _ (c .before .enum-told6 .given .1) (c .done4 .ensures)
 
 returns-7 : tie.Need-returns-7
 unfolding acted
-returns-7 c = told _ _ RecordExit _ (c .before .enum-told7 .given .1) (c .done5 .ensures)
+returns-7 c = acted-as _ _ RecordExit _ (c .before .enum-told7 .given .1) (c .done5 .ensures)
 
 returns-8 : tie.Need-returns-8
 unfolding acted
-returns-8 c = told _ _ Pause _ (c .before .before .enum-told8 .given .1) (c .done6 .ensures ∙ ap finished (c .before .set-running2 .ensures))
+returns-8 c = acted-as _ _ Pause _ (c .before .before .enum-told8 .given .1) (c .done6 .ensures ∙ ap finished (c .before .set-running2 .ensures))
 
 returns-9 : tie.Need-returns-9
 unfolding acted
-returns-9 c = told _ _ Reset _ (c .before .enum-told9 .given .1) (c .done7 .ensures)
+returns-9 c = acted-as _ _ Reset _ (c .before .enum-told9 .given .1) (c .done7 .ensures)
 
 returns-10 : tie.Need-returns-10
 unfolding acted
-returns-10 c = told _ _ (Write _) _ (c .before .enum-told10 .given .1) (c .done8 .ensures)
+returns-10 c = acted-as _ _ (Write _) _ (c .before .enum-told10 .given .1) (c .done8 .ensures)
 
 returns-11 : tie.Need-returns-11
 unfolding acted
-returns-11 c = told _ _ (LocateField _) _ (c .before .enum-told11 .given .1) (c .done9 .ensures)
+returns-11 c = acted-as _ _ (LocateField _) _ (c .before .enum-told11 .given .1) (c .done9 .ensures)
 
 returns-12 : tie.Need-returns-12
-returns-12 c = told _ _ (LocateTarget _) _ (c .before .before .command .given .1) (c .locate .ensures)
+returns-12 c = acted-as _ _ (LocateTarget _) _ (c .before .before .command .given .1) (c .locate .ensures)
 
 returns-13 : tie.Need-returns-13
 unfolding acted
-returns-13 c = told _ _ (Move _ _) _ (c .before .enum-told12 .given .1) (c .done10 .ensures)
+returns-13 c = acted-as _ _ (Move _ _) _ (c .before .enum-told12 .given .1) (c .done10 .ensures)
 
 returns-14 : tie.Need-returns-14
 unfolding acted
-returns-14 c = told _ _ (Other _ _) _ (c .before .enum-told13 .given .1) (c .done11 .ensures)
+returns-14 c = acted-as _ _ (Other _ _) _ (c .before .enum-told13 .given .1) (c .done11 .ensures)
 
 pub act-spec : {M : Type 1} → statement M
 act-spec =

@@ -4,7 +4,7 @@ use Rattle.labels.proofs.time.MtcTime.is_valid.Tie as tie
 use mathlib.Core.Bool.{not}
 use mathlib.Core.Path.{ap, _∙_}
 use borrow.Author.Tests.{lt-leb, le-leb}
-use Rattle.labels.proofs.Rates.{frames-over, in-range}
+use Rattle.labels.proofs.Rates.{frames-over, all-in-range}
 use Rattle.labels.specs.St12.{isValid}
 
 returns : tie.Need-returns
@@ -31,7 +31,7 @@ skipped-requires c κs = search needs
 
 returns-5 : tie.Need-returns-5
 returns-5 c =
-    ap not (c .skipped .ensures) ∙ in-range _ _ (c .before .before .before .before .before .before .before .before .if1 .left) (c .before .before .before .before .before .before .if2 .left) (c .before .before .before .before .if3 .left) (c .before .before .before .frames-per-second .ensures) (c .before .if4 .left)
+    ap not (c .skipped .ensures) ∙ all-in-range _ _ (c .before .before .before .before .before .before .before .before .if1 .left) (c .before .before .before .before .before .before .if2 .left) (c .before .before .before .before .if3 .left) (c .before .before .before .frames-per-second .ensures) (c .before .if4 .left)
 
 pub is-valid-spec : {M : Type 1} → statement M
 is-valid-spec =

@@ -5,24 +5,24 @@ use Rattle.mmc.proofs.Writers.{fields-refused, fields-short, fields-fit
 use mathlib.Core.Path.{_∙_, sym, ap}
 use Rattle.mmc.specs.Named.{stopOf}
 
-sound-requires : tie.Need-sound-requires
-sound-requires c κs = search needs
+or-failed-requires : tie.Need-or-failed-requires
+or-failed-requires c κs = search needs
 
 enum-known-checked : tie.Need-enum-known-checked
 enum-known-checked c = search needs
 
 returns : tie.Need-returns
-returns c = fields-refused _ _ _ (sym (c .before .before .before .sound .ensures) ∙ ap stopOf (c .before .checked .given .1))
+returns c = fields-refused _ _ _ (sym (c .before .before .before .or-failed .ensures) ∙ ap stopOf (c .before .checked .given .1))
 
 enum-told : tie.Need-enum-told
 enum-told c = search needs
 
 returns-2 : tie.Need-returns-2
-returns-2 c = fields-short _ _ (sym (c .before .before .before .sound .ensures) ∙ ap stopOf (c .before .enum-told .given .1)) (c .if1 .taken)
+returns-2 c = fields-short _ _ (sym (c .before .before .before .or-failed .ensures) ∙ ap stopOf (c .before .enum-told .given .1)) (c .if1 .taken)
 
 returns-3 : tie.Need-returns-3
-returns-3 c = fields-fit _ _ (sym (c .before .before .before .sound .ensures) ∙ ap stopOf (c .before .enum-told .given .1)) (c .if1 .left)
+returns-3 c = fields-fit _ _ (sym (c .before .before .before .or-failed .ensures) ∙ ap stopOf (c .before .enum-told .given .1)) (c .if1 .left)
 
 pub close-fields-spec : {M : Type 1} → statement M
 close-fields-spec =
-    tie.close (tie.spec sound-requires enum-known-checked returns enum-told returns-2 returns-3)
+    tie.close (tie.spec or-failed-requires enum-known-checked returns enum-told returns-2 returns-3)

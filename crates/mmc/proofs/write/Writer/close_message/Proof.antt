@@ -6,23 +6,23 @@ use mathlib.Core.Path.{_∙_, sym, ap}
 use native.Mathlib.Omega.{arith}
 use Rattle.mmc.specs.Named.{stopOf}
 
-sound-requires : tie.Need-sound-requires
-sound-requires c κs = search needs
+or-failed-requires : tie.Need-or-failed-requires
+or-failed-requires c κs = search needs
 
 enum-known-checked : tie.Need-enum-known-checked
 enum-known-checked c = search needs
 
 returns : tie.Need-returns
-returns c = ends-refused _ _ _ (close-repeats _ _ (sym (c .before .before .before .sound .ensures) ∙ ap stopOf (c .before .checked .given .1)))
+returns c = ends-refused _ _ _ (close-repeats _ _ (sym (c .before .before .before .or-failed .ensures) ∙ ap stopOf (c .before .checked .given .1)))
 
 enum-told : tie.Need-enum-told
 enum-told c = search needs
 
 returns-2 : tie.Need-returns-2
-returns-2 c = ends-refused _ _ _ (close-empty _ (sym (c .before .before .before .sound .ensures) ∙ ap stopOf (c .before .enum-told .given .1)) (c .if1 .taken))
+returns-2 c = ends-refused _ _ _ (close-empty _ (sym (c .before .before .before .or-failed .ensures) ∙ ap stopOf (c .before .enum-told .given .1)) (c .if1 .taken))
 
 returns-3 : tie.Need-returns-3
-returns-3 c = ends-refused _ _ _ (close-long _ (sym (c .before .before .before .before .sound .ensures) ∙ ap stopOf (c .before .before .enum-told .given .1)) (c .before .if1 .left) (c .if2 .taken))
+returns-3 c = ends-refused _ _ _ (close-long _ (sym (c .before .before .before .before .or-failed .ensures) ∙ ap stopOf (c .before .before .enum-told .given .1)) (c .before .if1 .left) (c .if2 .taken))
 
 close-requires : tie.Need-close-requires
 close-requires c κs = search needs
@@ -31,13 +31,13 @@ same-length : tie.Need-same-length
 same-length c = search needs
 
 returns-4 : tie.Need-returns-4
-returns-4 c = ends-closed _ _ _ _ (close-sent _ (sym (c .before .before .before .before .before .before .before .before .sound .ensures) ∙ ap stopOf (c .before .before .before .before .before .before .enum-told .given .1)) (c .before .before .before .before .before .if1 .left) (omega (arith, c .before .before .before .before .if2 .left))) (omega (arith, c .before .before .before .before .if2 .left)) (c .before .before .close .ensures .0) (c .before .before .close .ensures .1) (omega (arith, c .before .before .before .before .before .before .before .before .before .before .good))
+returns-4 c = ends-closed _ _ _ _ (close-sent _ (sym (c .before .before .before .before .before .before .before .before .or-failed .ensures) ∙ ap stopOf (c .before .before .before .before .before .before .enum-told .given .1)) (c .before .before .before .before .before .if1 .left) (omega (arith, c .before .before .before .before .if2 .left))) (omega (arith, c .before .before .before .before .if2 .left)) (c .before .before .close .ensures .0) (c .before .before .close .ensures .1) (omega (arith, c .before .before .before .before .before .before .before .before .before .before .good))
 
 pub close-message-spec : {M : Type 1} → statement M
 close-message-spec =
     tie.close
     (tie.spec
-    sound-requires
+    or-failed-requires
     enum-known-checked
     returns
     enum-told

@@ -4,7 +4,7 @@ use Rattle.mmc.proofs.write.Writer.put_field.Tie as tie
 use Rattle.mmc.proofs.Writers.{goes-on, ready-told, repeats, takes, fails, put-gives}
 use mathlib.Core.Path.{_∙_, sym, ap, refl}
 use native.Mathlib.Omega.{arith}
-use Rattle.mmc.specs.Named.{Outcome, stopOf}
+use Rattle.mmc.specs.Named.{Extent, stopOf}
 use Rattle.mmc.specs.Write.{writingOf}
 use Rattle.mmc.proofs.ItemPuts.{field-small}
 
@@ -27,7 +27,7 @@ put-field-requires : tie.Need-put-field-requires
 put-field-requires c κs = goes-on (writingOf (c .before .before .before .before .before .before .args .self)) (ready-told (writingOf (c .before .before .before .before .before .before .args .self)) (sym (c .before .before .before .ready .ensures) ∙ ap stopOf (c .before .enum-told .given .1)) .0) .1
 
 after-requires : tie.Need-after-requires
-after-requires c κs = omega (arith, goes-on (writingOf (c .before .before .before .before .before .before .before .before .before .args .self)) (ready-told (writingOf (c .before .before .before .before .before .before .before .before .before .args .self)) (sym (c .before .before .before .before .before .before .ready .ensures) ∙ ap stopOf (c .before .before .before .before .enum-told .given .1)) .0), ready-told (writingOf (c .before .before .before .before .before .before .before .before .before .args .self)) (sym (c .before .before .before .before .before .before .ready .ensures) ∙ ap stopOf (c .before .before .before .before .enum-told .given .1)) .1, ap (λ (o : Outcome). o .len) (c .before .before .put-field .ensures .0), field-small (c .before .before .before .before .before .before .before .before .before .args .source .now) (c .before .before .before .before .before .before .before .before .before .args .field))
+after-requires c κs = omega (arith, goes-on (writingOf (c .before .before .before .before .before .before .before .before .before .args .self)) (ready-told (writingOf (c .before .before .before .before .before .before .before .before .before .args .self)) (sym (c .before .before .before .before .before .before .ready .ensures) ∙ ap stopOf (c .before .before .before .before .enum-told .given .1)) .0), ready-told (writingOf (c .before .before .before .before .before .before .before .before .before .args .self)) (sym (c .before .before .before .before .before .before .ready .ensures) ∙ ap stopOf (c .before .before .before .before .enum-told .given .1)) .1, ap (λ (o : Extent). o .len) (c .before .before .put-field .ensures .0), field-small (c .before .before .before .before .before .before .before .before .before .args .source .now) (c .before .before .before .before .before .before .before .before .before .args .field))
 
 same-length : tie.Need-same-length
 same-length c = search needs

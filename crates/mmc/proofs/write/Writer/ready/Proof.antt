@@ -9,25 +9,25 @@ use mathlib.Core.Path.{_∙_, sym, ap}
 returns : tie.Need-returns
 returns c = ready-kept _ (c .before .before .if1 .taken) (c .if2 .taken)
 
-sound-requires : tie.Need-sound-requires
-sound-requires c κs = search needs
+or-failed-requires : tie.Need-or-failed-requires
+or-failed-requires c κs = search needs
 
 enum-known-checked : tie.Need-enum-known-checked
 enum-known-checked c = search needs
 
 returns-2 : tie.Need-returns-2
-returns-2 c = ready-failed _ _ (sym (c .before .before .before .sound .ensures) ∙ ap stopOf (c .before .checked .given .1))
+returns-2 c = ready-failed _ _ (sym (c .before .before .before .or-failed .ensures) ∙ ap stopOf (c .before .checked .given .1))
 
 enum-told : tie.Need-enum-told
 enum-told c = search needs
 
 returns-3 : tie.Need-returns-3
-returns-3 c = ready-full _ (sym (c .before .before .before .before .sound .ensures) ∙ ap stopOf (c .before .before .enum-told .given .1)) (c .if3 .taken)
+returns-3 c = ready-full _ (sym (c .before .before .before .before .or-failed .ensures) ∙ ap stopOf (c .before .before .enum-told .given .1)) (c .if3 .taken)
 
 returns-4 : tie.Need-returns-4
-returns-4 c = ready-on _ (sym (c .before .before .before .before .sound .ensures) ∙ ap stopOf (c .before .before .enum-told .given .1)) (under-256 _ (goes-on (writingOf (c .before .before .before .before .before .before .before .args .self)) (sym (c .before .before .before .before .sound .ensures) ∙ ap stopOf (c .before .before .enum-told .given .1)) .0) (c .if3 .left))
+returns-4 c = ready-on _ (sym (c .before .before .before .before .or-failed .ensures) ∙ ap stopOf (c .before .before .enum-told .given .1)) (under-256 _ (goes-on (writingOf (c .before .before .before .before .before .before .before .args .self)) (sym (c .before .before .before .before .or-failed .ensures) ∙ ap stopOf (c .before .before .enum-told .given .1)) .0) (c .if3 .left))
 
 pub ready-spec : {M : Type 1} → statement M
 ready-spec =
     tie.close
-    (tie.spec returns sound-requires enum-known-checked returns-2 enum-told returns-3 returns-4)
+    (tie.spec returns or-failed-requires enum-known-checked returns-2 enum-told returns-3 returns-4)

@@ -2,12 +2,12 @@
 use mathlib.Core.Path.{refl}
 use borrow.Author.Needs.{needs}
 use borrow.Author.Tests.{not-true, not-false}
-use Rattle.mtc.proofs.Generators.{known-none, known-above, known-within, answers, stops}
+use Rattle.mtc.proofs.Generators.{known-none, known-above, known-within, answers, stopped-refuses}
 use Rattle.mtc.proofs.generator.MtcGenerator.next_byte.Statement.{statement}
 use Rattle.mtc.proofs.generator.MtcGenerator.next_byte.Tie as tie
 
 returns : tie.Need-returns
-returns c = stops _ (not-true _ (c .if1 .taken))
+returns c = stopped-refuses _ (not-true _ (c .if1 .taken))
 
 enum-known-last : tie.Need-enum-known-last
 enum-known-last c = search needs

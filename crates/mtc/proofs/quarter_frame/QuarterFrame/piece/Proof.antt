@@ -1,7 +1,7 @@
 -- `mtc::quarter_frame::QuarterFrame::piece` meets its contract. Assumes nothing.
 use native.Mathlib.Omega.{arith}
 use Rattle.mtc.specs.QuarterFrame.{pieces}
-use Rattle.mtc.proofs.Nibbles.{bits-small}
+use Rattle.labels.proofs.Laws.{bits-small}
 use Rattle.mtc.proofs.Nibbles.{past-eight}
 use borrow.Author.Needs.{needs}
 use Rattle.mtc.proofs.quarter_frame.QuarterFrame.piece.Statement.{statement}

@@ -2,7 +2,7 @@
 use native.Mathlib.Omega.{arith}
 use borrow.Author.Needs.{needs}
 use Rattle.mtc.specs.QuarterFrame.{pieces}
-use Rattle.mtc.proofs.Nibbles.{bits-small}
+use Rattle.labels.proofs.Laws.{bits-small}
 use Rattle.mtc.proofs.quarter_frame.QuarterFrame.pieces.Statement.{statement}
 use Rattle.mtc.proofs.quarter_frame.QuarterFrame.pieces.Tie as tie
 

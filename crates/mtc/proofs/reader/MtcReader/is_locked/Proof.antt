@@ -3,11 +3,11 @@ use borrow.Author.Needs.{needs}
 use Rattle.mtc.proofs.reader.MtcReader.is_locked.Statement.{statement}
 use Rattle.mtc.proofs.reader.MtcReader.is_locked.Tie as tie
 
-taken-requires : tie.Need-taken-requires
-taken-requires c κs = search needs
+or-fresh-requires : tie.Need-or-fresh-requires
+or-fresh-requires c κs = search needs
 
 returns : tie.Need-returns
-returns c = rw (c .taken .ensures .0)
+returns c = rw (c .or-fresh .ensures .0)
 
 pub is-locked-spec : {M : Type 1} → statement M
-is-locked-spec = tie.close (tie.spec taken-requires returns)
+is-locked-spec = tie.close (tie.spec or-fresh-requires returns)

@@ -4,8 +4,8 @@ use Rattle.mtc.proofs.Readers.{fit-set, sound-count, sound-nibbles, pie
 use Rattle.mtc.proofs.reader.MtcReader.step.Statement.{statement}
 use Rattle.mtc.proofs.reader.MtcReader.step.Tie as tie
 
-taken-requires : tie.Need-taken-requires
-taken-requires c κs = search needs
+or-fresh-requires : tie.Need-or-fresh-requires
+or-fresh-requires c κs = search needs
 
 from-byte-requires : tie.Need-from-byte-requires
 from-byte-requires c κs = search needs
@@ -14,7 +14,7 @@ order-of-requires : tie.Need-order-of-requires
 order-of-requires c κs = search needs
 
 number-of-requires : tie.Need-number-of-requires
-number-of-requires c κs = sound-count _ (c .before .before .taken .ensures .1)
+number-of-requires c κs = sound-count _ (c .before .before .or-fresh .ensures .1)
 
 passed-requires : tie.Need-passed-requires
 passed-requires c κs = search needs
@@ -24,7 +24,7 @@ event-requires c κs = search needs
 
 returns : tie.Need-returns
 returns c =
-    passes _ _ (c .before .before .before .before .before .before .taken .ensures .0) (c .before .before .before .before .before .from-byte .ensures) (c .before .before .before .before .order-of .ensures) (c .before .before .before .number-of .ensures .0)
+    passes _ _ (c .before .before .before .before .before .before .or-fresh .ensures .0) (c .before .before .before .before .before .from-byte .ensures) (c .before .before .before .before .order-of .ensures) (c .before .before .before .number-of .ensures .0)
     (c .before .before .if1 .taken) (c .before .passed .ensures) (c .event .ensures)
 
 stored-requires : tie.Need-stored-requires
@@ -33,11 +33,11 @@ stored-requires c κs = piece-small _ _ (c .before .before .before .from-byte .e
 complete-requires : tie.Need-complete-requires
 complete-requires c κs =
     rw (c .before .stored .ensures)
-    (fit-set 8 _ _ _ (sound-nibbles _ (c .before .before .before .before .before .before .taken .ensures .1)) (value-small _ _ (c .before .before .before .before .before .from-byte .ensures)))
+    (fit-set 8 _ _ _ (sound-nibbles _ (c .before .before .before .before .before .before .or-fresh .ensures .1)) (value-small _ _ (c .before .before .before .before .before .from-byte .ensures)))
 
 returns-2 : tie.Need-returns-2
 returns-2 c =
-    completes _ _ (c .before .before .before .before .before .before .before .taken .ensures .0) (c .before .before .before .before .before .before .from-byte .ensures) (c .before .before .before .before .before .order-of .ensures) (c .before .before .before .before .number-of .ensures .0)
+    completes _ _ (c .before .before .before .before .before .before .before .or-fresh .ensures .0) (c .before .before .before .before .before .before .from-byte .ensures) (c .before .before .before .before .before .order-of .ensures) (c .before .before .before .before .number-of .ensures .0)
     (c .before .if2 .taken) (c .before .before .stored .ensures) (c .complete .ensures)
 
 event-requires-2 : tie.Need-event-requires-2
@@ -45,14 +45,14 @@ event-requires-2 c κs = search needs
 
 returns-3 : tie.Need-returns-3
 returns-3 c =
-    keeps _ _ (c .before .before .before .before .before .before .before .taken .ensures .0) (c .before .before .before .before .before .before .from-byte .ensures) (c .before .before .before .before .before .order-of .ensures) (c .before .before .before .before .number-of .ensures .0)
+    keeps _ _ (c .before .before .before .before .before .before .before .or-fresh .ensures .0) (c .before .before .before .before .before .before .from-byte .ensures) (c .before .before .before .before .before .order-of .ensures) (c .before .before .before .before .number-of .ensures .0)
     (c .before .before .before .if1 .left) (c .before .if2 .left) (c .before .before .stored .ensures) (c .event2 .ensures)
 
 pub step-spec : {M : Type 1} → statement M
 step-spec =
     tie.close
     (tie.spec
-    taken-requires
+    or-fresh-requires
     from-byte-requires
     order-of-requires
     number-of-requires

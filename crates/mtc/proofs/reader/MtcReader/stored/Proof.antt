@@ -10,11 +10,11 @@ array-write-nibbles c = search needs
 began-requires : tie.Need-began-requires
 began-requires c κs = search needs
 
-taking-requires : tie.Need-taking-requires
-taking-requires c κs = search needs
+with-piece-requires : tie.Need-with-piece-requires
+with-piece-requires c κs = search needs
 
 returns : tie.Need-returns
-returns c = c .taking .ensures ∙ rw (c .before .began .ensures)
+returns c = c .with-piece .ensures ∙ rw (c .before .began .ensures)
 
 pub stored-spec : {M : Type 1} → statement M
-stored-spec = tie.close (tie.spec array-write-nibbles began-requires taking-requires returns)
+stored-spec = tie.close (tie.spec array-write-nibbles began-requires with-piece-requires returns)

@@ -1,5 +1,5 @@
-use Rattle.mmc.proofs.write.Writer.sound.Statement.{statement}
-use Rattle.mmc.proofs.write.Writer.sound.Tie as tie
+use Rattle.mmc.proofs.write.Writer.or_failed.Statement.{statement}
+use Rattle.mmc.proofs.write.Writer.or_failed.Tie as tie
 use Rattle.mmc.proofs.Writers.{too-many, too-far, as-it-is}
 
 returns : tie.Need-returns
@@ -11,5 +11,5 @@ returns-2 c = too-far _ (c .before .before .if1 .left) (c .if2 .taken)
 returns-3 : tie.Need-returns-3
 returns-3 c = as-it-is _ (c .before .before .if1 .left) (c .if2 .left)
 
-pub sound-spec : {M : Type 1} → statement M
-sound-spec = tie.close (tie.spec returns returns-2 returns-3)
+pub or-failed-spec : {M : Type 1} → statement M
+or-failed-spec = tie.close (tie.spec returns returns-2 returns-3)
