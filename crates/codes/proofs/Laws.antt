@@ -27,15 +27,15 @@ use Rattle.labels.specs.declared.time.TimeCodeType.the-variants.{Fps30}
 use Rattle.universal.proofs.Laws.{all-low-byte}
 use Rattle.universal.specs.Message.{allLow}
 use Rattle.universal.specs.Refusals.{gives, refused, refusal}
-use Rattle.codes.proofs.Again
+use Rattle.codes.proofs.WrittenAgain
 -- A byte's fields, read and written again.
-pub use Rattle.codes.proofs.Again.{hours-again, six-again, frames-again}
+pub use Rattle.codes.proofs.WrittenAgain.{hours-again, six-again, frames-again}
 use Rattle.universal.proofs.Tests.{and-parts, and-first, and-second, and-all}
 use Rattle.codes.proofs.Answers.{answer-same}
-use Rattle.codes.proofs.Beyond
+use Rattle.codes.proofs.BeyondPage
 use Rattle.codes.proofs.Names
-use Rattle.codes.proofs.Reading
-use Rattle.codes.proofs.Written
+use Rattle.codes.proofs.ReadByPage
+use Rattle.codes.proofs.AcceptedCodes
 
 -- ---- reading, by pp. 8 and 9
 
@@ -43,14 +43,14 @@ use Rattle.codes.proofs.Written
 pub letters-by-page : (hr mn sc fr ff : ℕ) (c : StandardTimeCode)
     → Letters hr mn sc fr ff c ↔ ((allLow (hr ∷ mn ∷ sc ∷ fr ∷ ff ∷ []) ≡ true) × (readStandard hr mn sc fr ff ≡ c))
 letters-by-page hr mn sc fr ff c = (
-  (λ k. (Reading.code-letters-low hr mn sc fr ff c k, Reading.code-read hr mn sc fr ff c k)),
+  (λ k. (ReadByPage.code-letters-low hr mn sc fr ff c k, ReadByPage.code-read hr mn sc fr ff c k)),
   (λ (l, e). rw e at (of-low l)),
 )
   where
     of-low : allLow (hr ∷ mn ∷ sc ∷ fr ∷ ff ∷ []) ≡ true → Letters hr mn sc fr ff (readStandard hr mn sc fr ff)
     of-low l =
         let b : (i : ℕ) → i < 5 → getD (hr ∷ mn ∷ sc ∷ fr ∷ ff ∷ []) i 0 ≤ 127 = λ i k. all-low-byte _ i l k in
-        Reading.code-letters hr mn sc fr ff (b 0 (lit< tt)) (b 1 (lit< tt)) (b 2 (lit< tt)) (b 3 (lit< tt)) (b 4 (lit< tt))
+        ReadByPage.code-letters hr mn sc fr ff (b 0 (lit< tt)) (b 1 (lit< tt)) (b 2 (lit< tt)) (b 3 (lit< tt)) (b 4 (lit< tt))
 
 -- The page reads them as a code just where it also has that code.
 pub read-by-page : (hr mn sc fr ff : ℕ) (c : StandardTimeCode)
@@ -63,30 +63,30 @@ read-by-page hr mn sc fr ff c = (
 
 -- So what the page reads as a code is read as that code.
 pub read-only : (hr mn sc fr ff : ℕ) (c : StandardTimeCode) → Reads hr mn sc fr ff c → readStandard hr mn sc fr ff ≡ c
-read-only hr mn sc fr ff c k = Reading.code-read hr mn sc fr ff c (k .letters)
+read-only hr mn sc fr ff c k = ReadByPage.code-read hr mn sc fr ff c (k .letters)
 
 -- What else is read: subframes 100 to 127, labels that ST 12-1 does not have, blank codes with counts; nothing more.
 pub read-beyond : (hr mn sc fr ff : ℕ)
     → (page.allowed (readStandard hr mn sc fr ff) ≡ false) ↔ ReadBeyond (readStandard hr mn sc fr ff)
-read-beyond hr mn sc fr ff = (Beyond.beyond-read hr mn sc fr ff, Beyond.beyond-code (readStandard hr mn sc fr ff))
+read-beyond hr mn sc fr ff = (BeyondPage.beyond-read hr mn sc fr ff, BeyondPage.beyond-code (readStandard hr mn sc fr ff))
 
 -- Bytes above 7FH are read as the same without bit 7.
 pub bit-7-unread : (hr mn sc fr ff : ℕ)
     → readStandard (hr % 128) (mn % 128) (sc % 128) (fr % 128) (ff % 128) ≡ readStandard hr mn sc fr ff
-bit-7-unread = Reading.code-bit-7
+bit-7-unread = ReadByPage.code-bit-7
 
 -- Two bytes are the letters of a short code just where each is at most 7FH and they are read as that code.
 pub short-letters-by-page : (fr ff : ℕ) (c : ShortTimeCode)
     → ShortLetters fr ff c ↔ ((allLow (fr ∷ ff ∷ []) ≡ true) × (readShort fr ff ≡ c))
 short-letters-by-page fr ff c = (
-  (λ k. (Reading.short-letters-low fr ff c k, Reading.short-read fr ff c k)),
+  (λ k. (ReadByPage.short-letters-low fr ff c k, ReadByPage.short-read fr ff c k)),
   (λ (l, e). rw e at (of-low l)),
 )
   where
     of-low : allLow (fr ∷ ff ∷ []) ≡ true → ShortLetters fr ff (readShort fr ff)
     of-low l =
         let b : (i : ℕ) → i < 2 → getD (fr ∷ ff ∷ []) i 0 ≤ 127 = λ i k. all-low-byte _ i l k in
-        Reading.short-letters fr ff (b 0 (lit< tt)) (b 1 (lit< tt))
+        ReadByPage.short-letters fr ff (b 0 (lit< tt)) (b 1 (lit< tt))
 
 module _ (r : TimeCodeType) where
   -- As the short form of a field the page reads them as a code just where it also has that code at the field's rate.
@@ -100,61 +100,61 @@ module _ (r : TimeCodeType) where
 
   -- So what the page reads as a short code is read as that code.
   pub short-read-only : (fr ff : ℕ) (c : ShortTimeCode) → ReadsShort r fr ff c → readShort fr ff ≡ c
-  short-read-only fr ff c k = Reading.short-read fr ff c (k .letters)
+  short-read-only fr ff c k = ReadByPage.short-read fr ff c (k .letters)
 
   -- What else is read: subframes 100 to 127, and frames from the rate to 31; nothing more.
   pub short-read-beyond : (fr ff : ℕ) → (page.shortAllowed r (readShort fr ff) ≡ false) ↔ ShortReadBeyond r (readShort fr ff)
-  short-read-beyond fr ff = (Beyond.short-read-beyond r fr ff, Beyond.beyond-short r (readShort fr ff))
+  short-read-beyond fr ff = (BeyondPage.short-read-beyond r fr ff, BeyondPage.beyond-short r (readShort fr ff))
 
 -- Bytes above 7FH are read as the same without bit 7.
 pub short-bit-7-unread : (fr ff : ℕ) → readShort (fr % 128) (ff % 128) ≡ readShort fr ff
-short-bit-7-unread = Reading.short-bit-7
+short-bit-7-unread = ReadByPage.short-bit-7
 
 -- ---- writing, by pp. 8 and 9
 
 -- A code is accepted just where the page has it with zeros for a blank label.
 pub fits-by-page : (c : StandardTimeCode) → standardFits c ≡ page.allowed (zeroed c)
-fits-by-page = Beyond.fits-zeroed
+fits-by-page = BeyondPage.fits-zeroed
 
 -- It is answered with the bytes that the page gives to that, or with 3.
 pub answer-by-page : (c : StandardTimeCode)
     → standardBytes c ≡ cond (page.allowed (zeroed c)) (gives (page.written (zeroed c))) (refused (refusal 3))
 answer-by-page c =
-    answer-same (standardFits c) (page.allowed (zeroed c)) _ _ (refusal 3) (fits-by-page c) (Written.standard-page c)
+    answer-same (standardFits c) (page.allowed (zeroed c)) _ _ (refusal 3) (fits-by-page c) (AcceptedCodes.standard-page c)
 
 -- A code that the page has is the same with zeros for a blank label.
 pub zeroed-same : (c : StandardTimeCode) → page.allowed c ≡ true → zeroed c ≡ c
-zeroed-same = Beyond.allowed-same
+zeroed-same = BeyondPage.allowed-same
 
 -- So a code that the page has is answered with the page's bytes.
 pub written-by-page : (c : StandardTimeCode) → page.allowed c ≡ true → standardBytes c ≡ gives (page.written c)
 written-by-page c h =
     answer-by-page c
-    ∙ ap (λ (d : StandardTimeCode). cond (page.allowed d) (gives (page.written d)) (refused (refusal 3))) (Beyond.allowed-same c h)
+    ∙ ap (λ (d : StandardTimeCode). cond (page.allowed d) (gives (page.written d)) (refused (refusal 3))) (BeyondPage.allowed-same c h)
     ∙ ap (λ (b : Bool). cond b (gives (page.written c)) (refused (refusal 3))) h
 
 -- What else is accepted: a blank code with counts, whatever they are; nothing more.
 pub written-beyond : (c : StandardTimeCode) → ((standardFits c ≡ true) × (page.allowed c ≡ false)) ↔ WrittenBeyond c
-written-beyond c = (Beyond.written-beyond c, Beyond.beyond-written c)
+written-beyond c = (BeyondPage.written-beyond c, BeyondPage.beyond-written c)
 
 -- A short code is accepted just where the page has it at 30 frames.
 pub short-fits-by-page : (c : ShortTimeCode) → shortFits c ≡ page.shortAllowed Fps30 c
-short-fits-by-page = Beyond.short-fits-30
+short-fits-by-page = BeyondPage.short-fits-30
 
 -- It is answered with the page's bytes, or with 3.
 pub short-answer-by-page : (c : ShortTimeCode)
     → shortBytes c ≡ cond (page.shortAllowed Fps30 c) (gives (page.shortWritten c)) (refused (refusal 3))
 short-answer-by-page c =
-    answer-same (shortFits c) (page.shortAllowed Fps30 c) _ _ (refusal 3) (short-fits-by-page c) (λ _. Written.short-page c)
+    answer-same (shortFits c) (page.shortAllowed Fps30 c) _ _ (refusal 3) (short-fits-by-page c) (λ _. AcceptedCodes.short-page c)
 
 module _ (r : TimeCodeType) (c : ShortTimeCode) where
   -- So a code that the page has at some rate is answered with the page's bytes.
   pub short-written-by-page : page.shortAllowed r c ≡ true → shortBytes c ≡ gives (page.shortWritten c)
-  short-written-by-page h = rw (Beyond.short-fits-rate r c h, Written.short-page c)
+  short-written-by-page h = rw (BeyondPage.short-fits-rate r c h, AcceptedCodes.short-page c)
 
   -- What else is accepted: frames from the rate to 29, so 24 to 29 at 24 frames and 25 to 29 at 25; nothing more.
   pub short-written-beyond : ((shortFits c ≡ true) × (page.shortAllowed r c ≡ false)) ↔ ShortWrittenBeyond r c
-  short-written-beyond = (Beyond.short-written-beyond r c, Beyond.beyond-short-written r c)
+  short-written-beyond = (BeyondPage.short-written-beyond r c, BeyondPage.beyond-short-written r c)
 
 -- ---- what is written reads back
 
@@ -164,8 +164,8 @@ pub page-reads-back : (c : StandardTimeCode) → page.allowed c ≡ true
 page-reads-back c h =
     record {
       letters =
-          Written.letters-written c (valid-widths (c .time) (Beyond.allowed-label c h))
-          (Written.fits-page (c .«final_byte») ∙ Beyond.allowed-last c h);
+          AcceptedCodes.letters-written c (valid-widths (c .time) (BeyondPage.allowed-label c h))
+          (AcceptedCodes.fits-page (c .«final_byte») ∙ BeyondPage.allowed-last c h);
       code = h;
     }
 
@@ -176,23 +176,23 @@ short-page-reads-back r c h =
     let p = and-parts (ltb (c .frames) (framesPerSecond r)) (page.lastAllowed (c .«final_byte»)) h in
     let f : c .frames < framesPerSecond r = ltb-true _ _ (p .0) in
     record {
-      letters = Written.short-letters-written c (omega (arith, fps-small r)) (Written.fits-page (c .«final_byte») ∙ p .1);
+      letters = AcceptedCodes.short-letters-written c (omega (arith, fps-small r)) (AcceptedCodes.fits-page (c .«final_byte») ∙ p .1);
       code = h;
     }
 
 -- An accepted short code reads back as itself.
 pub short-read-back : (c : ShortTimeCode) → shortFits c ≡ true → readTwo (shortList c) ≡ c
 short-read-back c h =
-    ap readTwo (Written.short-page c)
-    ∙ Reading.short-read _ _ c
-    (Written.short-letters-written c (omega (arith, Written.frames-accepted c h)) (Written.short-last-accepted c h))
+    ap readTwo (AcceptedCodes.short-page c)
+    ∙ ReadByPage.short-read _ _ c
+    (AcceptedCodes.short-letters-written c (omega (arith, AcceptedCodes.frames-accepted c h)) (AcceptedCodes.short-last-accepted c h))
 
 -- An accepted code reads back with its label as zeros where it is blank.
 pub read-back : (c : StandardTimeCode) → standardFits c ≡ true → readFive (standardList c) ≡ zeroed c
 read-back c h =
-    ap readFive (Written.standard-page c h)
-    ∙ Reading.code-read _ _ _ _ _ (zeroed c)
-    (Written.letters-written (zeroed c) (Written.label-accepted c h) (Written.last-accepted c h))
+    ap readFive (AcceptedCodes.standard-page c h)
+    ∙ ReadByPage.code-read _ _ _ _ _ (zeroed c)
+    (AcceptedCodes.letters-written (zeroed c) (AcceptedCodes.label-accepted c h) (AcceptedCodes.last-accepted c h))
 
 -- One that is not blank reads back as itself.
 pub read-back-same : (c : StandardTimeCode) → standardFits c ≡ true → c .blank ≡ false → readFive (standardList c) ≡ c
@@ -203,11 +203,11 @@ read-back-same c h b = read-back c h ∙ rw b
 -- The bytes of a code that was read are those bytes without bit 7; without the label's bits, where it is blank; and without
 -- the reserved bits of a status.
 pub written-again : (hr mn sc fr ff : ℕ) → standardList (readStandard hr mn sc fr ff) ≡ standardAgain hr mn sc fr ff
-written-again = Again.standard-again
+written-again = WrittenAgain.standard-again
 
 -- Two bytes, likewise.
 pub short-written-again : (fr ff : ℕ) → shortList (readShort fr ff) ≡ shortAgain fr ff
-short-written-again = Again.short-again
+short-written-again = WrittenAgain.short-again
 
 -- Bytes of at most 7FH come back whole where the code is not blank and a status has no reserved bits.
 pub same-again : (hr mn sc fr ff : ℕ) → hr ≤ 127 → mn ≤ 127 → sc ≤ 127 → fr ≤ 127 → bit 64 sc ≡ false
@@ -223,11 +223,11 @@ same-again hr mn sc fr ff hh hm hs hf b l =
 
 -- Every byte of an accepted code is below 80H.
 pub bytes-low : (c : StandardTimeCode) → standardFits c ≡ true → allLow (standardList c) ≡ true
-bytes-low = Written.standard-low
+bytes-low = AcceptedCodes.standard-low
 
 -- Every byte of an accepted short code is below 80H.
 pub short-bytes-low : (c : ShortTimeCode) → shortFits c ≡ true → allLow (shortList c) ≡ true
-short-bytes-low = Written.short-low
+short-bytes-low = AcceptedCodes.short-low
 
 -- A code has five bytes.
 pub five-bytes : (c : StandardTimeCode) → length (standardList c) ≡ 5
@@ -313,7 +313,7 @@ short-by-page c = refl
 -- That of a code that the page has is one that the page has at the code's rate.
 pub short-of-allowed : (c : StandardTimeCode) → page.allowed c ≡ true → page.shortAllowed (c .time .rate) (page.short c) ≡ true
 short-of-allowed c h =
-    and-all _ _ (lt-ltb _ _ (valid-facts (c .time) (Beyond.allowed-label c h) .frames)) (Beyond.allowed-last c h)
+    and-all _ _ (lt-ltb _ _ (valid-facts (c .time) (BeyondPage.allowed-label c h) .frames)) (BeyondPage.allowed-last c h)
 
 -- A code with a short form is the page's too.
 pub with-short-by-page : (c : StandardTimeCode) (s : ShortTimeCode) → withShort c s ≡ page.afterShort c s

@@ -1,10 +1,10 @@
-mod Again
+mod AcceptedCodes
 mod Answers
-mod Beyond
+mod BeyondPage
 mod Bits
 mod Forms
 pub mod Laws
 mod Names
-mod Reading
-mod Writing
-mod Written
+mod ReadByPage
+mod ToBytes
+mod WrittenAgain

@@ -30,7 +30,7 @@ use Rattle.universal.specs.Overlay.{overlay}
 use Rattle.fast_mmc.specs.Words.{afterWords, closedOut, wordsAnswer, wordsLeft, OneWords, givenAll}
 use Rattle.fast_mmc.specs.Code.{isStatus}
 use Rattle.fast_mmc.specs.Word.{withBytes, fourMarks, targetBytes, targetWord, commandWord, plainCommand, byteAt, markedCode, wordCode, saidCommand, ifWord, wordCommand, wordItem, OneWord}
-use Rattle.fast_mmc.proofs.Back.{final-back}
+use Rattle.fast_mmc.proofs.FlatBack.{final-back}
 
 -- ---- what a number says
 

@@ -1,6 +1,6 @@
-mod Back
 mod Checks
 mod CommandWords
+mod FlatBack
 pub mod Laws
 mod WordItems
 mod WordPuts

@@ -16,7 +16,7 @@ use Rattle.mtc.specs.declared.reader.MaybeSequence.the-variants.{NoSequence, Se
 use Rattle.mtc.specs.declared.reader.MtcEvent.{MtcEvent}
 use Rattle.mtc.specs.declared.reader.MtcReader.{MtcReader}
 use Rattle.mtc.specs.declared.reader.MtcSequence.{MtcSequence}
-use Rattle.fast_mtc.proofs.Back.{direction-back}
+use Rattle.fast_mtc.proofs.FlatBack.{direction-back}
 
 -- ---- as the code makes them
 

@@ -3,11 +3,11 @@
 use mathlib.Core.Path.{_≡_, refl}
 use Rattle.fast_mtc.specs.Refusal.{refusalIn}
 use Rattle.universal.specs.Refusals.{Refusal, gives, refused}
-pub use Rattle.fast_mtc.proofs.Back.{time-back, number-time, generator-back}
+pub use Rattle.fast_mtc.proofs.FlatBack.{time-back, number-time, generator-back}
 -- Any words stand for a sound reader.
-pub use Rattle.fast_mtc.proofs.Receiving.{sound-in}
+pub use Rattle.fast_mtc.proofs.ReceivedPieces.{sound-in}
 -- Frames earlier in the same second, from the third number on, are a difference.
-pub use Rattle.fast_mtc.proofs.ShortWays.{one-earlier, two-earlier}
+pub use Rattle.fast_mtc.proofs.LabelShortWays.{one-earlier, two-earlier}
 -- Events and reports as numbers, and what is read off them: a report is whole in its number and the reader that it left.
 pub use Rattle.fast_mtc.proofs.Events.{report-of, none-reported, some-reported, jump-reported, report-back, reported-back, kept-back}
 

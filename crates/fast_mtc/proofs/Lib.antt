@@ -1,11 +1,11 @@
-mod Back
-mod Bytes
 mod Events
+mod FlatBack
+mod GeneratorBytes
+mod LabelShortWays
 mod LabelWords
 pub mod Laws
 mod Orders
-mod Passing
-mod Receiving
-mod ShortWays
-mod Spelled
-mod Steady
+mod PassedPieces
+mod ReceivedPieces
+mod SpelledLists
+mod SteadyLabels

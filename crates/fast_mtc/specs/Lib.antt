@@ -1,5 +1,5 @@
 pub mod Generator
-pub mod Inner
+pub mod Contracts
 pub mod Label
 pub mod Reader
 pub mod Refusal

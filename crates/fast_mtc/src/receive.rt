@@ -14,7 +14,7 @@ ghost use Rattle.mtc.specs.Reader.{afterByte, eventOf};
 ghost use Rattle.mtc.specs.declared.generator.Direction.the-variants.{Forward, Reverse};
 ghost use Rattle.mtc.specs.declared.reader.MaybeDirection.the-variants.{NoDirection, Going};
 ghost use Rattle.fast_mtc.specs.Reader.{readerIn, flatEvent};
-ghost use Rattle.fast_mtc.specs.Inner.{Received, FirstKept, PassedPiece};
+ghost use Rattle.fast_mtc.specs.Contracts.{Received, FirstKept, PassedPiece};
 
 // In a sequence forward the order is below this one, in reverse below the next.
 const IN_REVERSE: u32 = 8;

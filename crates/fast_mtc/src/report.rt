@@ -32,7 +32,7 @@ ghost use Rattle.mtc.specs.declared.reader.MaybeDirection.the-variants.{Going};
 ghost use Rattle.mtc.specs.declared.reader.MaybeSequence.the-variants.{NoSequence, Sequence};
 ghost use Rattle.fast_mtc.specs.Time.{flatTime};
 ghost use Rattle.fast_mtc.specs.Reader.{bitOf, nibblesIn, readerIn, flatReport, flatEvent, labelOr, reportIn, flatMaybeSequence};
-ghost use Rattle.fast_mtc.specs.Inner.{SequenceEnded, SteadyLabel, steady};
+ghost use Rattle.fast_mtc.specs.Contracts.{SequenceEnded, SteadyLabel, steady};
 
 #[repr(C)]
 pub struct FlatSequence {

@@ -17,7 +17,7 @@ ghost use lib.ListN.{length};
 ghost use Rattle.labels.specs.Time.{bitsOf};
 ghost use Rattle.mtc.specs.Reader.{fresh, afterFullMessage};
 ghost use Rattle.fast_mtc.specs.Reader.{wayIn, lastIn, countIn, firstIn, flatWay, flatMaybeTime, nibblesIn, labelIn, timeIn, readerIn, readerFields};
-ghost use Rattle.fast_mtc.specs.Inner.{StoppedOrder};
+ghost use Rattle.fast_mtc.specs.Contracts.{StoppedOrder};
 
 // A time, where `present`; elsewhere all zeros.
 #[repr(C)]

@@ -11,15 +11,15 @@ use Rattle.labels.specs.declared.time.TimeCodeType.{TimeCodeType}
 use Rattle.labels.specs.declared.time.TimeCodeType.the-variants.{Fps30Drop}
 use Rattle.labels.specs.St12.{label, framesPerSecond, isDropFrame, isSkipped, isValid, LeastAbove, countBefore, labelsOfDay, labelAfter, labelBefore}
 use Rattle.labels.specs.Time.{dayOf, formula, frameCount, labelAtSecond, labelAt, modZ, addFrames, nextValid}
-use Rattle.labels.proofs.After
-use Rattle.labels.proofs.Before
+use Rattle.labels.proofs.LabelAfter
+use Rattle.labels.proofs.LabelBefore
 use Rattle.labels.proofs.Counts
 use Rattle.labels.proofs.DayCount
 -- A signed distance modulo a day, as code has it that tests its sign: -1 - z where it is negative.
 pub use Rattle.labels.proofs.Distance.{back-fits, back-casts, back-mod, ahead-casts, ahead-mod, passed-mod, mod-pred, mod-below}
-use Rattle.labels.proofs.Later
-use Rattle.labels.proofs.Moving
-use Rattle.labels.proofs.Order
+use Rattle.labels.proofs.ForFastForms
+use Rattle.labels.proofs.Moves
+use Rattle.labels.proofs.LabelOrder
 use Rattle.labels.proofs.Rates
 -- A rate has two bits, which tell it, and at most 30 frames, a day as many as it has; a count and a residue of the day fit a word.
 pub use Rattle.labels.proofs.Rates.{bits-small, rate-back, fps-small, day-positive, day-small, sum-fits}
@@ -61,29 +61,29 @@ skipped-counts = (refl, refl)
 
 -- Every move ends on a valid label.
 pub moved-valid : (t : MtcTime) (z : ℤ) → T (isValid (addFrames t z))
-moved-valid = Moving.moved-valid
+moved-valid = Moves.moved-valid
 
 -- A move keeps the rate.
 pub moved-rate : (t : MtcTime) (z : ℤ) → addFrames t z .rate ≡ t .rate
-moved-rate = Moving.moved-rate
+moved-rate = Moves.moved-rate
 
 -- Moving by a and then b is moving by a + b.
 pub moved-by-sum : (t : MtcTime) (a b : ℤ) → addFrames (addFrames t a) b ≡ addFrames t (a +ℤ b)
-moved-by-sum = Moving.moved-by-sum
+moved-by-sum = Moves.moved-by-sum
 
 -- Moving by 0 keeps a valid label.
 pub moved-by-none : (t : MtcTime) → T (isValid t) → addFrames t (pos 0) ≡ t
-moved-by-none = Moving.moved-by-none
+moved-by-none = Moves.moved-by-none
 
 -- Frames later in the same second, where the label is valid, are a sum.
 pub frames-later : (r : TimeCodeType) (h m s f k : ℕ) → h ≤ 23 → m ≤ 59 → s ≤ 59 → f + k < framesPerSecond r
     → T (isValid (label r h m s (f + k))) → label r h m s (f + k) ≡ addFrames (label r h m s f) (pos k)
-frames-later = Later.frames-later
+frames-later = ForFastForms.frames-later
 
 -- So are two frames, where the label is always valid.
 pub two-later : (r : TimeCodeType) (h m s f : ℕ) → h ≤ 23 → m ≤ 59 → s ≤ 59 → f + 2 < framesPerSecond r
     → label r h m s (f + 2) ≡ addFrames (label r h m s f) (pos 2)
-two-later = Later.two-later
+two-later = ForFastForms.two-later
 
 -- ---- by numbers: what the faster forms of upper crates rest on
 
@@ -99,20 +99,20 @@ count-below = Rates.count-below
 -- The label of a count, at a rate that skips none: whole seconds and the frames.
 pub even-label : (n : ℕ) (r : TimeCodeType) → isDropFrame r ≡ false
     → labelAt n r ≡ labelAtSecond r (n % dayOf r / framesPerSecond r) (n % dayOf r % framesPerSecond r)
-even-label = Later.even-label
+even-label = ForFastForms.even-label
 
 -- At drop-frame: by tens of minutes, the minute among the ten and the place in it, which is none of the two that are skipped.
 pub drop-split : (n t u x : ℕ) → n % 2589408 ≡ 17982 * t + (1798 * u + x) → u < 10 → x < 1800 → (u ≡ 0) ⊎ (2 ≤ x)
     → labelAt n Fps30Drop ≡ labelAtSecond Fps30Drop ((10 * t + u) * 60 + x / 30) (x % 30)
-drop-split = Later.drop-split
+drop-split = ForFastForms.drop-split
 
 -- Counts that a day parts have one label.
 pub label-round : (n : ℕ) (r : TimeCodeType) → labelAt (n % dayOf r) r ≡ labelAt n r
-label-round = Later.label-round
+label-round = ForFastForms.label-round
 
 -- A move goes by the count.
 pub moved-by-count : (t : MtcTime) (z : ℤ) → addFrames t z ≡ labelAt (frameCount t + modZ z (dayOf (t .rate))) (t .rate)
-moved-by-count = Later.moved-by-count
+moved-by-count = ForFastForms.moved-by-count
 
 -- ---- by ST 12-1
 
@@ -126,37 +126,37 @@ labels-of-day = DayCount.labels-of-day
 
 -- Moving by 1 is ST 12-1's label after.
 pub moved-by-one : (t : MtcTime) → T (isValid t) → addFrames t (pos 1) ≡ labelAfter t
-moved-by-one = After.moved-by-one
+moved-by-one = LabelAfter.moved-by-one
 
 -- Moving by minus 1 is ST 12-1's label before.
 pub moved-back-one : (t : MtcTime) → T (isValid t) → addFrames t (negsuc 0) ≡ labelBefore t
-moved-back-one = Before.moved-back-one
+moved-back-one = LabelBefore.moved-back-one
 
 -- The labels after and before a valid label are valid.
 pub after-valid : (t : MtcTime) → T (isValid t) → T (isValid (labelAfter t))
-after-valid = Before.after-valid
+after-valid = LabelBefore.after-valid
 
 pub before-valid : (t : MtcTime) → T (isValid t) → T (isValid (labelBefore t))
-before-valid = Before.before-valid
+before-valid = LabelBefore.before-valid
 
 -- The label after the one before is the label itself, and so is the label before the one after.
 pub after-before : (t : MtcTime) → T (isValid t) → labelAfter (labelBefore t) ≡ t
-after-before = Before.after-before
+after-before = LabelBefore.after-before
 
 pub before-after : (t : MtcTime) → T (isValid t) → labelBefore (labelAfter t) ≡ t
-before-after = Before.before-after
+before-after = LabelBefore.before-after
 
 -- A skipped label with hours and minutes in range moves to the least valid label above it.
 pub next-valid-least : (t : MtcTime) → T (isSkipped t) → t .hours ≤ 23 → t .minutes ≤ 59 → LeastAbove t (nextValid t)
-next-valid-least = Order.next-valid-least
+next-valid-least = LabelOrder.next-valid-least
 
 -- A label that isn't skipped stays.
 pub next-valid-same : (t : MtcTime) → isSkipped t ≡ false → nextValid t ≡ t
-next-valid-same = Order.next-valid-same
+next-valid-same = LabelOrder.next-valid-same
 
 -- So does a valid label, which is none of the skipped.
 pub next-valid-valid : (t : MtcTime) → T (isValid t) → nextValid t ≡ t
-next-valid-valid t v = Order.next-valid-same t (Validity.valid-facts t v .kept)
+next-valid-valid t v = LabelOrder.next-valid-same t (Validity.valid-facts t v .kept)
 
 -- A label of numbers in their ranges is valid, at 30 drop-frame in a minute that skips none or past the two that are skipped.
 pub in-range-valid : (r : TimeCodeType) (h m s f : ℕ) → h ≤ 23 → m ≤ 59 → s ≤ 59 → f < framesPerSecond r

@@ -1,12 +1,12 @@
-mod After
-mod Before
 mod Counts
 mod DayCount
 mod Distance
-mod Later
+mod ForFastForms
+mod LabelAfter
+mod LabelBefore
+mod LabelOrder
 pub mod Laws
-mod Moving
-mod Order
+mod Moves
 mod Rates
 mod Skipped
 mod Sums

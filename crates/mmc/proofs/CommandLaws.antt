@@ -15,8 +15,8 @@ use Rattle.mmc.specs.Field.{FieldCase, readField}
 use Rattle.mmc.specs.Item.{commandItem, fieldItem}
 use Rattle.mmc.specs.Rp013Commands.{Command, commandBytes, receivedBytes, IsCommand, Field, fieldBytes, IsField}
 use Rattle.universal.specs.Emission.{sent}
-use Rattle.mmc.proofs.CommandReading as reading
-use Rattle.mmc.proofs.CommandWriting as writing
+use Rattle.mmc.proofs.Reading.CommandReading as reading
+use Rattle.mmc.proofs.Writing.CommandWriting as writing
 
 -- ---- by the pages
 

@@ -30,14 +30,14 @@ use Rattle.mmc.specs.Strings.{Walk, before, walkFrom, readsOf, itemAt, w
 use Rattle.universal.specs.Refusals.{Answer, gives, refused, refusal, refusalOf}
 use Rattle.universal.specs.declared.error.SysexError.{SysexError}
 -- A Locate, a Move and a name by their bytes, as the parts that they stand at.
-pub use Rattle.mmc.proofs.Commands.{locate-short, locate-no-register, locate-register, locate-unknown, locate-cut, locate-target, move-short, move-no-destination, move-no-source, move-both, long-name, by-byte, unknown-byte, unknown-name}
+pub use Rattle.mmc.proofs.Reading.CommandTests.{locate-short, locate-no-register, locate-register, locate-unknown, locate-cut, locate-target, move-short, move-no-destination, move-no-source, move-both, long-name, by-byte, unknown-byte, unknown-name}
 -- A byte of a range, below it, and from its end on.
-pub use Rattle.mmc.proofs.Ranges.{within-range, below-range, above-range}
-use Rattle.mmc.proofs.Moves
-use Rattle.mmc.proofs.Prefixes
-use Rattle.mmc.proofs.Splits.{no-zero, fixed-data, no-count, counted-data, too-few, enough, next-end, next-cut, next-item, read-found, read-refused}
+pub use Rattle.mmc.proofs.RangeTests.{within-range, below-range, above-range}
+use Rattle.mmc.proofs.Reading.NextPlace
+use Rattle.mmc.proofs.Reading.PrefixedNames
+use Rattle.mmc.proofs.Reading.SplitTests.{no-zero, fixed-data, no-count, counted-data, too-few, enough, next-end, next-cut, next-item, read-found, read-refused}
 use Rattle.mmc.proofs.StringLaws.{read-goes-on}
-use Rattle.mmc.proofs.Walks
+use Rattle.mmc.proofs.Reading.Walks
 
 -- ---- parts, lengths and names
 
@@ -103,7 +103,7 @@ module _ (body : List ℕ) (place at : ℕ) (k : PartsAnswer)
   command-prefixed n d l z q =
       command-found n d q
       ∙ ap (λ (c : MmcCommand). record { answer = gives c; place = at })
-      (sym (long-name (partOf body d) n d (partOf body n) (Prefixes.long Commands body place at l z k e n d q)))
+      (sym (long-name (partOf body d) n d (partOf body n) (PrefixedNames.long Commands body place at l z k e n d q)))
 
 -- 9 at the end and past it.
 pub command-end : (body : List ℕ) (place : ℕ) → length body ≤ place
@@ -192,7 +192,7 @@ module _ (body : List ℕ) (place : ℕ) (l : place < length body) where
 -- A read that found an item goes on past its place, and inside the string.
 pub next-goes-on : (kind : Kind) (body : List ℕ) (place : ℕ) (l : ItemPlace) → next kind body place .answer ≡ gives l
     → (place < next kind body place .place) × (next kind body place .place ≤ length body)
-next-goes-on = Moves.moves
+next-goes-on = NextPlace.moves
 
 -- What comes after a read counts only where it gave something.
 before-same : {A : Type 0} (a : Answer A) (v w : Walk A) → ((x : A) → a ≡ gives x → v ≡ w) → before a v ≡ before a w
@@ -234,7 +234,7 @@ pub walk-step : (kind : Kind) (body : List ℕ) (place : ℕ)
 unfolding walk
 walk-step kind body place =
     one-step (λ (p : ℕ). nextAs (itemAt body) (next kind body p)) (length body)
-    (λ p x. Moves.read-moves (itemAt body) x kind body p) place
+    (λ p x. NextPlace.read-moves (itemAt body) x kind body p) place
 
 -- So are the commands or fields that are read from a place on.
 pub read-step : (kind : Kind) (body : List ℕ) (place : ℕ)

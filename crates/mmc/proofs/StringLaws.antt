@@ -40,22 +40,22 @@ use Rattle.universal.specs.declared.message.MaybeSubId2.the-variants.{NoSubId2}
 use Rattle.universal.specs.declared.message.Universal.{Universal}
 use Rattle.universal.specs.Refusals.{Answer, refusal, refused, gives}
 use Rattle.universal.proofs.Laws.{all-low-byte, then-sent, then-accepted, opening-plain, message-whole}
-use Rattle.mmc.proofs.Backs
-use Rattle.mmc.proofs.Emitted
-use Rattle.mmc.proofs.Fronts
+use Rattle.mmc.proofs.Reading.ReadBack
+use Rattle.mmc.proofs.Writing.ItemBytes
+use Rattle.mmc.proofs.Reading.FrontItem
 -- An item that is found lies in the string: its name from the place on, its data up to the place to read on from.
-pub use Rattle.mmc.proofs.Inside.{found-inside}
-use Rattle.mmc.proofs.Moves
-use Rattle.mmc.proofs.Pages
-use Rattle.mmc.proofs.Walks
-use Rattle.mmc.proofs.Walks.{TakenItems, items-taken}
+pub use Rattle.mmc.proofs.Reading.FoundInside.{found-inside}
+use Rattle.mmc.proofs.Reading.NextPlace
+use Rattle.mmc.proofs.Reading.PageStrings
+use Rattle.mmc.proofs.Reading.Walks
+use Rattle.mmc.proofs.Reading.Walks.{TakenItems, items-taken}
 
 -- ---- an item at its place
 
 -- An item that fits, standing at a place of a string, is found there.
 pub item-split : (kind : Kind) (body pre : List ℕ) (x : Item) (post : List ℕ) (place : ℕ) → itemFits kind x ≡ true
     → body ≡ pre ++ (itemBytes kind x ++ post) → place ≡ length pre → Found kind body place x
-item-split kind body pre x post place h e p = rw (e, p) (Fronts.item-found kind pre x post h)
+item-split kind body pre x post place h e p = rw (e, p) (FrontItem.item-found kind pre x post h)
 
 -- It is read there as what its name and data mean, and reading goes on after it.
 pub item-read : (kind : Kind) (body pre : List ℕ) (x : Item) (post : List ℕ) (place : ℕ) → itemFits kind x ≡ true
@@ -174,52 +174,52 @@ places-bytes kind xs h =
 pub length-by-page : (kind : Kind) (byte : ℕ) (rule : Length) → 1 ≤ byte → byte ≤ 127
     → (lengthOf kind byte ≡ rule) ↔ Follows kind byte rule
 length-by-page kind byte rule a h =
-    (λ e. subst (Follows kind byte) e (Pages.length-follows kind byte a h), Pages.follows-length kind byte rule)
+    (λ e. subst (Follows kind byte) e (PageStrings.length-follows kind byte a h), PageStrings.follows-length kind byte rule)
 
 -- A name that ends with 00H, which the page does not have, has no data.
 pub length-zero : (kind : Kind) → lengthOf kind 0 ≡ Fixed 0
-length-zero = Pages.length-zero
+length-zero = PageStrings.length-zero
 
 -- Nor has one that ends above 7FH, which no message has.
 pub length-above : (kind : Kind) (byte : ℕ) → 127 < byte → lengthOf kind byte ≡ Fixed 0
-length-above = Pages.length-above
+length-above = PageStrings.length-above
 
 -- A name is one of p. 5 just where it may be one and its last byte is not 00H.
 pub name-by-page : (name : List ℕ) → Name name (lastByte name) ↔ ((nameFits name ≡ true) × (eqb (lastByte name) 0 ≡ false))
 name-by-page name = (
-  λ n. (Pages.name-fits name (lastByte name) n .0, Pages.name-fits name (lastByte name) n .2),
-  λ t. Pages.fits-name name (t .0) (t .1),
+  λ n. (PageStrings.name-fits name (lastByte name) n .0, PageStrings.name-fits name (lastByte name) n .2),
+  λ t. PageStrings.fits-name name (t .0) (t .1),
 )
 
 -- A name of p. 5 has one last byte.
 pub last-by-page : (name : List ℕ) (last : ℕ) → Name name last → lastByte name ≡ last
-last-by-page name last n = Pages.name-fits name last n .1
+last-by-page name last n = PageStrings.name-fits name last n .1
 
 -- With bytes to 7FH, an item is one of p. 5 just where it fits and is not named 00 00 00.
 pub item-by-page : (kind : Kind) (x : Item) → allLow (itemBytes kind x) ≡ true
     → IsItem kind x (itemBytes kind x) ↔ ((itemFits kind x ≡ true) × (isZeros x ≡ false))
 item-by-page kind x l = (
-  λ i. (Pages.item-fits kind x (itemBytes kind x) i .0, Pages.item-fits kind x (itemBytes kind x) i .2),
-  λ t. Pages.fits-item kind x (t .0) l (t .1),
+  λ i. (PageStrings.item-fits kind x (itemBytes kind x) i .0, PageStrings.item-fits kind x (itemBytes kind x) i .2),
+  λ t. PageStrings.fits-item kind x (t .0) l (t .1),
 )
 
 -- An item that fits and is so named has no data.
 pub zeros-item : (kind : Kind) (x : Item) → itemFits kind x ≡ true → isZeros x ≡ true → x ≡ zerosItem
-zeros-item = Pages.zeros-item
+zeros-item = PageStrings.zeros-item
 
 -- With bytes to 7FH, items spell a string of p. 5 just where they fit and none is named 00 00 00.
 pub string-by-page : (kind : Kind) (xs : List Item) → allLow (joined kind xs) ≡ true
     → Spell kind xs (joined kind xs) ↔ ((allFit kind xs ≡ true) × (anyZeros xs ≡ false))
 string-by-page kind xs l = (
-  λ s. (Pages.spell-fits kind xs (joined kind xs) s .0, Pages.spell-fits kind xs (joined kind xs) s .2),
-  λ t. Pages.fits-spell kind xs (t .0) l (t .1),
+  λ s. (PageStrings.spell-fits kind xs (joined kind xs) s .0, PageStrings.spell-fits kind xs (joined kind xs) s .2),
+  λ t. PageStrings.fits-spell kind xs (t .0) l (t .1),
 )
 
 -- The walk over a well-formed string ends with 9, and gives the items that spell it.
 pub walk-well-formed : (kind : Kind) (body : List ℕ) (f : WellFormed kind body)
     → walk kind body 0 ≡ record { items = f .0; stop = refusal 9 }
 walk-well-formed kind body f =
-    let s = Pages.spell-fits kind (f .0) body (f .1) in
+    let s = PageStrings.spell-fits kind (f .0) body (f .1) in
     ap (λ (l : List ℕ). walk kind l 0) (s .1) ∙ walk-items kind (f .0) (s .0)
 
 -- With bytes to 7FH a string is well-formed exactly where the walk ends with 9 and gives no item named 00 00 00.
@@ -229,13 +229,13 @@ walk-by-page kind body l = (
   λ f.
       let w = walk-well-formed kind body f in (
         ap (λ (v : Walk Item). v .stop) w,
-        ap (λ (v : Walk Item). anyZeros (v .items)) w ∙ Pages.spell-fits kind (f .0) body (f .1) .2,
+        ap (λ (v : Walk Item). anyZeros (v .items)) w ∙ PageStrings.spell-fits kind (f .0) body (f .1) .2,
       ),
   λ t.
       let w : body ≡ joined kind (walk kind body 0 .items) = walk-whole kind body (t .0) in (
         walk kind body 0 .items,
         subst (Spell kind (walk kind body 0 .items)) (sym w)
-            (Pages.fits-spell kind (walk kind body 0 .items) (walk-fits kind body) (ap allLow (sym w) ∙ l) (t .1)),
+            (PageStrings.fits-spell kind (walk kind body 0 .items) (walk-fits kind body) (ap allLow (sym w) ∙ l) (t .1)),
       ),
 )
 
@@ -245,8 +245,8 @@ pub walk-takes : (kind : Kind) (body : List ℕ) → allLow body ≡ true
 walk-takes kind body l = (
   λ h.
       let w : body ≡ joined kind (walk kind body 0 .items) = walk-whole kind body h in
-      (walk kind body 0 .items, Pages.page-or-zeros kind (walk kind body 0 .items) (walk-fits kind body) (ap allLow (sym w) ∙ l), w),
-  λ t. walk-exact kind body .1 (t .0, Pages.taken-fits kind (t .0) (t .1), t .2),
+      (walk kind body 0 .items, PageStrings.page-or-zeros kind (walk kind body 0 .items) (walk-fits kind body) (ap allLow (sym w) ∙ l), w),
+  λ t. walk-exact kind body .1 (t .0, PageStrings.taken-fits kind (t .0) (t .1), t .2),
 )
 
 -- So a string that it accepts is well-formed, or has an item named 00 00 00.
@@ -263,12 +263,12 @@ walk-else kind body l h = go (anyZeros (walk kind body 0 .items)) refl
 -- An accepted command or field: its bytes are those of its name and data, which fit; they are low, and at most 131.
 pub item-accepted : (kind : Kind) (g : Given kind) → emission kind g .stop ≡ none
     → AcceptedItem kind (pairOf kind g) (emission kind g .bytes)
-item-accepted = Emitted.item-sound
+item-accepted = ItemBytes.item-sound
 
 -- An accepted list: its bytes are those of its items one after another, which fit; they are low.
 pub list-accepted : (kind : Kind) (gs : List (Given kind)) → emissions kind gs .stop ≡ none
     → AcceptedItems kind (pairsOf kind gs) (emissions kind gs .bytes)
-list-accepted = Emitted.list-sound
+list-accepted = ItemBytes.list-sound
 
 -- A list is accepted just where its first item and the others are.
 pub list-each : (kind : Kind) (g : Given kind) (gs : List (Given kind))
@@ -281,7 +281,7 @@ list-each kind g gs = (
 
 -- Two lists are written one after the other.
 pub list-append : (kind : Kind) (gs hs : List (Given kind)) → emissions kind (gs ++ hs) ≡ emissions kind gs then emissions kind hs
-list-append = Emitted.list-append
+list-append = ItemBytes.list-append
 
 -- ---- written and read back
 
@@ -312,12 +312,12 @@ written-reads-back kind gs h =
 -- The name and data of an accepted command are read as its own case; a blank target with zeros; another command as they are.
 pub command-back : (source : List ℕ) (c : MmcCommand) → commandItem source c .stop ≡ none
     → readCommand (commandPair source c .name) (commandPair source c .«data») ≡ commandBack source c
-command-back = Backs.command-back
+command-back = ReadBack.command-back
 
 -- The name and data of an accepted field, likewise.
 pub field-back : (source : List ℕ) (f : InfoField) → fieldItem source f .stop ≡ none
     → readField (fieldPair source f .name) (fieldPair source f .«data») ≡ fieldBack source f
-field-back = Backs.field-back
+field-back = ReadBack.field-back
 
 -- What the name and data of an accepted command or field mean, wherever they stand.
 pub meaning-back : (kind : Kind) (g : Given kind) → emission kind g .stop ≡ none → (l : ItemPlace)
@@ -447,9 +447,9 @@ pub read-goes-on : (kind : Kind) (body : List ℕ) (place : ℕ) (x : Meaning ki
     → (place < nextOf kind body place .place) × (nextOf kind body place .place ≤ length body)
 unfolding nextCommand nextField
 read-goes-on Commands body place x h =
-    Moves.read-moves (partsAs (λ (n d : List ℕ). commandOfCase (readCommand n d)) body) x Commands body place h
+    NextPlace.read-moves (partsAs (λ (n d : List ℕ). commandOfCase (readCommand n d)) body) x Commands body place h
 read-goes-on Fields body place x h =
-    Moves.read-moves (partsAs (λ (n d : List ℕ). fieldOfCase (readField n d)) body) x Fields body place h
+    NextPlace.read-moves (partsAs (λ (n d : List ℕ). fieldOfCase (readField n d)) body) x Fields body place h
 
 -- No items mean nothing.
 pub meanings-none : (kind : Kind) (place : ℕ) → meanings kind place [] ≡ []

@@ -27,13 +27,13 @@ use Rattle.universal.specs.Emission.{Emission, sent, refusing, check, resume, _
 use Rattle.universal.specs.Message.{opening}
 use Rattle.universal.specs.Overlay.{overlay}
 use Rattle.universal.proofs.Laws.{overlay-none, then-sent, then-assoc, then-accepted, answer-fits, answer-gives, opening-plain, all-low-byte, none-some}
-use Rattle.mmc.proofs.Holding.{entry-small, OpensWhole, opens-whole, opened-kept, fields-kept, Holds, holds-entries, holds-items, holds-opened, holds-fields, rule-of-48, ends-message, ends-fields, checks-by}
+use Rattle.mmc.proofs.Writing.HeldEmissions.{entry-small, OpensWhole, opens-whole, opened-kept, fields-kept, Holds, holds-entries, holds-items, holds-opened, holds-fields, rule-of-48, ends-message, ends-fields, checks-by}
 use Rattle.universal.proofs.Tests.{and-parts}
-use Rattle.mmc.proofs.Puts.{name-length}
-use Rattle.mmc.proofs.Ranges.{within-range}
+use Rattle.mmc.proofs.Writing.EmissionPuts.{name-length}
+use Rattle.mmc.proofs.RangeTests.{within-range}
 use Rattle.mmc.proofs.StringLaws.{item-accepted, list-accepted, list-message, written-reads-back, string-message}
-use Rattle.mmc.proofs.Writers.{ready-failed, repeats, response-opening, close-repeats}
-use Rattle.mmc.proofs.Accepting.{not-failed, AcceptedEmission, emission-accepted, all-taken, ended-gives, overlay-front, WrittenWhole, written-whole, KeptByCalls, given-kept}
+use Rattle.mmc.proofs.Writing.WriterCalls.{ready-failed, repeats, response-opening, close-repeats}
+use Rattle.mmc.proofs.Writing.AcceptedWritings.{not-failed, AcceptedEmission, emission-accepted, all-taken, ended-gives, overlay-front, WrittenWhole, written-whole, KeptByCalls, given-kept}
 
 -- ---- a whole list, in one piece
 

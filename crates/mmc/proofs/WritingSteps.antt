@@ -26,7 +26,7 @@ use Rattle.universal.specs.declared.message.MaybeSubId2.the-variants.{NoSubId2}
 use Rattle.universal.proofs.Laws.{opening-device, opening-plain}
 -- A writing in its limits has its own refusal, if any; one with a refusal repeats it; one without takes an item; and what a close
 -- does by the position.
-pub use Rattle.mmc.proofs.Writers.{as-it-is, ready-kept, ready-failed, repeats, takes, close-repeats, close-empty, close-long, close-sent}
+pub use Rattle.mmc.proofs.Writing.WriterCalls.{as-it-is, ready-kept, ready-failed, repeats, takes, close-repeats, close-empty, close-long, close-sent}
 
 -- ---- opening
 

@@ -18,20 +18,20 @@ use Rattle.mtc.specs.Reader.{fresh, pieceFits, isSound, rawOf, sequenceO
 use Rattle.mtc.specs.Ready.{Ready, NotAgainst, eightPieces, labelOfBytes, ReadsLabel}
 use Rattle.mtc.specs.Rp004.{dataByte, InWidths, dataBytes, sequence, nextLabel, sequencesFrom, isBoundary, currentTime}
 use Rattle.mtc.specs.Stream.{Call, afterCall, afterCalls, events, bytesSent, runFrom, StreamLaw, SentLaw}
-use Rattle.mtc.proofs.Generators
+use Rattle.mtc.proofs.GeneratorCalls
 -- A generator's next byte, running and stopped.
-pub use Rattle.mtc.proofs.Generators.{sends, stopped-refuses}
+pub use Rattle.mtc.proofs.GeneratorCalls.{sends, stopped-refuses}
 -- A sound reader's bounds, what keeps it sound, what it does with a piece by how that stands to those before it, and where the labels of
 -- a report stay.
-pub use Rattle.mtc.proofs.InOrder.{sound-by, Bounds, bounds, piece-stands, sequence-of, report-labels}
+pub use Rattle.mtc.proofs.Sequences.SoundReaders.{sound-by, Bounds, bounds, piece-stands, sequence-of, report-labels}
 pub use Rattle.mtc.specs.Reader.{Sound}
-pub use Rattle.mtc.proofs.Sound.{as-is, byte-sound}
+pub use Rattle.mtc.proofs.Sequences.SoundCalls.{as-is, byte-sound}
 -- Full messages and user bits: written bytes are RP-004/008's, or refused; a buffer that fits or is short; the practice's full
 -- message of any label is read as it, what is written reads back, and reading accepts the practice's layouts and no other.
-pub use Rattle.mtc.proofs.Messages.{full-message-bytes, full-message-device, full-message-invalid, full-message-fits, full-message-short, full-message-read, full-message-back, full-message-layout, full-message-reads, group-bytes, user-bits-bytes, user-bits-fits, user-bits-short, user-bits-back, user-bits-layout, user-bits-reads}
+pub use Rattle.mtc.proofs.Messages.MessageBytes.{full-message-bytes, full-message-device, full-message-invalid, full-message-fits, full-message-short, full-message-read, full-message-back, full-message-layout, full-message-reads, group-bytes, user-bits-bytes, user-bits-fits, user-bits-short, user-bits-back, user-bits-layout, user-bits-reads}
 use Rattle.mtc.proofs.QuarterFrames
-use Rattle.mtc.proofs.Sending
-use Rattle.mtc.proofs.Streams
+use Rattle.mtc.proofs.Sequences.Sending
+use Rattle.mtc.proofs.Sequences.Streams
 -- A valid label's numbers fit their widths.
 pub use Rattle.mtc.proofs.Widths.{valid-in-widths}
 
@@ -128,10 +128,10 @@ stream-law = Streams.stream-law
 -- No list of calls leaves a generator's last piece above 7 where it was not above 7 before, and so none after it was started.
 pub generator-calls : (g : MtcGenerator) → T (pieceFits (g .last)) → (cs : List GeneratorCall)
     → T (pieceFits (afterGeneratorCalls g cs .last))
-generator-calls g h cs = Generators.calls-fit cs g h
+generator-calls g h cs = GeneratorCalls.calls-fit cs g h
 
 pub started-calls : (t : MtcTime) (d : Direction) (cs : List GeneratorCall) → T (pieceFits (afterGeneratorCalls (started t d) cs .last))
-started-calls t d cs = Generators.calls-fit cs (started t d) tt
+started-calls t d cs = GeneratorCalls.calls-fit cs (started t d) tt
 
 -- No list of calls on a fresh reader leaves a record that is taken as fresh.
 pub calls-sound : (cs : List Call) → T (isSound (afterCalls fresh cs))

@@ -1,17 +1,7 @@
-mod Generators
-mod Groups
-mod InOrder
+mod GeneratorCalls
 pub mod Laws
 mod Messages
-mod Nibbles
 mod QuarterFrames
-mod Readers
-mod Reading
-mod Rounds
-mod Sending
-mod Shapes
-mod Sound
-mod Starting
-mod Streams
+mod ReaderCalls
+mod Sequences
 mod Widths
-mod Writing

@@ -27,14 +27,14 @@ use Rattle.mtc.specs.declared.reader.MaybeDirection.the-variants.{NoDire
 use Rattle.mtc.specs.declared.reader.MaybeSequence.the-variants.{Sequence}
 use Rattle.mtc.specs.declared.reader.MaybeTime.{MaybeTime}
 use Rattle.mtc.specs.declared.reader.MtcReader.{MtcReader}
-use Rattle.mtc.proofs.Nibbles.{bits-code, nibble, Values, nibblesInOrder, assembled, values, split, split-pieces, type-of-bits, raw-values}
+use Rattle.mtc.proofs.Sequences.LabelNibbles.{bits-code, nibble, Values, nibblesInOrder, assembled, values, split, split-pieces, type-of-bits, raw-values}
 use Rattle.labels.proofs.Laws.{moved-valid, moved-by-sum, moved-by-one, moved-back-one}
 use Rattle.mtc.proofs.Widths.{valid-in-widths}
-use Rattle.mtc.proofs.Rounds.{run, leave, Eight, eight, eight-of, left, round, round-left}
-use Rattle.mtc.proofs.Sending.{laterLabel, sends-first, sends-next}
-use Rattle.mtc.proofs.Sound.{as-is, last-is, full-sound}
-use Rattle.mtc.proofs.Starting.{starts-anew, starts-next, starts-after-last}
-use Rattle.mtc.proofs.Streams.{fresh-sound, fresh-past, past, reportsOf, reports-run, bytes-sound, bytes-leave}
+use Rattle.mtc.proofs.Sequences.WholeSequences.{run, leave, Eight, eight, eight-of, left, round, round-left}
+use Rattle.mtc.proofs.Sequences.Sending.{laterLabel, sends-first, sends-next}
+use Rattle.mtc.proofs.Sequences.SoundCalls.{as-is, last-is, full-sound}
+use Rattle.mtc.proofs.Sequences.SequenceStarts.{starts-anew, starts-next, starts-after-last}
+use Rattle.mtc.proofs.Sequences.Streams.{fresh-sound, fresh-past, past, reportsOf, reports-run, bytes-sound, bytes-leave}
 
 -- ---- a data byte
 

@@ -22,7 +22,7 @@ use Rattle.universal.specs.declared.message.MaybeSubId2.the-variants.{No
 use Rattle.universal.proofs.Emissions.{resume-after}
 -- A value is no refusal, and nothing is none.
 pub use Rattle.universal.proofs.Emissions.{gives-refused, none-some}
-use Rattle.universal.proofs.Fields.{Accepted, accepted, opening-fields, inner-low, value-low, value-high, sub-id2-short, sub-id2-bytes, sub-id2-sent}
+use Rattle.universal.proofs.MessageFields.{Accepted, accepted, opening-fields, inner-low, value-low, value-high, sub-id2-short, sub-id2-bytes, sub-id2-sent}
 use Rattle.universal.proofs.Tests.{and-parts, beq-other}
 
 -- ---- bytes put into a buffer

@@ -1,7 +1,7 @@
 -- `fast_mtc::generator::move_on` meets its contract. Assumes nothing.
 use native.Mathlib.Omega.{arith}
 use mathlib.Core.Path.{refl, sym, ap, _∙_}
-use Rattle.fast_mtc.proofs.Bytes.{moved-in}
+use Rattle.fast_mtc.proofs.GeneratorBytes.{moved-in}
 use borrow.Author.Needs.{needs}
 use Rattle.fast_mtc.proofs.generator.move_on.Statement.{statement}
 use Rattle.fast_mtc.proofs.generator.move_on.Tie as tie

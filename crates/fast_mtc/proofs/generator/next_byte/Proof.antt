@@ -1,6 +1,6 @@
 -- `fast_mtc::generator::next_byte` meets its contract. Assumes nothing.
 use mathlib.Core.Path.{refl, sym, ap, _∙_}
-use Rattle.fast_mtc.proofs.Bytes.{stopped-in, starts-over, goes-on, moves-on}
+use Rattle.fast_mtc.proofs.GeneratorBytes.{stopped-in, starts-over, goes-on, moves-on}
 use borrow.Author.Needs.{needs}
 use Rattle.fast_mtc.proofs.generator.next_byte.Statement.{statement}
 use Rattle.fast_mtc.proofs.generator.next_byte.Tie as tie

@@ -2,7 +2,7 @@
 use native.Mathlib.Omega.{arith}
 use mathlib.Core.Path.{refl, sym, ap, _∙_}
 use Rattle.fast_mtc.specs.Generator.{flatByte}
-use Rattle.fast_mtc.proofs.Bytes.{sent-in}
+use Rattle.fast_mtc.proofs.GeneratorBytes.{sent-in}
 use borrow.Author.Needs.{needs}
 use Rattle.fast_mtc.proofs.generator.send.Statement.{statement}
 use Rattle.fast_mtc.proofs.generator.send.Tie as tie

@@ -2,7 +2,7 @@
 use mathlib.Core.Path.{_∙_}
 use mir.Syntax.{w32}
 use mir.ValLaws.{toZ-ofZ}
-use Rattle.fast_mtc.proofs.ShortWays.{moved-numbered}
+use Rattle.fast_mtc.proofs.LabelShortWays.{moved-numbered}
 use borrow.Author.Needs.{needs}
 use Rattle.fast_mtc.proofs.label.add_frames.Statement.{statement}
 use Rattle.fast_mtc.proofs.label.add_frames.Tie as tie

@@ -1,6 +1,6 @@
 -- `fast_mtc::label::drop_moved` meets its contract. Assumes nothing.
 use Rattle.labels.proofs.Laws.{passed-mod}
-use Rattle.fast_mtc.proofs.ShortWays.{moved-once, moved-none, moved-fits}
+use Rattle.fast_mtc.proofs.LabelShortWays.{moved-once, moved-none, moved-fits}
 use borrow.Author.Needs.{needs}
 use Rattle.fast_mtc.proofs.label.drop_moved.Statement.{statement}
 use Rattle.fast_mtc.proofs.label.drop_moved.Tie as tie

@@ -1,7 +1,7 @@
 -- `fast_mtc::label::drop_number` meets its contract. Assumes nothing.
 use mathlib.Core.Path.{refl, _∙_, ap}
 use Rattle.fast_mtc.specs.Label.{labelNumber}
-use Rattle.fast_mtc.proofs.ShortWays.{by-quotient}
+use Rattle.fast_mtc.proofs.LabelShortWays.{by-quotient}
 use borrow.Author.Needs.{needs}
 use Rattle.fast_mtc.proofs.label.drop_number.Statement.{statement}
 use Rattle.fast_mtc.proofs.label.drop_number.Tie as tie

@@ -2,7 +2,7 @@
 use mathlib.Core.Path.{sym, _∙_, ap}
 use Rattle.labels.specs.declared.time.TimeCodeType.the-variants.{Fps24, Fps25, Fps30}
 use Rattle.fast_mtc.specs.Label.{labelNumber}
-use Rattle.fast_mtc.proofs.ShortWays.{is-24, is-25, is-30, even-at}
+use Rattle.fast_mtc.proofs.LabelShortWays.{is-24, is-25, is-30, even-at}
 use borrow.Author.Needs.{needs}
 use Rattle.fast_mtc.proofs.label.even_number.Statement.{statement}
 use Rattle.fast_mtc.proofs.label.even_number.Tie as tie

@@ -2,7 +2,7 @@
 use mathlib.Core.Path.{sym, _∙_}
 use native.Mathlib.Omega.{arith}
 use Rattle.labels.proofs.Laws.{day-positive}
-use Rattle.fast_mtc.proofs.ShortWays.{drop-count, even-count, even-fits, even-sum-fits, even-told}
+use Rattle.fast_mtc.proofs.LabelShortWays.{drop-count, even-count, even-fits, even-sum-fits, even-told}
 use borrow.Author.Needs.{needs}
 use Rattle.fast_mtc.proofs.label.frame_count.Statement.{statement}
 use Rattle.fast_mtc.proofs.label.frame_count.Tie as tie

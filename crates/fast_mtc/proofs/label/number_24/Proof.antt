@@ -1,6 +1,6 @@
 -- `fast_mtc::label::number_24` meets its contract. Assumes nothing.
 use native.Mathlib.Omega.{arith}
-use Rattle.fast_mtc.proofs.ShortWays.{number-24, parts-fit}
+use Rattle.fast_mtc.proofs.LabelShortWays.{number-24, parts-fit}
 use borrow.Author.Needs.{needs}
 use Rattle.fast_mtc.proofs.label.number_24.Statement.{statement}
 use Rattle.fast_mtc.proofs.label.number_24.Tie as tie

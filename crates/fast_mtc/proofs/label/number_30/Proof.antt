@@ -1,7 +1,7 @@
 -- `fast_mtc::label::number_30` meets its contract. Assumes nothing.
 use native.Mathlib.Omega.{arith}
 use lib.Dec.{lit≤}
-use Rattle.fast_mtc.proofs.ShortWays.{number-30, parts-fit, label-number-fits}
+use Rattle.fast_mtc.proofs.LabelShortWays.{number-30, parts-fit, label-number-fits}
 use borrow.Author.Needs.{needs}
 use Rattle.fast_mtc.proofs.label.number_30.Statement.{statement}
 use Rattle.fast_mtc.proofs.label.number_30.Tie as tie

@@ -4,7 +4,7 @@ use mir.Syntax.{w32}
 use mir.ValLaws.{toZ-ofZ}
 use Rattle.labels.proofs.Laws.{day-positive, passed-mod}
 use Rattle.fast_mtc.specs.Label.{labelNumber}
-use Rattle.fast_mtc.proofs.ShortWays.{drop-count-below, drop-added, added}
+use Rattle.fast_mtc.proofs.LabelShortWays.{drop-count-below, drop-added, added}
 use borrow.Author.Needs.{needs}
 use Rattle.fast_mtc.proofs.label.number_after.Statement.{statement}
 use Rattle.fast_mtc.proofs.label.number_after.Tie as tie

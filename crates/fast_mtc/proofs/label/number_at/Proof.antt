@@ -1,7 +1,7 @@
 -- `fast_mtc::label::number_at` meets its contract. Assumes nothing.
 use mathlib.Core.Path.{sym, _∙_, ap}
 use Rattle.fast_mtc.specs.Label.{labelNumber}
-use Rattle.fast_mtc.proofs.ShortWays.{drop-at}
+use Rattle.fast_mtc.proofs.LabelShortWays.{drop-at}
 use borrow.Author.Needs.{needs}
 use Rattle.fast_mtc.proofs.label.number_at.Statement.{statement}
 use Rattle.fast_mtc.proofs.label.number_at.Tie as tie

@@ -1,5 +1,5 @@
 -- `fast_mtc::label::number_in` meets its contract. Assumes nothing.
-use Rattle.fast_mtc.proofs.ShortWays.{in-number}
+use Rattle.fast_mtc.proofs.LabelShortWays.{in-number}
 use borrow.Author.Needs.{needs}
 use Rattle.fast_mtc.proofs.label.number_in.Statement.{statement}
 use Rattle.fast_mtc.proofs.label.number_in.Tie as tie

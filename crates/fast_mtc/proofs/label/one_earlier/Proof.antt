@@ -1,6 +1,6 @@
 -- `fast_mtc::label::one_earlier` meets its contract. Assumes nothing.
 use native.Mathlib.Omega.{arith}
-use Rattle.fast_mtc.proofs.ShortWays.{one-earlier, was-true}
+use Rattle.fast_mtc.proofs.LabelShortWays.{one-earlier, was-true}
 use borrow.Author.Needs.{needs}
 use Rattle.fast_mtc.proofs.label.one_earlier.Statement.{statement}
 use Rattle.fast_mtc.proofs.label.one_earlier.Tie as tie

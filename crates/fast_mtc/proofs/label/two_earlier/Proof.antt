@@ -1,6 +1,6 @@
 -- `fast_mtc::label::two_earlier` meets its contract. Assumes nothing.
 use native.Mathlib.Omega.{arith}
-use Rattle.fast_mtc.proofs.ShortWays.{two-earlier, was-true}
+use Rattle.fast_mtc.proofs.LabelShortWays.{two-earlier, was-true}
 use borrow.Author.Needs.{needs}
 use Rattle.fast_mtc.proofs.label.two_earlier.Statement.{statement}
 use Rattle.fast_mtc.proofs.label.two_earlier.Tie as tie

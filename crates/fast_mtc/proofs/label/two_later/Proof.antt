@@ -1,7 +1,7 @@
 -- `fast_mtc::label::two_later` meets its contract. Assumes nothing.
 use native.Mathlib.Omega.{arith}
 use Rattle.labels.proofs.Laws.{two-later}
-use Rattle.fast_mtc.proofs.ShortWays.{two-fit, was-true}
+use Rattle.fast_mtc.proofs.LabelShortWays.{two-fit, was-true}
 use borrow.Author.Needs.{needs}
 use Rattle.fast_mtc.proofs.label.two_later.Statement.{statement}
 use Rattle.fast_mtc.proofs.label.two_later.Tie as tie

@@ -1,5 +1,5 @@
 -- `fast_mtc::receive::after_0` meets its contract. Assumes nothing.
-use Rattle.fast_mtc.proofs.Passing.{kept-0, begun-0-on, begun-0-reverse, begun-0-apart}
+use Rattle.fast_mtc.proofs.PassedPieces.{kept-0, begun-0-on, begun-0-reverse, begun-0-apart}
 use borrow.Author.Needs.{needs}
 use Rattle.fast_mtc.proofs.receive.after_0.Statement.{statement}
 use Rattle.fast_mtc.proofs.receive.after_0.Tie as tie

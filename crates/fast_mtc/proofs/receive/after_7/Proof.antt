@@ -1,5 +1,5 @@
 -- `fast_mtc::receive::after_7` meets its contract. Assumes nothing.
-use Rattle.fast_mtc.proofs.Passing.{kept-7, begun-7-on, begun-7-forward, begun-7-apart}
+use Rattle.fast_mtc.proofs.PassedPieces.{kept-7, begun-7-on, begun-7-forward, begun-7-apart}
 use borrow.Author.Needs.{needs}
 use Rattle.fast_mtc.proofs.receive.after_7.Statement.{statement}
 use Rattle.fast_mtc.proofs.receive.after_7.Tie as tie

@@ -1,5 +1,5 @@
 -- `fast_mtc::receive::after_none` meets its contract. Assumes nothing.
-use Rattle.fast_mtc.proofs.Passing.{kept-none, first-of-all, way-forward, way-reverse, way-none}
+use Rattle.fast_mtc.proofs.PassedPieces.{kept-none, first-of-all, way-forward, way-reverse, way-none}
 use borrow.Author.Needs.{needs}
 use Rattle.fast_mtc.proofs.receive.after_none.Statement.{statement}
 use Rattle.fast_mtc.proofs.receive.after_none.Tie as tie

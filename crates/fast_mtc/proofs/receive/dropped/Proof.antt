@@ -1,5 +1,5 @@
 -- `fast_mtc::receive::dropped` meets its contract. Assumes nothing.
-use Rattle.fast_mtc.proofs.Passing.{kept-forward, kept-reverse, forward-turned, forward-broken, reverse-turned, reverse-broken}
+use Rattle.fast_mtc.proofs.PassedPieces.{kept-forward, kept-reverse, forward-turned, forward-broken, reverse-turned, reverse-broken}
 use borrow.Author.Needs.{needs}
 use Rattle.fast_mtc.proofs.receive.dropped.Statement.{statement}
 use Rattle.fast_mtc.proofs.receive.dropped.Tie as tie

@@ -1,5 +1,5 @@
 -- `fast_mtc::receive::go_forward` meets its contract. Assumes nothing.
-use Rattle.fast_mtc.proofs.Passing.{forward-passed, forward-begun}
+use Rattle.fast_mtc.proofs.PassedPieces.{forward-passed, forward-begun}
 use borrow.Author.Needs.{needs}
 use Rattle.fast_mtc.proofs.receive.go_forward.Statement.{statement}
 use Rattle.fast_mtc.proofs.receive.go_forward.Tie as tie

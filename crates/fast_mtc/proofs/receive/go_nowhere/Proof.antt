@@ -1,5 +1,5 @@
 -- `fast_mtc::receive::go_nowhere` meets its contract. Assumes nothing.
-use Rattle.fast_mtc.proofs.Passing.{none-begun-0, none-begun-7, none-passed}
+use Rattle.fast_mtc.proofs.PassedPieces.{none-begun-0, none-begun-7, none-passed}
 use borrow.Author.Needs.{needs}
 use Rattle.fast_mtc.proofs.receive.go_nowhere.Statement.{statement}
 use Rattle.fast_mtc.proofs.receive.go_nowhere.Tie as tie

@@ -1,5 +1,5 @@
 -- `fast_mtc::receive::go_reverse` meets its contract. Assumes nothing.
-use Rattle.fast_mtc.proofs.Passing.{reverse-passed, reverse-begun}
+use Rattle.fast_mtc.proofs.PassedPieces.{reverse-passed, reverse-begun}
 use borrow.Author.Needs.{needs}
 use Rattle.fast_mtc.proofs.receive.go_reverse.Statement.{statement}
 use Rattle.fast_mtc.proofs.receive.go_reverse.Tie as tie

@@ -1,5 +1,5 @@
 -- `fast_mtc::receive::next_forward` meets its contract. Assumes nothing.
-use Rattle.fast_mtc.proofs.Receiving.{next-forward-on, next-forward-going, next-forward-ends}
+use Rattle.fast_mtc.proofs.ReceivedPieces.{next-forward-on, next-forward-going, next-forward-ends}
 use borrow.Author.Needs.{needs}
 use Rattle.fast_mtc.proofs.receive.next_forward.Statement.{statement}
 use Rattle.fast_mtc.proofs.receive.next_forward.Tie as tie

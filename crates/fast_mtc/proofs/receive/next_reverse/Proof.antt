@@ -1,5 +1,5 @@
 -- `fast_mtc::receive::next_reverse` meets its contract. Assumes nothing.
-use Rattle.fast_mtc.proofs.Receiving.{next-reverse-on, next-reverse-going, next-reverse-ends}
+use Rattle.fast_mtc.proofs.ReceivedPieces.{next-reverse-on, next-reverse-going, next-reverse-ends}
 use borrow.Author.Needs.{needs}
 use Rattle.fast_mtc.proofs.receive.next_reverse.Statement.{statement}
 use Rattle.fast_mtc.proofs.receive.next_reverse.Tie as tie

@@ -1,5 +1,5 @@
 -- `fast_mtc::receive::outside_forward` meets its contract. Assumes nothing.
-use Rattle.fast_mtc.proofs.Passing.{kept-unlocked, kept-forward-out, out-forward-on, out-forward-turned, out-forward-broken}
+use Rattle.fast_mtc.proofs.PassedPieces.{kept-unlocked, kept-forward-out, out-forward-on, out-forward-turned, out-forward-broken}
 use borrow.Author.Needs.{needs}
 use Rattle.fast_mtc.proofs.receive.outside_forward.Statement.{statement}
 use Rattle.fast_mtc.proofs.receive.outside_forward.Tie as tie

@@ -1,5 +1,5 @@
 -- `fast_mtc::receive::outside_reverse` meets its contract. Assumes nothing.
-use Rattle.fast_mtc.proofs.Passing.{kept-unlocked, kept-reverse-out, out-reverse-on, out-reverse-turned, out-reverse-broken}
+use Rattle.fast_mtc.proofs.PassedPieces.{kept-unlocked, kept-reverse-out, out-reverse-on, out-reverse-turned, out-reverse-broken}
 use borrow.Author.Needs.{needs}
 use Rattle.fast_mtc.proofs.receive.outside_reverse.Statement.{statement}
 use Rattle.fast_mtc.proofs.receive.outside_reverse.Tie as tie

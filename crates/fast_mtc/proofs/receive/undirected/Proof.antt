@@ -1,5 +1,5 @@
 -- `fast_mtc::receive::undirected` meets its contract. Assumes nothing.
-use Rattle.fast_mtc.proofs.Passing.{below-40, kept-undirected, kept-unlocked, second-forward, second-reverse, second-apart}
+use Rattle.fast_mtc.proofs.PassedPieces.{below-40, kept-undirected, kept-unlocked, second-forward, second-reverse, second-apart}
 use borrow.Author.Needs.{needs}
 use Rattle.fast_mtc.proofs.receive.undirected.Statement.{statement}
 use Rattle.fast_mtc.proofs.receive.undirected.Tie as tie

@@ -1,7 +1,7 @@
 -- `fast_mtc::report::complete` meets its contract. Assumes nothing.
 use mathlib.Core.Path.{sym, ap, _∙_}
 use Rattle.mtc.specs.declared.reader.MaybeDirection.the-variants.{Going}
-use Rattle.fast_mtc.proofs.Steady.{reports-sequence, previous-at}
+use Rattle.fast_mtc.proofs.SteadyLabels.{reports-sequence, previous-at}
 use borrow.Author.Needs.{needs}
 use Rattle.fast_mtc.proofs.report.complete.Statement.{statement}
 use Rattle.fast_mtc.proofs.report.complete.Tie as tie

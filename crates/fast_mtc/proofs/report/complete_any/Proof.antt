@@ -1,6 +1,6 @@
 -- `fast_mtc::report::complete_any` meets its contract. Assumes nothing.
 use mathlib.Core.Path.{refl, sym, _∙_}
-use Rattle.fast_mtc.proofs.Steady.{reports-sequence}
+use Rattle.fast_mtc.proofs.SteadyLabels.{reports-sequence}
 use borrow.Author.Needs.{needs}
 use Rattle.fast_mtc.proofs.report.complete_any.Statement.{statement}
 use Rattle.fast_mtc.proofs.report.complete_any.Tie as tie

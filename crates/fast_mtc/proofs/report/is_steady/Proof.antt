@@ -3,8 +3,8 @@ use mathlib.Core.Bool.{false≢true}
 use mathlib.Core.Path.{refl}
 use native.Mathlib.Omega.{arith}
 use borrow.Author.Tests.{eqb-true, not-false}
-use Rattle.fast_mtc.proofs.ShortWays.{two-fit}
-use Rattle.fast_mtc.proofs.Steady.{word-fits, word-room, told-forward, told-reverse}
+use Rattle.fast_mtc.proofs.LabelShortWays.{two-fit}
+use Rattle.fast_mtc.proofs.SteadyLabels.{word-fits, word-room, told-forward, told-reverse}
 use Rattle.labels.proofs.Laws.{fps-small}
 use borrow.Author.Needs.{needs}
 use Rattle.fast_mtc.proofs.report.is_steady.Statement.{statement}

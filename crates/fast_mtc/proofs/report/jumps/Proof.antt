@@ -1,5 +1,5 @@
 -- `fast_mtc::report::jumps` meets its contract. Assumes nothing.
-use Rattle.fast_mtc.proofs.Steady.{jumps-forward, jumps-reverse}
+use Rattle.fast_mtc.proofs.SteadyLabels.{jumps-forward, jumps-reverse}
 use borrow.Author.Needs.{needs}
 use Rattle.fast_mtc.proofs.report.jumps.Statement.{statement}
 use Rattle.fast_mtc.proofs.report.jumps.Tie as tie

@@ -4,7 +4,7 @@ use mathlib.Core.Path.{ap, _∙_}
 use Rattle.mtc.specs.Reader.{eventWith}
 use Rattle.mtc.specs.declared.reader.MaybeSequence.the-variants.{Sequence}
 use Rattle.fast_mtc.specs.Reader.{flatEvent}
-use Rattle.fast_mtc.proofs.Steady.{completes}
+use Rattle.fast_mtc.proofs.SteadyLabels.{completes}
 use borrow.Author.Needs.{needs}
 use Rattle.fast_mtc.proofs.report.keep.Statement.{statement}
 use Rattle.fast_mtc.proofs.report.keep.Tie as tie

@@ -1,6 +1,6 @@
 -- `fast_mtc::report::label_or` meets its contract. Assumes nothing.
 use mathlib.Core.Path.{sym, ap, _∙_}
-use Rattle.fast_mtc.proofs.Steady.{no-label, some-label}
+use Rattle.fast_mtc.proofs.SteadyLabels.{no-label, some-label}
 use borrow.Author.Needs.{needs}
 use Rattle.fast_mtc.proofs.report.label_or.Statement.{statement}
 use Rattle.fast_mtc.proofs.report.label_or.Tie as tie

@@ -1,5 +1,5 @@
 -- `fast_mtc::report::raw_in` meets its contract. Assumes nothing.
-use Rattle.fast_mtc.proofs.Steady.{raw-is}
+use Rattle.fast_mtc.proofs.SteadyLabels.{raw-is}
 use mathlib.Core.Path.{_∙_}
 use borrow.Author.Needs.{needs}
 use Rattle.fast_mtc.proofs.report.raw_in.Statement.{statement}

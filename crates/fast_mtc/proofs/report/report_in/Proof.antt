@@ -1,7 +1,7 @@
 -- `fast_mtc::report::report_in` meets its contract. Assumes nothing.
 use mathlib.Core.Path.{refl}
 use borrow.Author.Tests.{eq-eqb, ne-eqb}
-use Rattle.fast_mtc.proofs.Steady.{not-reported, is-reported}
+use Rattle.fast_mtc.proofs.SteadyLabels.{not-reported, is-reported}
 use borrow.Author.Needs.{needs}
 use Rattle.fast_mtc.proofs.report.report_in.Statement.{statement}
 use Rattle.fast_mtc.proofs.report.report_in.Tie as tie

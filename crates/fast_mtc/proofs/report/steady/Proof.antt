@@ -1,6 +1,6 @@
 -- `fast_mtc::report::steady` meets its contract. Assumes nothing.
 use mathlib.Core.Path.{refl}
-use Rattle.fast_mtc.specs.Inner.{steady}
+use Rattle.fast_mtc.specs.Contracts.{steady}
 use borrow.Author.Needs.{needs}
 use Rattle.fast_mtc.proofs.report.steady.Statement.{statement}
 use Rattle.fast_mtc.proofs.report.steady.Tie as tie

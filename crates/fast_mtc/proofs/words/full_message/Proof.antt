@@ -1,5 +1,5 @@
 -- `fast_mtc::words::full_message` meets its contract. Assumes nothing.
-use Rattle.fast_mtc.proofs.Passing.{informs}
+use Rattle.fast_mtc.proofs.PassedPieces.{informs}
 use borrow.Author.Needs.{needs}
 use Rattle.fast_mtc.proofs.words.full_message.Statement.{statement}
 use Rattle.fast_mtc.proofs.words.full_message.Tie as tie

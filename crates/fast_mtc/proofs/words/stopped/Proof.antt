@@ -1,7 +1,7 @@
 -- `fast_mtc::words::stopped` meets its contract. Assumes nothing.
 use mathlib.Core.Path.{refl, sym, ap, _∙_}
 use Rattle.mtc.specs.declared.reader.MaybeDirection.the-variants.{Going}
-use Rattle.fast_mtc.proofs.Passing.{stopped-none, stopped-forward, stopped-reverse}
+use Rattle.fast_mtc.proofs.PassedPieces.{stopped-none, stopped-forward, stopped-reverse}
 use borrow.Author.Needs.{needs}
 use Rattle.fast_mtc.proofs.words.stopped.Statement.{statement}
 use Rattle.fast_mtc.proofs.words.stopped.Tie as tie

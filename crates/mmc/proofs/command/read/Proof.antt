@@ -1,7 +1,7 @@
 use borrow.Author.Needs.{needs}
 use Rattle.mmc.proofs.command.read.Statement.{statement}
 use Rattle.mmc.proofs.command.read.Tie as tie
-use Rattle.mmc.proofs.Commands.{long-name, by-byte, unknown-name}
+use Rattle.mmc.proofs.Reading.CommandTests.{long-name, by-byte, unknown-name}
 use mathlib.Core.Path.{_∙_}
 use Rattle.mmc.specs.Command.{commandByName}
 

@@ -1,7 +1,7 @@
 use borrow.Author.Needs.{needs}
 use Rattle.mmc.proofs.command.read_locate.Statement.{statement}
 use Rattle.mmc.proofs.command.read_locate.Tie as tie
-use Rattle.mmc.proofs.Commands.{locate-short, locate-no-register, locate-register, locate-unknown, locate-cut, locate-target}
+use Rattle.mmc.proofs.Reading.CommandTests.{locate-short, locate-no-register, locate-register, locate-unknown, locate-cut, locate-target}
 use mathlib.Core.Path.{_∙_, ap}
 use Rattle.mmc.specs.declared.command.MmcCommand.{MmcCommand}
 use Rattle.mmc.specs.declared.command.MmcCommand.the-variants.{LocateTarget}

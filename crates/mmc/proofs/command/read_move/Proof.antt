@@ -1,7 +1,7 @@
 use borrow.Author.Needs.{needs}
 use Rattle.mmc.proofs.command.read_move.Statement.{statement}
 use Rattle.mmc.proofs.command.read_move.Tie as tie
-use Rattle.mmc.proofs.Commands.{move-short, move-no-destination, move-no-source, move-both}
+use Rattle.mmc.proofs.Reading.CommandTests.{move-short, move-no-destination, move-no-source, move-both}
 
 returns : tie.Need-returns
 returns c = move-short _ _ _ (c .if1 .taken)

@@ -5,7 +5,7 @@ use mathlib.Core.List.{List}
 use Prim.Native.Nat.{ℕ}
 use Rattle.mmc.specs.Field.{readField, fieldOfCase, nextField}
 use Rattle.mmc.specs.Split.{partsAs}
-use Rattle.mmc.proofs.Splits.{read-parts, read-found, read-refused}
+use Rattle.mmc.proofs.Reading.SplitTests.{read-parts, read-found, read-refused}
 
 next-parts-requires : tie.Need-next-parts-requires
 next-parts-requires c κs = search needs

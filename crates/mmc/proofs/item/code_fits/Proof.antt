@@ -1,7 +1,7 @@
 use borrow.Author.Needs.{needs}
 use Rattle.mmc.proofs.item.code_fits.Statement.{statement}
 use Rattle.mmc.proofs.item.code_fits.Tie as tie
-use Rattle.mmc.proofs.ItemPuts.{name-unfit, form-told}
+use Rattle.mmc.proofs.Writing.ItemPuts.{name-unfit, form-told}
 use borrow.Author.Tests.{not-true, not-false}
 use mathlib.Core.Path.{_∙_, sym}
 

@@ -1,6 +1,6 @@
 use Rattle.mmc.proofs.item.is_time_field.Statement.{statement}
 use Rattle.mmc.proofs.item.is_time_field.Tie as tie
-use Rattle.mmc.proofs.Ranges.{below-range}
+use Rattle.mmc.proofs.RangeTests.{below-range}
 use borrow.Author.Tests.{le-leb}
 use mathlib.Core.Path.{sym}
 

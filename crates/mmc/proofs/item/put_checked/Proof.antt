@@ -1,7 +1,7 @@
 use borrow.Author.Needs.{needs}
 use Rattle.mmc.proofs.item.put_checked.Statement.{statement}
 use Rattle.mmc.proofs.item.put_checked.Tie as tie
-use Rattle.mmc.proofs.Puts.{puts}
+use Rattle.mmc.proofs.Writing.EmissionPuts.{puts}
 use mathlib.Core.Path.{sym, ap, refl}
 use Rattle.codes.specs.declared.time_code.Checked.{Checked}
 use Rattle.mmc.specs.Item.{checkedItem}

@@ -2,7 +2,7 @@ use borrow.Author.Needs.{needs}
 use Rattle.mmc.proofs.item.put_command.Statement.{statement}
 use Rattle.mmc.proofs.item.put_command.Tie as tie
 use Rattle.mmc.specs.Item.{commandItem}
-use Rattle.mmc.proofs.ItemPuts.{command-as}
+use Rattle.mmc.proofs.Writing.ItemPuts.{command-as}
 
 enum-told : tie.Need-enum-told
 enum-told c = search needs

@@ -2,7 +2,7 @@ use borrow.Author.Needs.{needs}
 use Rattle.mmc.proofs.item.put_field.Statement.{statement}
 use Rattle.mmc.proofs.item.put_field.Tie as tie
 use Rattle.mmc.specs.Item.{fieldItem}
-use Rattle.mmc.proofs.ItemPuts.{field-as}
+use Rattle.mmc.proofs.Writing.ItemPuts.{field-as}
 
 enum-known-field : tie.Need-enum-known-field
 enum-known-field c = search needs

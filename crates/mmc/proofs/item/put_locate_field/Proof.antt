@@ -1,8 +1,8 @@
 use borrow.Author.Needs.{needs}
 use Rattle.mmc.proofs.item.put_locate_field.Statement.{statement}
 use Rattle.mmc.proofs.item.put_locate_field.Tie as tie
-use Rattle.mmc.proofs.ItemPuts.{register-below, register-above, register-sent}
-use Rattle.mmc.proofs.Puts.{puts, puts-none}
+use Rattle.mmc.proofs.Writing.ItemPuts.{register-below, register-above, register-sent}
+use Rattle.mmc.proofs.Writing.EmissionPuts.{puts, puts-none}
 use mathlib.Core.Path.{refl}
 
 returns : tie.Need-returns

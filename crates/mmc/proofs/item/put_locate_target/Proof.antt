@@ -1,8 +1,8 @@
 use borrow.Author.Needs.{needs}
 use Rattle.mmc.proofs.item.put_locate_target.Statement.{statement}
 use Rattle.mmc.proofs.item.put_locate_target.Tie as tie
-use Rattle.mmc.proofs.ItemPuts.{puts-as, standard-length, target-status, target-sent}
-use Rattle.mmc.proofs.Puts.{puts-none, puts-after}
+use Rattle.mmc.proofs.Writing.ItemPuts.{puts-as, standard-length, target-status, target-sent}
+use Rattle.mmc.proofs.Writing.EmissionPuts.{puts-none, puts-after}
 use mathlib.Core.Path.{refl, ap}
 use native.Mathlib.Omega.{arith}
 use Rattle.mmc.specs.Named.{Extent}

@@ -1,8 +1,8 @@
 use borrow.Author.Needs.{needs}
 use Rattle.mmc.proofs.item.put_move.Statement.{statement}
 use Rattle.mmc.proofs.item.put_move.Tie as tie
-use Rattle.mmc.proofs.ItemPuts.{move-destination, move-source, move-sent}
-use Rattle.mmc.proofs.Puts.{puts, puts-none}
+use Rattle.mmc.proofs.Writing.ItemPuts.{move-destination, move-source, move-sent}
+use Rattle.mmc.proofs.Writing.EmissionPuts.{puts, puts-none}
 use borrow.Author.Tests.{not-true, not-false}
 use mathlib.Core.Path.{_∙_, sym, refl}
 

@@ -1,8 +1,8 @@
 use borrow.Author.Needs.{needs}
 use Rattle.mmc.proofs.item.put_other.Statement.{statement}
 use Rattle.mmc.proofs.item.put_other.Tie as tie
-use Rattle.mmc.proofs.ItemPuts.{name-outside, data-outside, both-inside, named-as}
-use Rattle.mmc.proofs.Puts.{puts-none}
+use Rattle.mmc.proofs.Writing.ItemPuts.{name-outside, data-outside, both-inside, named-as}
+use Rattle.mmc.proofs.Writing.EmissionPuts.{puts-none}
 use borrow.Author.Tests.{not-true, not-false}
 use mathlib.Core.Path.{_∙_, sym}
 

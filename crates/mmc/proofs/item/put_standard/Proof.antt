@@ -1,7 +1,7 @@
 use borrow.Author.Needs.{needs}
 use Rattle.mmc.proofs.item.put_standard.Statement.{statement}
 use Rattle.mmc.proofs.item.put_standard.Tie as tie
-use Rattle.mmc.proofs.ItemPuts.{puts-as, standard-checked}
+use Rattle.mmc.proofs.Writing.ItemPuts.{puts-as, standard-checked}
 
 to-bytes-requires : tie.Need-to-bytes-requires
 to-bytes-requires c κs = search needs

@@ -1,8 +1,8 @@
 use borrow.Author.Needs.{needs}
 use Rattle.mmc.proofs.item.put_time_code.Statement.{statement}
 use Rattle.mmc.proofs.item.put_time_code.Tie as tie
-use Rattle.mmc.proofs.ItemPuts.{puts-as, standard-length, code-unfit, code-sent}
-use Rattle.mmc.proofs.Puts.{puts-none, puts-after}
+use Rattle.mmc.proofs.Writing.ItemPuts.{puts-as, standard-length, code-unfit, code-sent}
+use Rattle.mmc.proofs.Writing.EmissionPuts.{puts-none, puts-after}
 use borrow.Author.Tests.{not-true, not-false}
 use mathlib.Core.Path.{_∙_, sym, ap, refl}
 use native.Mathlib.Omega.{arith}

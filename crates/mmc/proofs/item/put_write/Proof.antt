@@ -1,8 +1,8 @@
 use borrow.Author.Needs.{needs}
 use Rattle.mmc.proofs.item.put_write.Statement.{statement}
 use Rattle.mmc.proofs.item.put_write.Tie as tie
-use Rattle.mmc.proofs.ItemPuts.{write-outside, write-inside, named-as}
-use Rattle.mmc.proofs.Puts.{puts-none}
+use Rattle.mmc.proofs.Writing.ItemPuts.{write-outside, write-inside, named-as}
+use Rattle.mmc.proofs.Writing.EmissionPuts.{puts-none}
 use borrow.Author.Tests.{not-true, not-false}
 use mathlib.Core.Path.{_∙_, sym, refl}
 

@@ -1,6 +1,6 @@
 use Rattle.mmc.proofs.length.command_length.Statement.{statement}
 use Rattle.mmc.proofs.length.command_length.Tie as tie
-use Rattle.mmc.proofs.Ranges.{within-range, below-range, above-range}
+use Rattle.mmc.proofs.RangeTests.{within-range, below-range, above-range}
 use Rattle.mmc.specs.Length.{commandLength}
 
 returns : tie.Need-returns

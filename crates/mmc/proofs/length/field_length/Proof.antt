@@ -1,6 +1,6 @@
 use Rattle.mmc.proofs.length.field_length.Statement.{statement}
 use Rattle.mmc.proofs.length.field_length.Tie as tie
-use Rattle.mmc.proofs.Ranges.{within-range, below-range, above-range}
+use Rattle.mmc.proofs.RangeTests.{within-range, below-range, above-range}
 use native.Mathlib.Omega.{arith}
 use Rattle.mmc.specs.Length.{fieldLength}
 

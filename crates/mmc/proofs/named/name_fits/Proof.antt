@@ -1,7 +1,7 @@
 use borrow.Author.Needs.{needs}
 use Rattle.mmc.proofs.named.name_fits.Statement.{statement}
 use Rattle.mmc.proofs.named.name_fits.Tie as tie
-use Rattle.mmc.proofs.Puts.{fits-one, fits-two, fits-three, fits-never}
+use Rattle.mmc.proofs.Writing.EmissionPuts.{fits-one, fits-two, fits-three, fits-never}
 use mathlib.Core.Path.{_∙_, sym, ap}
 use mathlib.Core.Bool.{Bool, not, _&&_}
 use borrow.Author.Tests.{eq-eqb, ne-eqb}

@@ -1,7 +1,7 @@
 use borrow.Author.Needs.{needs}
 use Rattle.mmc.proofs.named.put_by_rule.Statement.{statement}
 use Rattle.mmc.proofs.named.put_by_rule.Tie as tie
-use Rattle.mmc.proofs.Puts.{puts, puts-none, of-rule, fixed-other, fixed-high, fixed-low, count-long, count-high, count-low}
+use Rattle.mmc.proofs.Writing.EmissionPuts.{puts, puts-none, of-rule, fixed-other, fixed-high, fixed-low, count-long, count-high, count-low}
 use mathlib.Core.Path.{_∙_, sym, refl}
 use borrow.Author.Tests.{not-true, not-false}
 use native.Mathlib.Omega.{arith}

@@ -1,7 +1,7 @@
 use borrow.Author.Needs.{needs}
 use Rattle.mmc.proofs.named.put_named.Statement.{statement}
 use Rattle.mmc.proofs.named.put_named.Tie as tie
-use Rattle.mmc.proofs.Puts.{puts-none, name-unfit, name-high, name-length, rule-length, named-puts}
+use Rattle.mmc.proofs.Writing.EmissionPuts.{puts-none, name-unfit, name-high, name-length, rule-length, named-puts}
 use mathlib.Core.Path.{_∙_, sym, ap}
 use borrow.Author.Tests.{not-true, not-false}
 use native.Mathlib.Omega.{arith}

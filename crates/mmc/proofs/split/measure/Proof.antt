@@ -1,7 +1,7 @@
 use borrow.Author.Needs.{needs}
 use Rattle.mmc.proofs.split.measure.Statement.{statement}
 use Rattle.mmc.proofs.split.measure.Tie as tie
-use Rattle.mmc.proofs.Splits.{past-the-end, too-few, enough}
+use Rattle.mmc.proofs.Reading.SplitTests.{past-the-end, too-few, enough}
 
 returns : tie.Need-returns
 returns c = past-the-end _ _ _ _ (c .if1 .taken)

@@ -1,7 +1,7 @@
 use borrow.Author.Needs.{needs}
 use Rattle.mmc.proofs.split.next_parts.Statement.{statement}
 use Rattle.mmc.proofs.split.next_parts.Tie as tie
-use Rattle.mmc.proofs.Splits.{next-end, next-cut, next-item}
+use Rattle.mmc.proofs.Reading.SplitTests.{next-end, next-cut, next-item}
 use mathlib.Core.Path.{_∙_, sym}
 
 returns : tie.Need-returns

@@ -1,7 +1,7 @@
 use borrow.Author.Needs.{needs}
 use Rattle.mmc.proofs.split.prefixes.Statement.{statement}
 use Rattle.mmc.proofs.split.prefixes.Tie as tie
-use Rattle.mmc.proofs.Splits.{no-zero, one-at-the-end, one-zero, two-zeros}
+use Rattle.mmc.proofs.Reading.SplitTests.{no-zero, one-at-the-end, one-zero, two-zeros}
 
 shared-slice-read-if1 : tie.Need-shared-slice-read-if1
 shared-slice-read-if1 c = search needs

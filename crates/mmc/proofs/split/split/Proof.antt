@@ -1,7 +1,7 @@
 use borrow.Author.Needs.{needs}
 use Rattle.mmc.proofs.split.split.Statement.{statement}
 use Rattle.mmc.proofs.split.split.Tie as tie
-use Rattle.mmc.proofs.Splits.{few-zeros, cut-name, fixed-data, no-count, counted-data}
+use Rattle.mmc.proofs.Reading.SplitTests.{few-zeros, cut-name, fixed-data, no-count, counted-data}
 use mathlib.Core.Path.{_∙_, sym}
 use native.Mathlib.Omega.{arith}
 use Prim.Native.Nat.{_+_}

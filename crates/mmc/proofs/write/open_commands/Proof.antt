@@ -1,7 +1,7 @@
 use borrow.Author.Needs.{needs}
 use Rattle.mmc.proofs.write.open_commands.Statement.{statement}
 use Rattle.mmc.proofs.write.open_commands.Tie as tie
-use Rattle.mmc.proofs.Writers.{opens-commands}
+use Rattle.mmc.proofs.Writing.WriterCalls.{opens-commands}
 use Rattle.mmc.specs.Write.{openedCommands}
 
 open-requires : tie.Need-open-requires

@@ -1,7 +1,7 @@
 use borrow.Author.Needs.{needs}
 use Rattle.mmc.proofs.write.open_responses.Statement.{statement}
 use Rattle.mmc.proofs.write.open_responses.Tie as tie
-use Rattle.mmc.proofs.Writers.{no-response, response-opening, opens-responses, begun-refused, left-as}
+use Rattle.mmc.proofs.Writing.WriterCalls.{no-response, response-opening, opens-responses, begun-refused, left-as}
 use mathlib.Core.Path.{sym}
 use Rattle.universal.proofs.Laws.{overlay-none}
 

@@ -1,6 +1,6 @@
 -- `mtc::kind::is_time_code` meets its contract, test by test. Assumes nothing.
 use borrow.Author.Needs.{needs}
-use Rattle.mtc.proofs.Reading.{not-real-time, other-sub-id1, without-sub-id2, by-sub-id2}
+use Rattle.mtc.proofs.Messages.MessageReading.{not-real-time, other-sub-id1, without-sub-id2, by-sub-id2}
 use Rattle.mtc.proofs.kind.is_time_code.Statement.{statement}
 use Rattle.mtc.proofs.kind.is_time_code.Tie as tie
 

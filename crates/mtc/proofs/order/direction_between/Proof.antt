@@ -1,7 +1,7 @@
 -- `mtc::order::direction_between` meets its contract. Assumes nothing.
 use mathlib.Core.Path.{_∙_, sym}
 use borrow.Author.Needs.{needs}
-use Rattle.mtc.proofs.Readers.{between-forward, between-reverse, between-none}
+use Rattle.mtc.proofs.ReaderCalls.{between-forward, between-reverse, between-none}
 use Rattle.mtc.proofs.order.direction_between.Statement.{statement}
 use Rattle.mtc.proofs.order.direction_between.Tie as tie
 

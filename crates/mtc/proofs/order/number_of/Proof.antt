@@ -1,7 +1,7 @@
 -- `mtc::order::number_of` meets its contract. Assumes nothing.
 use mathlib.Core.Path.{_∙_, sym}
 use borrow.Author.Needs.{needs}
-use Rattle.mtc.proofs.Readers.{number-next, number-first, number-none}
+use Rattle.mtc.proofs.ReaderCalls.{number-next, number-first, number-none}
 use Rattle.mtc.proofs.order.number_of.Statement.{statement}
 use Rattle.mtc.proofs.order.number_of.Tie as tie
 

@@ -1,7 +1,7 @@
 -- `mtc::order::order_of` meets its contract. Assumes nothing.
 use mathlib.Core.Path.{_∙_, sym}
 use borrow.Author.Needs.{needs}
-use Rattle.mtc.proofs.Readers.{sound-last, order-alone, order-second, order-next, order-turned}
+use Rattle.mtc.proofs.ReaderCalls.{sound-last, order-alone, order-second, order-next, order-turned}
 use Rattle.mtc.proofs.order.order_of.Statement.{statement}
 use Rattle.mtc.proofs.order.order_of.Tie as tie
 

@@ -1,7 +1,7 @@
 -- `mtc::order::out_of_order` meets its contract. Assumes nothing.
 use mathlib.Core.Path.{_∙_}
 use borrow.Author.Needs.{needs}
-use Rattle.mtc.proofs.Readers.{no-neighbour, turned, second-alone, second}
+use Rattle.mtc.proofs.ReaderCalls.{no-neighbour, turned, second-alone, second}
 use Rattle.mtc.proofs.order.out_of_order.Statement.{statement}
 use Rattle.mtc.proofs.order.out_of_order.Tie as tie
 

@@ -1,6 +1,6 @@
 -- `mtc::reader::jumps` meets its contract. Assumes nothing.
 use borrow.Author.Needs.{needs}
-use Rattle.mtc.proofs.Readers.{jumps-from}
+use Rattle.mtc.proofs.ReaderCalls.{jumps-from}
 use Rattle.mtc.proofs.reader.jumps.Statement.{statement}
 use Rattle.mtc.proofs.reader.jumps.Tie as tie
 

@@ -5,7 +5,7 @@ use mathlib.Core.Bool.{true}
 use mathlib.Core.Path.{_≡_, refl, sym}
 use native.Mathlib.Omega.{arith}
 use Rattle.mtc.specs.Reader.{nibblesFit}
-use Rattle.mtc.proofs.Readers.{fit-next, fit-not}
+use Rattle.mtc.proofs.ReaderCalls.{fit-next, fit-not}
 use Rattle.mtc.proofs.reader.nibbles_fit.Statement.{statement}
 use Rattle.mtc.proofs.reader.nibbles_fit.Tie as tie
 

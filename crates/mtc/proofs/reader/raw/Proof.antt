@@ -2,7 +2,7 @@
 use native.Mathlib.Omega.{arith}
 use borrow.Author.Needs.{needs}
 use lib.Dec.{lit<}
-use Rattle.mtc.proofs.Readers.{nibble-small}
+use Rattle.mtc.proofs.ReaderCalls.{nibble-small}
 use Rattle.mtc.proofs.reader.raw.Statement.{statement}
 use Rattle.mtc.proofs.reader.raw.Tie as tie
 

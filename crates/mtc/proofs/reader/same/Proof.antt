@@ -1,6 +1,6 @@
 -- `mtc::reader::same` meets its contract. Assumes nothing.
 use borrow.Author.Needs.{needs}
-use Rattle.mtc.proofs.Readers.{other-hours, other-minutes, other-seconds, other-frames, same-counts}
+use Rattle.mtc.proofs.ReaderCalls.{other-hours, other-minutes, other-seconds, other-frames, same-counts}
 use Rattle.mtc.proofs.reader.same.Statement.{statement}
 use Rattle.mtc.proofs.reader.same.Tie as tie
 

@@ -6,7 +6,7 @@ use native.Mathlib.Omega.{arith}
 use borrow.Author.Count.{below-more}
 use borrow.Author.Needs.{needs}
 use lib.ListN.{length, getD}
-use Rattle.mtc.proofs.Groups.{all-below, one-above}
+use Rattle.mtc.proofs.Messages.UserBitGroups.{all-below, one-above}
 use Rattle.mtc.proofs.user_bits.all_nibbles.Statement.{statement}
 use Rattle.mtc.proofs.user_bits.all_nibbles.Tie as tie
 

@@ -2,7 +2,7 @@
 use borrow.Author.Needs.{needs}
 use Rattle.codes.proofs.time_code.ShortTimeCode.to_bytes.Statement.{statement}
 use Rattle.codes.proofs.time_code.ShortTimeCode.to_bytes.Tie as tie
-use Rattle.codes.proofs.Writing.{frames-refused, short-last-refused, short-given}
+use Rattle.codes.proofs.ToBytes.{frames-refused, short-last-refused, short-given}
 
 returns : tie.Need-returns
 returns c = frames-refused _ (c .if1 .taken)

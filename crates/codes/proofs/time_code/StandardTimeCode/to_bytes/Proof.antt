@@ -2,7 +2,7 @@
 use borrow.Author.Needs.{needs}
 use Rattle.codes.proofs.time_code.StandardTimeCode.to_bytes.Statement.{statement}
 use Rattle.codes.proofs.time_code.StandardTimeCode.to_bytes.Tie as tie
-use Rattle.codes.proofs.Writing.{last-refused, label-refused, label-widths, standard-given}
+use Rattle.codes.proofs.ToBytes.{last-refused, label-refused, label-widths, standard-given}
 use native.Mathlib.Omega.{arith}
 
 fits-requires : tie.Need-fits-requires

@@ -1,7 +1,7 @@
 use borrow.Author.Needs.{needs}
 use Rattle.mmc.proofs.write.Writer.after.Statement.{statement}
 use Rattle.mmc.proofs.write.Writer.after.Tie as tie
-use Rattle.mmc.proofs.Writers.{moved-accepted, moved-refused}
+use Rattle.mmc.proofs.Writing.WriterCalls.{moved-accepted, moved-refused}
 use mathlib.Core.Path.{refl}
 use Rattle.mmc.specs.Write.{writingOf}
 

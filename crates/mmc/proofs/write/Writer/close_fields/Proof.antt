@@ -1,7 +1,7 @@
 use borrow.Author.Needs.{needs}
 use Rattle.mmc.proofs.write.Writer.close_fields.Statement.{statement}
 use Rattle.mmc.proofs.write.Writer.close_fields.Tie as tie
-use Rattle.mmc.proofs.Writers.{fields-refused, fields-short, fields-fit}
+use Rattle.mmc.proofs.Writing.WriterCalls.{fields-refused, fields-short, fields-fit}
 use mathlib.Core.Path.{_∙_, sym, ap}
 use Rattle.mmc.specs.Named.{stopOf}
 

@@ -1,7 +1,7 @@
 use borrow.Author.Needs.{needs}
 use Rattle.mmc.proofs.write.Writer.close_message.Statement.{statement}
 use Rattle.mmc.proofs.write.Writer.close_message.Tie as tie
-use Rattle.mmc.proofs.Writers.{close-repeats, close-empty, close-long, close-sent, ends-refused, ends-closed}
+use Rattle.mmc.proofs.Writing.WriterCalls.{close-repeats, close-empty, close-long, close-sent, ends-refused, ends-closed}
 use mathlib.Core.Path.{_∙_, sym, ap}
 use native.Mathlib.Omega.{arith}
 use Rattle.mmc.specs.Named.{stopOf}

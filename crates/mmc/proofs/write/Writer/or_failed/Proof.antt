@@ -1,6 +1,6 @@
 use Rattle.mmc.proofs.write.Writer.or_failed.Statement.{statement}
 use Rattle.mmc.proofs.write.Writer.or_failed.Tie as tie
-use Rattle.mmc.proofs.Writers.{too-many, too-far, as-it-is}
+use Rattle.mmc.proofs.Writing.WriterCalls.{too-many, too-far, as-it-is}
 
 returns : tie.Need-returns
 returns c = too-many _ (c .if1 .taken)

@@ -1,12 +1,12 @@
 use borrow.Author.Needs.{needs}
 use Rattle.mmc.proofs.write.Writer.put_command.Statement.{statement}
 use Rattle.mmc.proofs.write.Writer.put_command.Tie as tie
-use Rattle.mmc.proofs.Writers.{goes-on, ready-told, repeats, takes, fails, put-gives}
+use Rattle.mmc.proofs.Writing.WriterCalls.{goes-on, ready-told, repeats, takes, fails, put-gives}
 use mathlib.Core.Path.{_∙_, sym, ap, refl}
 use native.Mathlib.Omega.{arith}
 use Rattle.mmc.specs.Named.{Extent, stopOf}
 use Rattle.mmc.specs.Write.{writingOf}
-use Rattle.mmc.proofs.ItemPuts.{command-small}
+use Rattle.mmc.proofs.Writing.ItemPuts.{command-small}
 
 ready-requires : tie.Need-ready-requires
 ready-requires c κs = search needs

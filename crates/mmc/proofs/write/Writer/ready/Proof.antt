@@ -1,7 +1,7 @@
 use borrow.Author.Needs.{needs}
 use Rattle.mmc.proofs.write.Writer.ready.Statement.{statement}
 use Rattle.mmc.proofs.write.Writer.ready.Tie as tie
-use Rattle.mmc.proofs.Writers.{goes-on, under-256, ready-kept, ready-failed, ready-full, ready-on}
+use Rattle.mmc.proofs.Writing.WriterCalls.{goes-on, under-256, ready-kept, ready-failed, ready-full, ready-on}
 use Rattle.mmc.specs.Named.{stopOf}
 use Rattle.mmc.specs.Write.{writingOf}
 use mathlib.Core.Path.{_∙_, sym, ap}

@@ -2,7 +2,7 @@
 use mathlib.Core.Path.{sym, _∙_}
 use borrow.Author.Needs.{needs}
 use borrow.Author.Tests.{not-true, not-false}
-use Rattle.mtc.proofs.Reading.{full-other, full-short, full-whole}
+use Rattle.mtc.proofs.Messages.MessageReading.{full-other, full-short, full-whole}
 use Rattle.mtc.proofs.full_message.FullMessage.from_universal.Statement.{statement}
 use Rattle.mtc.proofs.full_message.FullMessage.from_universal.Tie as tie
 

@@ -3,7 +3,7 @@
 use mathlib.Core.Path.{sym, _∙_}
 use borrow.Author.Needs.{needs}
 use borrow.Author.Tests.{not-true, not-false}
-use Rattle.mtc.proofs.Writing.{full-device, full-label, full-written}
+use Rattle.mtc.proofs.Messages.MessageWriting.{full-device, full-label, full-written}
 use Rattle.mtc.proofs.full_message.FullMessage.write.Statement.{statement}
 use Rattle.mtc.proofs.full_message.FullMessage.write.Tie as tie
 

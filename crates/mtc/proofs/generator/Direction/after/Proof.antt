@@ -1,6 +1,6 @@
 -- `mtc::generator::Direction::after` meets its contract. Assumes nothing.
 use borrow.Author.Needs.{needs}
-use Rattle.mtc.proofs.Generators.{next-forward, next-reverse}
+use Rattle.mtc.proofs.GeneratorCalls.{next-forward, next-reverse}
 use Rattle.mtc.proofs.generator.Direction.after.Statement.{statement}
 use Rattle.mtc.proofs.generator.Direction.after.Tie as tie
 

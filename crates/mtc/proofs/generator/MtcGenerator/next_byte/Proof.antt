@@ -2,7 +2,7 @@
 use mathlib.Core.Path.{refl}
 use borrow.Author.Needs.{needs}
 use borrow.Author.Tests.{not-true, not-false}
-use Rattle.mtc.proofs.Generators.{known-none, known-above, known-within, answers, stopped-refuses}
+use Rattle.mtc.proofs.GeneratorCalls.{known-none, known-above, known-within, answers, stopped-refuses}
 use Rattle.mtc.proofs.generator.MtcGenerator.next_byte.Statement.{statement}
 use Rattle.mtc.proofs.generator.MtcGenerator.next_byte.Tie as tie
 

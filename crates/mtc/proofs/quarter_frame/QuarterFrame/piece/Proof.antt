@@ -2,7 +2,7 @@
 use native.Mathlib.Omega.{arith}
 use Rattle.mtc.specs.QuarterFrame.{pieces}
 use Rattle.labels.proofs.Laws.{bits-small}
-use Rattle.mtc.proofs.Nibbles.{past-eight}
+use Rattle.mtc.proofs.Sequences.LabelNibbles.{past-eight}
 use borrow.Author.Needs.{needs}
 use Rattle.mtc.proofs.quarter_frame.QuarterFrame.piece.Statement.{statement}
 use Rattle.mtc.proofs.quarter_frame.QuarterFrame.piece.Tie as tie

@@ -1,7 +1,7 @@
 -- `mtc::reader::MtcReader::complete` meets its contract. Assumes nothing.
 use mathlib.Core.Path.{_∙_}
 use borrow.Author.Needs.{needs}
-use Rattle.mtc.proofs.Readers.{sequence-is}
+use Rattle.mtc.proofs.ReaderCalls.{sequence-is}
 use Rattle.mtc.proofs.reader.MtcReader.complete.Statement.{statement}
 use Rattle.mtc.proofs.reader.MtcReader.complete.Tie as tie
 

@@ -2,7 +2,7 @@
 use mathlib.Core.Path.{_∙_, sym}
 use borrow.Author.Needs.{needs}
 use borrow.Author.Tests.{not-true, not-false}
-use Rattle.mtc.proofs.Readers.{unsound-count, unsound-first, unsound-last, sound-but}
+use Rattle.mtc.proofs.ReaderCalls.{unsound-count, unsound-first, unsound-last, sound-but}
 use Rattle.mtc.proofs.reader.MtcReader.is_sound.Statement.{statement}
 use Rattle.mtc.proofs.reader.MtcReader.is_sound.Tie as tie
 

@@ -1,7 +1,7 @@
 -- `mtc::reader::MtcReader::or_fresh` meets its contract. Assumes nothing.
 use mathlib.Core.Path.{_∙_, sym}
 use borrow.Author.Needs.{needs}
-use Rattle.mtc.proofs.Readers.{or-fresh-sound, unsound-fresh}
+use Rattle.mtc.proofs.ReaderCalls.{or-fresh-sound, unsound-fresh}
 use Rattle.mtc.proofs.reader.MtcReader.or_fresh.Statement.{statement}
 use Rattle.mtc.proofs.reader.MtcReader.or_fresh.Tie as tie
 

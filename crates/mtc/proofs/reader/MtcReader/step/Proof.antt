@@ -1,6 +1,6 @@
 -- `mtc::reader::MtcReader::step` meets its contract. Assumes nothing.
 use borrow.Author.Needs.{needs}
-use Rattle.mtc.proofs.Readers.{fit-set, sound-count, sound-nibbles, piece-small, value-small, passes, completes, keeps}
+use Rattle.mtc.proofs.ReaderCalls.{fit-set, sound-count, sound-nibbles, piece-small, value-small, passes, completes, keeps}
 use Rattle.mtc.proofs.reader.MtcReader.step.Statement.{statement}
 use Rattle.mtc.proofs.reader.MtcReader.step.Tie as tie
 

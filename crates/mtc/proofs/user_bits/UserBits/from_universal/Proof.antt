@@ -2,7 +2,7 @@
 use mathlib.Core.Path.{sym, _∙_}
 use borrow.Author.Needs.{needs}
 use borrow.Author.Tests.{not-true, not-false}
-use Rattle.mtc.proofs.Reading.{bits-other, bits-short, bits-whole}
+use Rattle.mtc.proofs.Messages.MessageReading.{bits-other, bits-short, bits-whole}
 use Rattle.mtc.proofs.user_bits.UserBits.from_universal.Statement.{statement}
 use Rattle.mtc.proofs.user_bits.UserBits.from_universal.Tie as tie
 

@@ -3,7 +3,7 @@
 use mathlib.Core.Path.{sym, _∙_}
 use borrow.Author.Needs.{needs}
 use borrow.Author.Tests.{not-true, not-false}
-use Rattle.mtc.proofs.Writing.{bits-device, bits-groups, bits-flags, bits-written}
+use Rattle.mtc.proofs.Messages.MessageWriting.{bits-device, bits-groups, bits-flags, bits-written}
 use Rattle.mtc.proofs.user_bits.UserBits.write.Statement.{statement}
 use Rattle.mtc.proofs.user_bits.UserBits.write.Tie as tie
 
