@@ -14,7 +14,7 @@ use Rattle.fast_mmc.specs.declared.numbers.WrittenNumbers.{WrittenNumber
 use Rattle.mmc.specs.Item.{commandItem}
 use Rattle.fast_mmc.specs.Numbers.{neededOf, writtenNumbers}
 use Rattle.fast_mmc.specs.Word.{plainCommand, byteAt, wordItem}
-use Rattle.fast_mmc.specs.Contracts.{going, PutWhole, nothing, whole, PutOne, still, one}
+use Rattle.fast_mmc.specs.Contracts.{openWriting, PutWhole, went-nothing, went-whole, PutOne, stayed, went-out}
 use Rattle.fast_mmc.specs.Refusal.{flatStop}
 use Rattle.fast_mmc.specs.Write.{checkedAt, writerOf, writingAt, flatWriter}
 use Rattle.fast_mmc.specs.Words.{afterWords, closedOut, wordsState, wordsAnswer, wordsLeft}
@@ -47,7 +47,7 @@ module _ (word at : ℕ) (out left : List ℕ) where
   put-known : (bs : List ℕ) → wordItem word ≡ sent bs → left ≡ overlay out at bs
       → PutWhole word at out (at + length bs) left
   put-known bs e p =
-      whole (ap (λ (x : Emission). x .stop) e) (ap (λ (x : Emission). at + length (x .bytes)) (sym e))
+      went-whole (ap (λ (x : Emission). x .stop) e) (ap (λ (x : Emission). at + length (x .bytes)) (sym e))
       (p ∙ ap (λ (x : Emission). overlay out at (x .bytes)) (sym e))
 
   pub put-name : (k : ℕ) → word < 9 → commandItem [] (plainCommand word) ≡ sent (k ∷ []) → left ≡ overlay out at (k ∷ [])
@@ -81,8 +81,8 @@ no-bytes-put (b ∷ bs) out at e = absurd (omega arith)
 
 -- Where the position stays the buffer is as found.
 pub put-nothing : (word at next : ℕ) (out left : List ℕ) → PutWhole word at out next left → next ≡ at → out ≡ left
-put-nothing word at next out left nothing e = refl
-put-nothing word at next out left (whole s l p) e = sym (p ∙ no-bytes-put _ out at (sym e ∙ l))
+put-nothing word at next out left went-nothing e = refl
+put-nothing word at next out left (went-whole s l p) e = sym (p ∙ no-bytes-put _ out at (sym e ∙ l))
 
 -- ---- the list
 
@@ -139,32 +139,32 @@ module _ (w₀ : Writing) (out₀ : List ℕ) (from : ℕ) (ws : List ℕ) where
 
 module _ (at i : ℕ) (few : i < 256) (near : at ≤ 40000) where
   -- Nothing has refused it.
-  pub going-sound : orFailed (going at i) .stop ≡ none
-  going-sound = sym (as-it-is (going at i) (omega arith) near)
+  pub going-sound : orFailed (openWriting at i) .stop ≡ none
+  going-sound = sym (as-it-is (openWriting at i) (omega arith) near)
 
-  going-takes : (e : Emission) → admitted (going at i) e ≡ e
-  going-takes e = takes (going at i) e (sym (ready-kept (going at i) few near))
+  going-takes : (e : Emission) → admitted (openWriting at i) e ≡ e
+  going-takes e = takes (openWriting at i) e (sym (ready-kept (openWriting at i) few near))
 
-  going-on : (e : Emission) → e .stop ≡ none → going (at + length (e .bytes)) (i + 1) ≡ writingAfter (going at i) e
+  going-on : (e : Emission) → e .stop ≡ none → openWriting (at + length (e .bytes)) (i + 1) ≡ writingAfter (openWriting at i) e
   going-on e n =
       sym
-      (given-moves (going at i) e
-      ∙ ap (λ (x : Emission). writingPast (going at i) (extentOf x)) (going-takes e)
+      (given-moves (openWriting at i) e
+      ∙ ap (λ (x : Emission). writingPast (openWriting at i) (extentOf x)) (going-takes e)
       ∙ ap (λ (s : Option Refusal). record { at = at + length (e .bytes); items = itemsAfter s i; stop = s }) n)
 
   -- A word that went out whole moves the position.
-  pub gone-whole : (w₀ : Writing) (out₀ : List ℕ) (from : ℕ) (ws out left : List ℕ) (next : ℕ) → Gone w₀ out₀ from ws (going at i) out i
-      → i < length ws → PutWhole (getD ws i 0) at out next left → (next ≡ at → ⊥) → Gone w₀ out₀ from ws (going next (i + 1)) left (i + 1)
-  gone-whole w₀ out₀ from ws out left next g h nothing n = absurd (n refl)
-  gone-whole w₀ out₀ from ws out left next g h (whole s l p) n =
-      gone-word w₀ out₀ from ws (going at i) out i g (going next (i + 1)) left h
-      (ap (λ (k : ℕ). going k (i + 1)) l ∙ going-on _ s)
+  pub gone-whole : (w₀ : Writing) (out₀ : List ℕ) (from : ℕ) (ws out left : List ℕ) (next : ℕ) → Gone w₀ out₀ from ws (openWriting at i) out i
+      → i < length ws → PutWhole (getD ws i 0) at out next left → (next ≡ at → ⊥) → Gone w₀ out₀ from ws (openWriting next (i + 1)) left (i + 1)
+  gone-whole w₀ out₀ from ws out left next g h went-nothing n = absurd (n refl)
+  gone-whole w₀ out₀ from ws out left next g h (went-whole s l p) n =
+      gone-word w₀ out₀ from ws (openWriting at i) out i g (openWriting next (i + 1)) left h
+      (ap (λ (k : ℕ). openWriting k (i + 1)) l ∙ going-on _ s)
       (p ∙ ap (λ (x : Emission). overlay out at (x .bytes)) (sym (going-takes _)))
 
 -- ---- with the writer as one number
 
 -- A number below 2^40 is that of a writing that nothing has refused, with fewer than 256 items.
-writing-going : (v : ℕ) → v / 1099511627776 ≡ 0 → writingAt v ≡ going (v % 4294967296) (v / 4294967296)
+writing-going : (v : ℕ) → v / 1099511627776 ≡ 0 → writingAt v ≡ openWriting (v % 4294967296) (v / 4294967296)
 unfolding writerOf checkedAt
 writing-going v z =
     let r : v / 281474976710656 % 256 ≡ 0 = omega (arith, z) in
@@ -175,14 +175,14 @@ writing-going v z =
 pub put-one : (word v at next after : ℕ) (out left : List ℕ) → v / 1099511627776 ≡ 0 → at ≡ v % 4294967296 → at ≤ 40000 → next ≤ at + 8
     → (next ≡ at → ⊥) → after ≡ v - at + next + 4294967296 → PutWhole word at out next left → PutOne word v out after left
 unfolding flatWriter flatStop
-put-one word v at next after out left z p h k n q nothing = absurd (n refl)
-put-one word v at next after out left z p h k n q (whole s l e) =
-    let w : writingAt v ≡ going at (v / 4294967296) =
-    writing-going v z ∙ ap (λ (x : ℕ). going x (v / 4294967296)) (sym p) in
+put-one word v at next after out left z p h k n q went-nothing = absurd (n refl)
+put-one word v at next after out left z p h k n q (went-whole s l e) =
+    let w : writingAt v ≡ openWriting at (v / 4294967296) =
+    writing-going v z ∙ ap (λ (x : ℕ). openWriting x (v / 4294967296)) (sym p) in
     let few : v / 4294967296 < 256 = omega (arith, z) in
-    let g : going next (v / 4294967296 + 1) ≡ writingAfter (going at (v / 4294967296)) (wordItem word) =
-    ap (λ (x : ℕ). going x (v / 4294967296 + 1)) l ∙ going-on at (v / 4294967296) few h (wordItem word) s in
-    one {after = after} {left = left} (more (at + length (wordItem word .bytes)) l)
+    let g : openWriting next (v / 4294967296 + 1) ≡ writingAfter (openWriting at (v / 4294967296)) (wordItem word) =
+    ap (λ (x : ℕ). openWriting x (v / 4294967296 + 1)) l ∙ going-on at (v / 4294967296) few h (wordItem word) s in
+    went-out {after = after} {left = left} (more (at + length (wordItem word .bytes)) l)
     (number v at next after z p h k q ∙ ap flatWriter (g ∙ ap (λ (x : Writing). writingAfter x (wordItem word)) (sym w)))
     (e
     ∙ ap (λ (x : Emission). overlay out at (x .bytes)) (sym (going-takes at (v / 4294967296) few h (wordItem word)))
@@ -192,7 +192,7 @@ put-one word v at next after out left z p h k n q (whole s l e) =
     more m l = omega (arith, p, q, n, k, l)
 
     number : (v at next after : ℕ) → v / 1099511627776 ≡ 0 → at ≡ v % 4294967296 → at ≤ 40000 → next ≤ at + 8
-        → after ≡ v - at + next + 4294967296 → after ≡ flatWriter (going next (v / 4294967296 + 1))
+        → after ≡ v - at + next + 4294967296 → after ≡ flatWriter (openWriting next (v / 4294967296 + 1))
     number v at next after z p h k q =
         let n : next % 4294967296 ≡ next = omega (arith, h, k) in
         let i : (v / 4294967296 + 1) % 65536 ≡ v / 4294967296 + 1 = omega (arith, z) in
@@ -200,12 +200,12 @@ put-one word v at next after out left z p h k n q (whole s l e) =
 
 -- A word after which the number is the same was left, and the buffer is as found.
 pub one-still : (word v after : ℕ) (out left : List ℕ) → PutOne word v out after left → after ≡ v → out ≡ left
-one-still word v after out left still e = refl
-one-still word v after out left (one l p q) e = absurd (omega (arith, l, e))
+one-still word v after out left stayed e = refl
+one-still word v after out left (went-out l p q) e = absurd (omega (arith, l, e))
 
 -- A word that was left leaves the buffer as found.
 pub left-still : (word v : ℕ) (out left : List ℕ) → out ≡ left → PutOne word v out v left
-left-still word v out left e = subst (PutOne word v out v) e still
+left-still word v out left e = subst (PutOne word v out v) e stayed
 
 -- By the writer it is put from where nothing was.
 pub one-by-writer : (word v after : ℕ) (w : Writer) (out found left : List ℕ) (x : Writing) → out ≡ found → after ≡ flatWriter x
@@ -223,8 +223,8 @@ one-by-writer word v after w out found left x o p q r l = (
 pub one-put : (word v after : ℕ) (out left : List ℕ) → PutOne word v out after left → (after ≡ v → ⊥)
     → (after ≡ flatWriter (writingAfter (writingAt v) (wordItem word)))
     × (left ≡ overlay out (writingAt v .at) (admitted (writingAt v) (wordItem word) .bytes))
-one-put word v after out left still n = absurd (n refl)
-one-put word v after out left (one l p q) n = (p, q)
+one-put word v after out left stayed n = absurd (n refl)
+one-put word v after out left (went-out l p q) n = (p, q)
 
 -- A word of which nothing went out leaves it where it was.
 pub gone-still : (w₀ : Writing) (out₀ : List ℕ) (from : ℕ) (ws : List ℕ) (w : Writing) (out left : List ℕ) (i word next : ℕ)
@@ -235,44 +235,44 @@ gone-still w₀ out₀ from ws w out left i word next g p e =
 -- ---- the close, by the position
 
 -- How many items were put decides nothing.
-pub any-items : (at i : ℕ) → i < 256 → at ≤ 40000 → closedMessage (going at 0) ≡ closedMessage (going at i)
+pub any-items : (at i : ℕ) → i < 256 → at ≤ 40000 → closedMessage (openWriting at 0) ≡ closedMessage (openWriting at i)
 any-items at i few near =
-    closed-after (going at 0)
+    closed-after (openWriting at 0)
     ∙ ap (λ (s : Option Refusal). resume [] s (check (within 5 53 at) 2 then sent (247 ∷ [])))
     (going-sound at 0 (omega arith) near ∙ sym (going-sound at i few near))
-    ∙ sym (closed-after (going at i))
+    ∙ sym (closed-after (openWriting at i))
 
 -- A close as that of a writing without items.
 pub ends-any : (at i : ℕ) (out : List ℕ) (a : WrittenNumbers) (left : List ℕ) → i < 256 → at ≤ 40000
-    → ClosesWith (record { writing = going at 0; out = out }) (length out) a left
-    → ClosesWith (record { writing = going at i; out = out }) (length out) a left
+    → ClosesWith (record { writing = openWriting at 0; out = out }) (length out) a left
+    → ClosesWith (record { writing = openWriting at i; out = out }) (length out) a left
 ends-any at i out a left few near p =
-    let same : wholeMessage (going at 0) (length out) ≡ wholeMessage (going at i) (length out) =
-    whole-ended (going at 0) (length out)
+    let same : wholeMessage (openWriting at 0) (length out) ≡ wholeMessage (openWriting at i) (length out) =
+    whole-ended (openWriting at 0) (length out)
     ∙ ap (λ (e : Emission). closeAnswer (e .stop) (at + 1) (length out)) (any-items at i few near)
-    ∙ sym (whole-ended (going at i) (length out)) in
+    ∙ sym (whole-ended (openWriting at i) (length out)) in
     (p .0 ∙ ap writtenNumbers same, p .1 ∙ ap (λ (e : Emission). overlay out at (e .bytes)) (any-items at i few near))
 
 module _ (at : ℕ) (near : at ≤ 40000) (out : List ℕ) where
-  ends-as : (e : Emission) (a : Answer ℕ) (left : List ℕ) → closedMessage (going at 0) ≡ e → a ≡ closeAnswer (e .stop) (at + 1) (length out)
-      → left ≡ overlay out at (e .bytes) → ClosesWith (record { writing = going at 0; out = out }) (length out) (writtenNumbers a) left
+  ends-as : (e : Emission) (a : Answer ℕ) (left : List ℕ) → closedMessage (openWriting at 0) ≡ e → a ≡ closeAnswer (e .stop) (at + 1) (length out)
+      → left ≡ overlay out at (e .bytes) → ClosesWith (record { writing = openWriting at 0; out = out }) (length out) (writtenNumbers a) left
   ends-as e a left q p l = (
     ap writtenNumbers
-        (p ∙ sym (whole-ended (going at 0) (length out) ∙ ap (λ (x : Emission). closeAnswer (x .stop) (at + 1) (length out)) q)),
+        (p ∙ sym (whole-ended (openWriting at 0) (length out) ∙ ap (λ (x : Emission). closeAnswer (x .stop) (at + 1) (length out)) q)),
     l ∙ ap (λ (x : Emission). overlay out at (x .bytes)) (sym q),
   )
 
   -- 2 outside 5 to 52.
-  pub ends-short : at < 5 → ClosesWith (record { writing = going at 0; out = out }) (length out) (record { refusal = 2; length = 0 }) out
+  pub ends-short : at < 5 → ClosesWith (record { writing = openWriting at 0; out = out }) (length out) (record { refusal = 2; length = 0 }) out
   unfolding writtenNumbers neededOf
   ends-short h =
-      ends-as (refusing 2) (refused (refusal 2)) out (close-empty (going at 0) (going-sound at 0 (omega arith) near) h) refl
+      ends-as (refusing 2) (refused (refusal 2)) out (close-empty (openWriting at 0) (going-sound at 0 (omega arith) near) h) refl
       (sym (overlay-none out at))
 
-  pub ends-long : 5 ≤ at → 52 < at → ClosesWith (record { writing = going at 0; out = out }) (length out) (record { refusal = 2; length = 0 }) out
+  pub ends-long : 5 ≤ at → 52 < at → ClosesWith (record { writing = openWriting at 0; out = out }) (length out) (record { refusal = 2; length = 0 }) out
   unfolding writtenNumbers neededOf
   ends-long l h =
-      ends-as (refusing 2) (refused (refusal 2)) out (close-long (going at 0) (going-sound at 0 (omega arith) near) l h) refl
+      ends-as (refusing 2) (refused (refusal 2)) out (close-long (openWriting at 0) (going-sound at 0 (omega arith) near) l h) refl
       (sym (overlay-none out at))
 
   same-room : (left : List ℕ) → left ≡ overlay out at (247 ∷ []) → length left ≡ length out
@@ -280,17 +280,17 @@ module _ (at : ℕ) (near : at ≤ 40000) (out : List ℕ) where
 
   -- Else F7H, and the length where it fits.
   pub ends-fit : (left : List ℕ) → 5 ≤ at → at ≤ 52 → at < length left → left ≡ overlay out at (247 ∷ [])
-      → ClosesWith (record { writing = going at 0; out = out }) (length out) (record { refusal = 0; length = at + 1 }) left
+      → ClosesWith (record { writing = openWriting at 0; out = out }) (length out) (record { refusal = 0; length = at + 1 }) left
   unfolding writtenNumbers
   ends-fit left l h room p =
-      ends-as (sent (247 ∷ [])) (gives (at + 1)) left (close-sent (going at 0) (going-sound at 0 (omega arith) near) l (omega arith))
+      ends-as (sent (247 ∷ [])) (gives (at + 1)) left (close-sent (openWriting at 0) (going-sound at 0 (omega arith) near) l (omega arith))
       (rw (le-leb (at + 1) (length out) (omega (arith, same-room left p)))) p
 
   pub ends-full : (left : List ℕ) → 5 ≤ at → at ≤ 52 → length left ≤ at → left ≡ overlay out at (247 ∷ [])
-      → ClosesWith (record { writing = going at 0; out = out }) (length out) (record { refusal = 4; length = at + 1 }) left
+      → ClosesWith (record { writing = openWriting at 0; out = out }) (length out) (record { refusal = 4; length = at + 1 }) left
   unfolding writtenNumbers neededOf
   ends-full left l h room p =
-      ends-as (sent (247 ∷ [])) (refused (tooSmall (at + 1))) left (close-sent (going at 0) (going-sound at 0 (omega arith) near) l (omega arith))
+      ends-as (sent (247 ∷ [])) (refused (tooSmall (at + 1))) left (close-sent (openWriting at 0) (going-sound at 0 (omega arith) near) l (omega arith))
       (rw (lt-leb (at + 1) (length out) (omega (arith, same-room left p)))) p
 
 -- ---- the whole message
@@ -351,9 +351,9 @@ refused-words device out ws h =
 
 -- For one up to 127 four bytes go out first.
 pub opened-words : (device : ℕ) (out₀ ws out : List ℕ) (a : WrittenNumbers) (left : List ℕ) → device ≤ 127
-    → out ≡ overlay out₀ 0 (240 ∷ 127 ∷ device ∷ 6 ∷ []) → ClosesWith (afterWords (going 4 0) out ws) (length out) a left
+    → out ≡ overlay out₀ 0 (240 ∷ 127 ∷ device ∷ 6 ∷ []) → ClosesWith (afterWords (openWriting 4 0) out ws) (length out) a left
     → WordsWhole device ws out₀ a left
 opened-words device out₀ ws out a left h q =
     let e : openedCommands device ≡ sent (240 ∷ 127 ∷ device ∷ 6 ∷ []) = commands-opened device h in
-    message-words device out₀ ws (going 4 0) out a left (sym (ap begun e ∙ begun-after (sent (240 ∷ 127 ∷ device ∷ 6 ∷ []))))
+    message-words device out₀ ws (openWriting 4 0) out a left (sym (ap begun e ∙ begun-after (sent (240 ∷ 127 ∷ device ∷ 6 ∷ []))))
     (q ∙ ap (λ (x : Emission). overlay out₀ 0 (x .bytes)) (sym e))

@@ -28,7 +28,7 @@ use Rattle.codes.specs.TimeCode.{bit, flag, readStatus, readFinal, finalValue, 
 use Rattle.labels.specs.Time.{bitsOf, rateAt, typeOf}
 use Rattle.fast_mmc.specs.Code.{isStatus}
 use Rattle.fast_mmc.specs.Word.{fourMarks, targetBytes, targetWord, commandWord, answerWord, nextWord}
-use Rattle.fast_mmc.specs.Contracts.{AloneWord, ShortWord, more, alone}
+use Rattle.fast_mmc.specs.Contracts.{AloneWord, ShortWord, longer, alone-word}
 use Rattle.universal.specs.Refusals.{gives, refused, refusalOf}
 use Rattle.universal.specs.declared.error.SysexError.{SysexError}
 use Rattle.codes.proofs.Laws.{standard-parts}
@@ -154,31 +154,31 @@ alone-other name a₁ a₂ a₃ a₄ a₅ a₆ a₇ p r f d n a l z =
 -- A name with its word, as the contract says it.
 pub short-known : (r name : ℕ) → name ≡ r + 1 → r < 7 → ShortWord name r
 short-known r name e h =
-    alone {word = r} (omega arith) (λ (z : name ≡ 0). omega (arith, e, z)) (below-range 64 120 name (omega (arith, e, h)))
+    alone-word {word = r} (omega arith) (λ (z : name ≡ 0). omega (arith, e, z)) (below-range 64 120 name (omega (arith, e, h)))
     (alone-first name r (sym e) (omega (arith, e, h)))
 
 pub short-pause : (name : ℕ) → name ≡ 9 → ShortWord name 7
 short-pause name e =
-    alone {word = 7} (lit≤ tt) (λ (z : name ≡ 0). omega (arith, e, z)) (below-range 64 120 name (omega (arith, e))) (alone-pause name e)
+    alone-word {word = 7} (lit≤ tt) (λ (z : name ≡ 0). omega (arith, e, z)) (below-range 64 120 name (omega (arith, e))) (alone-pause name e)
 
 pub short-reset : (name : ℕ) → name ≡ 13 → ShortWord name 8
 short-reset name e =
-    alone {word = 8} (lit≤ tt) (λ (z : name ≡ 0). omega (arith, e, z)) (below-range 64 120 name (omega (arith, e))) (alone-reset name e)
+    alone-word {word = 8} (lit≤ tt) (λ (z : name ≡ 0). omega (arith, e, z)) (below-range 64 120 name (omega (arith, e))) (alone-reset name e)
 
 pub short-other : (name : ℕ) → (name ≡ 0 → ⊥) → (name ≡ 1 → ⊥) → (name ≡ 2 → ⊥) → (name ≡ 3 → ⊥) → (name ≡ 4 → ⊥) → (name ≡ 5 → ⊥)
     → (name ≡ 6 → ⊥) → (name ≡ 7 → ⊥) → (name ≡ 9 → ⊥) → (name ≡ 13 → ⊥) → within 64 120 name ≡ false → ShortWord name 269
 short-other name z a b c d e g h p r f =
-    alone {word = 269} (lit≤ tt) z f
+    alone-word {word = 269} (lit≤ tt) z f
     (alone-other name a b c d e g h p r f)
 
 -- Below 270 it is the whole word, and any other name but 00H has a count.
 pub short-alone : (name r : ℕ) → ShortWord name r → r < 270 → (name ≡ 0 → ⊥) × ((within 64 120 name ≡ false) × AloneWord name r)
-short-alone name r (more h) l = absurd (lt-irrefl 270 l)
-short-alone name r (alone h z f a) l = (z, (f, a))
+short-alone name r (longer h) l = absurd (lt-irrefl 270 l)
+short-alone name r (alone-word h z f a) l = (z, (f, a))
 
 pub short-counted : (name r : ℕ) → ShortWord name r → 270 ≤ r → (name ≡ 0 → ⊥) → within 64 120 name ≡ true
-short-counted name r (more h) l z = ⊎-elim (λ e. absurd (z e)) (λ t. t) h
-short-counted name r (alone h n f a) l z = absurd (omega (arith, h, l))
+short-counted name r (longer h) l z = ⊎-elim (λ e. absurd (z e)) (λ t. t) h
+short-counted name r (alone-word h n f a) l z = absurd (omega (arith, h, l))
 
 pub counted-bounds : (name : ℕ) → within 64 120 name ≡ true → (64 ≤ name) × (name < 120)
 counted-bounds name h = let p = and-parts (leb 64 name) (ltb name 120) h in (leb-true _ _ (p .0), ltb-true _ _ (p .1))

@@ -12,9 +12,9 @@ use Rattle.mmc.specs.declared.command.MmcCommand.{MmcCommand}
 use Rattle.mmc.specs.declared.part.Part.{Part}
 use Rattle.mmc.specs.Command.{commandByName, commandOfCase}
 use Rattle.mmc.specs.Length.{within}
-use Rattle.mmc.specs.Write.{Writing, writingAfter, admitted}
+use Rattle.mmc.specs.Write.{Writing, outAfter}
 use Rattle.fast_mmc.specs.Word.{byteAt, commandWord, wordItem}
-use Rattle.fast_mmc.specs.Write.{writingAt, flatWriter}
+use Rattle.fast_mmc.specs.Write.{writingAt, writerAfter}
 use Rattle.universal.specs.Overlay.{overlay}
 
 -- ---- reading
@@ -26,8 +26,8 @@ AloneWord name word =
 
 -- The word of a name, or 270 where it has prefixes or a count.
 pub data ShortWord (name : ℕ) : ℕ → Type 0 where
-  more : (name ≡ 0) ⊎ (within 64 120 name ≡ true) → ShortWord name 270
-  alone : {word : ℕ} → word < 270 → (name ≡ 0 → ⊥) → within 64 120 name ≡ false → AloneWord name word → ShortWord name word
+  longer : (name ≡ 0) ⊎ (within 64 120 name ≡ true) → ShortWord name 270
+  alone-word : {word : ℕ} → word < 270 → (name ≡ 0 → ⊥) → within 64 120 name ≡ false → AloneWord name word → ShortWord name word
 
 -- ---- the command of a word
 
@@ -39,13 +39,13 @@ maybeOf (Command c) = some c
 -- ---- a message of words
 
 -- A writing that nothing has refused.
-abbrev pub going : ℕ → ℕ → Writing
-going at items = record { at = at; items = items; stop = none }
+abbrev pub openWriting : ℕ → ℕ → Writing
+openWriting at items = record { at = at; items = items; stop = none }
 
 -- A word whose command went out whole, from a position to the next, or of which nothing did, where the position stays.
 pub data PutWhole (word at : ℕ) (out : List ℕ) : ℕ → List ℕ → Type 0 where
-  nothing : PutWhole word at out at out
-  whole : {next : ℕ} {left : List ℕ} → wordItem word .stop ≡ none
+  went-nothing : PutWhole word at out at out
+  went-whole : {next : ℕ} {left : List ℕ} → wordItem word .stop ≡ none
       → next ≡ at + length (wordItem word .bytes)
       → left ≡ overlay out at (wordItem word .bytes) → PutWhole word at out next left
 
@@ -75,7 +75,7 @@ pub record RateHas (m s f rate : ℕ) : Type 0 where
 
 -- A word that was put whole, from a writer's number to one above it, or of which nothing was put, where the number stays.
 pub data PutOne (word writer : ℕ) (out : List ℕ) : ℕ → List ℕ → Type 0 where
-  still : PutOne word writer out writer out
-  one : {after : ℕ} {left : List ℕ} → writer < after → after ≡ flatWriter (writingAfter (writingAt writer) (wordItem word))
-      → left ≡ overlay out (writingAt writer .at) (admitted (writingAt writer) (wordItem word) .bytes)
+  stayed : PutOne word writer out writer out
+  went-out : {after : ℕ} {left : List ℕ} → writer < after → after ≡ writerAfter writer (wordItem word)
+      → left ≡ outAfter (writingAt writer) out (wordItem word)
       → PutOne word writer out after left

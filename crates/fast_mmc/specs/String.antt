@@ -40,8 +40,8 @@ flatValues kind first second =
     record { kind = kind; first = first; second = second; code = noCode; name = noPart; «data» = noPart }
 
 -- A command that is a name alone.
-abbrev pub alone : MmcCommand → FlatCommand
-alone c = flatValues (commandWord c) 0 0
+abbrev pub flatAlone : MmcCommand → FlatCommand
+flatAlone c = flatValues (commandWord c) 0 0
 
 -- The command of a number; one above 13 is taken as 13.
 abbrev pub commandAt : ℕ → FlatCommand → MmcCommand
@@ -56,15 +56,15 @@ unfoldable pub commandOf : FlatCommand → MmcCommand
 commandOf c = commandAt (c .kind) c
 
 unfoldable pub flatCommand : MmcCommand → FlatCommand
-flatCommand Stop = alone Stop
-flatCommand Play = alone Play
-flatCommand DeferredPlay = alone DeferredPlay
-flatCommand FastForward = alone FastForward
-flatCommand Rewind = alone Rewind
-flatCommand RecordStrobe = alone RecordStrobe
-flatCommand RecordExit = alone RecordExit
-flatCommand Pause = alone Pause
-flatCommand Reset = alone Reset
+flatCommand Stop = flatAlone Stop
+flatCommand Play = flatAlone Play
+flatCommand DeferredPlay = flatAlone DeferredPlay
+flatCommand FastForward = flatAlone FastForward
+flatCommand Rewind = flatAlone Rewind
+flatCommand RecordStrobe = flatAlone RecordStrobe
+flatCommand RecordExit = flatAlone RecordExit
+flatCommand Pause = flatAlone Pause
+flatCommand Reset = flatAlone Reset
 flatCommand (Write d) = flatNamed 9 noCode noPart (flatPart d)
 flatCommand (LocateField r) = flatValues 10 r 0
 flatCommand (LocateTarget c) = flatNamed 11 (flatCode c) noPart noPart

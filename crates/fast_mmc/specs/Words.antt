@@ -7,7 +7,7 @@ use Rattle.mmc.specs.declared.command.MmcCommand.{MmcCommand}
 use Rattle.mmc.specs.declared.length.Kind.the-variants.{Commands}
 use Rattle.mmc.specs.Strings as S
 use Rattle.fast_mmc.specs.Word.{wordItem, OneWord}
-use Rattle.mmc.specs.Write.{Writing, openedCommands, begun, admitted, writingAfter, closedMessage, wholeMessage}
+use Rattle.mmc.specs.Write.{Writing, openedCommands, begun, outAfter, writingAfter, closedMessage, wholeMessage}
 use Rattle.mmc.specs.Writings.{State}
 use Rattle.universal.specs.Overlay.{overlay}
 use Rattle.universal.specs.Refusals.{Answer}
@@ -16,7 +16,7 @@ use Rattle.universal.specs.Refusals.{Answer}
 unfoldable pub afterWords : Writing → List ℕ → List ℕ → State
 afterWords w out [] = record { writing = w; out = out }
 afterWords w out (x ∷ ws) =
-    afterWords (writingAfter w (wordItem x)) (overlay out (w .at) (admitted w (wordItem x) .bytes)) ws
+    afterWords (writingAfter w (wordItem x)) (outAfter w out (wordItem x)) ws
 
 -- The buffer that a close leaves.
 abbrev pub closedOut : State → List ℕ

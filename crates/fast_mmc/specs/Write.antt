@@ -1,11 +1,17 @@
--- Writers as numbers, and back. Assumes nothing.
+-- Writers as numbers, and back; and the items of the calls that take no record. Assumes nothing.
 use Prim.Native.Nat.{ℕ, _+_, _*_, _/_, _%_}
 use mathlib.Core.Bool.{cond}
+use mathlib.Core.List.{List}
 use lib.Dec.{eqb}
+use lib.ListN.{length}
 use Rattle.fast_mmc.specs.Refusal.{errorOf, flatStop}
-use Rattle.mmc.specs.Write.{Writing, writingOf}
+use Rattle.mmc.specs.Item.{commandItem}
+use Rattle.mmc.specs.Part.{part}
+use Rattle.mmc.specs.Write.{Writing, writingOf, writingAfter}
+use Rattle.universal.specs.Emission.{Emission}
 use Rattle.codes.specs.declared.time_code.Checked.{Checked}
 use Rattle.codes.specs.declared.time_code.Checked.the-variants.{Accepted, Refused}
+use Rattle.mmc.specs.declared.command.MmcCommand.the-variants.{Write, Other}
 use Rattle.mmc.specs.declared.write.Writer.{Writer}
 
 unfoldable pub checkedAt : ℕ → ℕ → Checked
@@ -22,3 +28,15 @@ writingAt w = writingOf (writerOf w)
 
 unfoldable pub flatWriter : Writing → ℕ
 flatWriter w = w .at % 4294967296 + w .items % 65536 * 4294967296 + flatStop (w .stop) * 281474976710656
+
+-- The number of the writer after an item.
+abbrev pub writerAfter : ℕ → Emission → ℕ
+writerAfter w e = flatWriter (writingAfter (writingAt w) e)
+
+-- A Write of these data.
+abbrev pub wholeWrite : List ℕ → Emission
+wholeWrite d = commandItem d (Write (part 0 (length d)))
+
+-- Another command, whose name and then its data stand at the front of a source.
+abbrev pub frontOther : List ℕ → ℕ → ℕ → Emission
+frontOther source name d = commandItem source (Other (part 0 name) (part name d))

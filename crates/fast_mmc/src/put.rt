@@ -7,15 +7,10 @@ use crate::write::writer_of;
 use mmc::MmcCommand;
 use mmc::Part;
 ghost use mathlib.Core.Path.{_≡_};
-ghost use lib.ListN.{length};
-ghost use Rattle.universal.specs.Overlay.{overlay};
-ghost use Rattle.mmc.specs.declared.command.MmcCommand.the-variants.{Write, Other};
-ghost use Rattle.mmc.specs.Item.{commandItem};
-ghost use Rattle.mmc.specs.Part.{part};
-ghost use Rattle.mmc.specs.Write.{writingAfter, admitted};
+ghost use Rattle.mmc.specs.Write.{outAfter};
 ghost use Rattle.fast_mmc.specs.Contracts.{PutOne};
 ghost use Rattle.fast_mmc.specs.Word.{wordItem};
-ghost use Rattle.fast_mmc.specs.Write.{writingAt, flatWriter};
+ghost use Rattle.fast_mmc.specs.Write.{writingAt, writerAfter, wholeWrite, frontOther};
 
 // The weight of one item in a writer's number.
 const ONE_ITEM: u64 = 0x1_0000_0000;
@@ -45,8 +40,8 @@ fn put_usual(writer: FlatWriter, out: &mut [u8], word: u64) -> FlatWriter
 
 // One word.
 pub fn put_word(writer: FlatWriter, out: &mut [u8], word: u64) -> FlatWriter
-    ensures { λ r. ⌜ r ≡ flatWriter (writingAfter (writingAt writer) (wordItem word)) ⌝ }
-    ensures { λ _. ⌜ now (out .exit) ≡ overlay (now (out .entry)) (writingAt writer .at) (admitted (writingAt writer) (wordItem word) .bytes) ⌝ }
+    ensures { λ r. ⌜ r ≡ writerAfter writer (wordItem word) ⌝ }
+    ensures { λ _. ⌜ now (out .exit) ≡ outAfter (writingAt writer) (now (out .entry)) (wordItem word) ⌝ }
 {
     let after = put_usual(writer, out, word);
     if after != writer {
@@ -57,8 +52,8 @@ pub fn put_word(writer: FlatWriter, out: &mut [u8], word: u64) -> FlatWriter
 
 // A Write of these fields.
 pub fn put_write(writer: FlatWriter, out: &mut [u8], data: &[u8]) -> FlatWriter
-    ensures { λ r. ⌜ r ≡ flatWriter (writingAfter (writingAt writer) (commandItem (now («data» .entry)) (Write (part 0 (length (now («data» .entry))))))) ⌝ }
-    ensures { λ _. ⌜ now (out .exit) ≡ overlay (now (out .entry)) (writingAt writer .at) (admitted (writingAt writer) (commandItem (now («data» .entry)) (Write (part 0 (length (now («data» .entry)))))) .bytes) ⌝ }
+    ensures { λ r. ⌜ r ≡ writerAfter writer (wholeWrite (now («data» .entry))) ⌝ }
+    ensures { λ _. ⌜ now (out .exit) ≡ outAfter (writingAt writer) (now (out .entry)) (wholeWrite (now («data» .entry))) ⌝ }
 {
     let whole = Part {
         start: 0,
@@ -77,8 +72,8 @@ pub fn put_other(
     name: usize,
     data: usize,
 ) -> FlatWriter
-    ensures { λ r. ⌜ r ≡ flatWriter (writingAfter (writingAt writer) (commandItem (now (source .entry)) (Other (part 0 name) (part name «data»)))) ⌝ }
-    ensures { λ _. ⌜ now (out .exit) ≡ overlay (now (out .entry)) (writingAt writer .at) (admitted (writingAt writer) (commandItem (now (source .entry)) (Other (part 0 name) (part name «data»))) .bytes) ⌝ }
+    ensures { λ r. ⌜ r ≡ writerAfter writer (frontOther (now (source .entry)) name «data») ⌝ }
+    ensures { λ _. ⌜ now (out .exit) ≡ outAfter (writingAt writer) (now (out .entry)) (frontOther (now (source .entry)) name «data») ⌝ }
 {
     let name_at = Part {
         start: 0,

@@ -28,11 +28,11 @@ ghost use lib.ListN.{length, drop};
 ghost use Rattle.universal.specs.Emission.{refusing};
 ghost use Rattle.universal.specs.Overlay.{overlay};
 ghost use Rattle.mmc.specs.Item.{commandItem};
-ghost use Rattle.mmc.specs.Write.{writingOf, writingAfter, admitted, closedMessage, wholeMessage};
+ghost use Rattle.mmc.specs.Write.{writingOf, writingAfter, outAfter, closedMessage, wholeMessage};
 ghost use Rattle.fast_mmc.specs.Numbers.{writtenNumbers};
 ghost use Rattle.fast_mmc.specs.Word.{byteAt, wordItem};
 ghost use Rattle.fast_mmc.specs.Words.{afterWords, closedOut, wordsAnswer, wordsLeft};
-ghost use Rattle.fast_mmc.specs.Contracts.{going, PutWhole, LowBytes, WordInRange, RateHas};
+ghost use Rattle.fast_mmc.specs.Contracts.{openWriting, PutWhole, LowBytes, WordInRange, RateHas};
 
 // 104, 68, 68, 98 and 28 in their bytes: above 23 hours, 59 minutes, 59 seconds, 29 frames and 99 subframes they make 128 or more.
 const ABOVE_RANGE: u64 = 0x1C62_4444_6800;
@@ -73,7 +73,7 @@ fn given_command(word: u64) -> MmcCommand
 // What a word says, by the writer.
 pub(crate) fn give_word(out: &mut [u8], writer: Writer, word: u64) -> Writer
     ensures { λ r. ⌜ writingOf r ≡ writingAfter (writingOf writer) (wordItem word) ⌝ }
-    ensures { λ _. ⌜ now (out .exit) ≡ overlay (now (out .entry)) (writer .at) (admitted (writingOf writer) (wordItem word) .bytes) ⌝ }
+    ensures { λ _. ⌜ now (out .exit) ≡ outAfter (writingOf writer) (now (out .entry)) (wordItem word) ⌝ }
 {
     let wrote = writer.put_command(out, &[], given_command(word));
     wrote.writer
@@ -81,8 +81,8 @@ pub(crate) fn give_word(out: &mut [u8], writer: Writer, word: u64) -> Writer
 
 // The words from one on, by the writer, from a position on, and the close.
 fn put_rest(out: &mut [u8], words: &[u64], at: usize, from: usize) -> WrittenNumbers
-    ensures { λ r. ⌜ r ≡ writtenNumbers (wholeMessage (afterWords (going at from) (now (out .entry)) (drop from (now (words .entry))) .writing) (length (now (out .entry)))) ⌝ }
-    ensures { λ _. ⌜ now (out .exit) ≡ closedOut (afterWords (going at from) (now (out .entry)) (drop from (now (words .entry)))) ⌝ }
+    ensures { λ r. ⌜ r ≡ writtenNumbers (wholeMessage (afterWords (openWriting at from) (now (out .entry)) (drop from (now (words .entry))) .writing) (length (now (out .entry)))) ⌝ }
+    ensures { λ _. ⌜ now (out .exit) ≡ closedOut (afterWords (openWriting at from) (now (out .entry)) (drop from (now (words .entry)))) ⌝ }
 {
     let mut w = Writer {
         at,
@@ -273,8 +273,8 @@ fn put_whole(out: &mut [u8], at: usize, word: u64) -> usize
 // The words of a message that was opened, and the close.
 fn put_words(out: &mut [u8], words: &[u64]) -> WrittenNumbers
     requires { ⌜ length (now words) ≤ 48 ⌝ }
-    ensures { λ r. ⌜ r ≡ writtenNumbers (wholeMessage (afterWords (going 4 0) (now (out .entry)) (now (words .entry)) .writing) (length (now (out .entry)))) ⌝ }
-    ensures { λ _. ⌜ now (out .exit) ≡ closedOut (afterWords (going 4 0) (now (out .entry)) (now (words .entry))) ⌝ }
+    ensures { λ r. ⌜ r ≡ writtenNumbers (wholeMessage (afterWords (openWriting 4 0) (now (out .entry)) (now (words .entry)) .writing) (length (now (out .entry)))) ⌝ }
+    ensures { λ _. ⌜ now (out .exit) ≡ closedOut (afterWords (openWriting 4 0) (now (out .entry)) (now (words .entry))) ⌝ }
 {
     let mut at = 4;
     let mut i = 0;
@@ -292,8 +292,8 @@ fn put_words(out: &mut [u8], words: &[u64]) -> WrittenNumbers
 // The close at a position: 2 for a body outside 1 to 48 bytes, else F7H, and 4 where it does not fit.
 fn close_at(out: &mut [u8], at: usize) -> WrittenNumbers
     requires { ⌜ at ≤ 40000 ⌝ }
-    ensures { λ r. ⌜ r ≡ writtenNumbers (wholeMessage (going at 0) (length (now (out .entry)))) ⌝ }
-    ensures { λ _. ⌜ now (out .exit) ≡ overlay (now (out .entry)) at (closedMessage (going at 0) .bytes) ⌝ }
+    ensures { λ r. ⌜ r ≡ writtenNumbers (wholeMessage (openWriting at 0) (length (now (out .entry)))) ⌝ }
+    ensures { λ _. ⌜ now (out .exit) ≡ overlay (now (out .entry)) at (closedMessage (openWriting at 0) .bytes) ⌝ }
 {
     if at < 5 {
         return WrittenNumbers {

@@ -7,7 +7,7 @@ use native.Mathlib.Omega.{arith}
 use borrow.Author.Tests.{le-leb, lt-leb, eq-eqb, ne-eqb}
 use lib.ListN.{length, getD, set}
 use Rattle.mtc.proofs.Laws.{sends, stopped-refuses}
-use Rattle.mtc.specs.Generator.{first, after, final, move, known, pieceNext, timeNext, sentAt, nextByte, afterNextByte}
+use Rattle.mtc.specs.Generator.{first, after, final, sequenceFrames, known, pieceNext, timeNext, sentAt, nextByte, afterNextByte}
 use Rattle.mtc.specs.QuarterFrame.{pieces}
 use Rattle.labels.specs.Time.{addFrames}
 use Rattle.mtc.specs.declared.generator.Direction.{Direction}
@@ -91,9 +91,9 @@ module _ (bs : List ℕ) (f : FlatByte) (q : MtcGenerator) (d : Direction) (p : 
       (s .0, s .1 ∙ by-sent (generatorIn bs) f q runs (generatorIn bs .time) p)
 
   pub moves-on : getD bs 6 0 ≤ 7 → {l : ℕ} → l ≡ final d → getD bs 6 0 ≡ l → p ≡ after d (getD bs 6 0) → {g : MtcGenerator}
-      → g ≡ movedTo (generatorIn bs) (addFrames (generatorIn bs .time) (move d)) → Sends g → Answered
+      → g ≡ movedTo (generatorIn bs) (addFrames (generatorIn bs .time) (sequenceFrames d)) → Sends g → Answered
   moves-on h el e ep {g} eg s =
-      let t : MtcTime = addFrames (generatorIn bs .time) (move d) in
+      let t : MtcTime = addFrames (generatorIn bs .time) (sequenceFrames d) in
       let s′ : Sends (movedTo (generatorIn bs) t) = subst Sends eg s in
       answers (generatorIn bs) f q runs (Piece (getD bs 6 0)) t p (some-last h)
       (rw (sym way-is, eq-eqb (getD bs 6 0) (final d) (e ∙ el))) (ep ∙ ap (λ (x : Direction). after x (getD bs 6 0)) way-is)

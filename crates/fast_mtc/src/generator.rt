@@ -12,7 +12,7 @@ use mtc::TimeCodeType;
 ghost use mathlib.Core.Path.{_≡_};
 ghost use Prim.Native.Nat.{_≤_};
 ghost use lib.ListN.{length, getD};
-ghost use Rattle.mtc.specs.Generator.{nextByte, afterNextByte, move};
+ghost use Rattle.mtc.specs.Generator.{nextByte, afterNextByte, sequenceFrames};
 ghost use Rattle.labels.specs.Time.{addFrames};
 ghost use Rattle.mtc.specs.QuarterFrame.{pieces};
 ghost use Rattle.universal.specs.Refusals.{gives};
@@ -127,7 +127,7 @@ pub fn next_byte(g: &mut [u8; 8]) -> FlatByte
 
 // The time of the next sequence.
 fn move_on(g: &mut [u8; 8], direction: Direction)
-    ensures { λ _. ⌜ generatorIn (now (g .exit)) ≡ movedTo (generatorIn (now (g .entry))) (addFrames (generatorIn (now (g .entry)) .time) (move direction)) ⌝ }
+    ensures { λ _. ⌜ generatorIn (now (g .exit)) ≡ movedTo (generatorIn (now (g .entry))) (addFrames (generatorIn (now (g .entry)) .time) (sequenceFrames direction)) ⌝ }
 {
     has_eight(*g);
     let time = flat_time(next_time(time_in(g), direction));

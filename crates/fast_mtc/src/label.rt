@@ -9,7 +9,7 @@ ghost use mathlib.Core.Bool.{true};
 ghost use Prim.Native.Nat.{_<_, _≤_, _+_, _*_, _/_, _%_};
 ghost use lib.IntN.{pos, negsuc};
 ghost use Rattle.labels.specs.Time.{bitsOf, frameCount, labelAt, addFrames, modZ, labelAtSecond};
-ghost use Rattle.mtc.specs.Generator.{move};
+ghost use Rattle.mtc.specs.Generator.{sequenceFrames};
 ghost use Rattle.fast_mtc.specs.Label.{labelNumber};
 
 // The frames of a minute that drops two numbers.
@@ -283,7 +283,7 @@ pub fn one_earlier(t: MtcTime) -> MtcTime
 
 // `Direction::next_time`: the time of the sequence after that of `t`.
 pub fn next_time(t: MtcTime, direction: Direction) -> MtcTime
-    ensures { λ r. ⌜ r ≡ addFrames t (move direction) ⌝ }
+    ensures { λ r. ⌜ r ≡ addFrames t (sequenceFrames direction) ⌝ }
 {
     match direction {
         Direction::Forward => two_later(t),

@@ -13,13 +13,11 @@ ghost use lib.ListN.{length};
 ghost use Rattle.universal.specs.Overlay.{overlay};
 ghost use Rattle.fast_mmc.specs.Numbers.{writtenNumbers};
 ghost use Rattle.mmc.specs.Item.{commandItem, fieldItem};
-ghost use Rattle.mmc.specs.declared.command.MmcCommand.the-variants.{Write, Other};
-ghost use Rattle.mmc.specs.Part.{part};
 ghost use Rattle.fast_mmc.specs.Word.{wordItem};
 ghost use Rattle.fast_mmc.specs.Words.{wordsAnswer, wordsLeft};
-ghost use Rattle.mmc.specs.Write.{openedCommands, openedResponses, openedFields, begun, admitted, writingAfter, closedMessage, wholeMessage, wholeFields};
+ghost use Rattle.mmc.specs.Write.{openedCommands, openedResponses, openedFields, begun, outAfter, closedMessage, wholeMessage, wholeFields};
 ghost use Rattle.fast_mmc.specs.String.{commandOf, fieldOf};
-ghost use Rattle.fast_mmc.specs.Write.{writingAt, flatWriter};
+ghost use Rattle.fast_mmc.specs.Write.{writingAt, flatWriter, writerAfter, wholeWrite, frontOther};
 
 // `write_commands` opens: F0H, 7FH, the device, 06H.
 #[no_mangle]
@@ -55,8 +53,8 @@ pub extern "C" fn fimbrast_put_command(
     source: &[u8],
     command: FlatCommand,
 ) -> FlatWriter
-    ensures { λ r. ⌜ r ≡ flatWriter (writingAfter (writingAt writer) (commandItem (now (source .entry)) (commandOf command))) ⌝ }
-    ensures { λ _. ⌜ now (out .exit) ≡ overlay (now (out .entry)) (writingAt writer .at) (admitted (writingAt writer) (commandItem (now (source .entry)) (commandOf command)) .bytes) ⌝ }
+    ensures { λ r. ⌜ r ≡ writerAfter writer (commandItem (now (source .entry)) (commandOf command)) ⌝ }
+    ensures { λ _. ⌜ now (out .exit) ≡ outAfter (writingAt writer) (now (out .entry)) (commandItem (now (source .entry)) (commandOf command)) ⌝ }
 {
     let wrote = writer_of(writer).put_command(out, source, command_of(command));
     let back = wrote.writer;
@@ -67,8 +65,8 @@ pub extern "C" fn fimbrast_put_command(
 // refused with 3, and nothing goes out of it.
 #[no_mangle]
 pub extern "C" fn fimbrast_put_word(writer: FlatWriter, out: &mut [u8], word: u64) -> FlatWriter
-    ensures { λ r. ⌜ r ≡ flatWriter (writingAfter (writingAt writer) (wordItem word)) ⌝ }
-    ensures { λ _. ⌜ now (out .exit) ≡ overlay (now (out .entry)) (writingAt writer .at) (admitted (writingAt writer) (wordItem word) .bytes) ⌝ }
+    ensures { λ r. ⌜ r ≡ writerAfter writer (wordItem word) ⌝ }
+    ensures { λ _. ⌜ now (out .exit) ≡ outAfter (writingAt writer) (now (out .entry)) (wordItem word) ⌝ }
 {
     fast_mmc::put_word(writer, out, word)
 }
@@ -76,8 +74,8 @@ pub extern "C" fn fimbrast_put_word(writer: FlatWriter, out: &mut [u8], word: u6
 // A Write of these fields.
 #[no_mangle]
 pub extern "C" fn fimbrast_put_write(writer: FlatWriter, out: &mut [u8], data: &[u8]) -> FlatWriter
-    ensures { λ r. ⌜ r ≡ flatWriter (writingAfter (writingAt writer) (commandItem (now («data» .entry)) (Write (part 0 (length (now («data» .entry))))))) ⌝ }
-    ensures { λ _. ⌜ now (out .exit) ≡ overlay (now (out .entry)) (writingAt writer .at) (admitted (writingAt writer) (commandItem (now («data» .entry)) (Write (part 0 (length (now («data» .entry)))))) .bytes) ⌝ }
+    ensures { λ r. ⌜ r ≡ writerAfter writer (wholeWrite (now («data» .entry))) ⌝ }
+    ensures { λ _. ⌜ now (out .exit) ≡ outAfter (writingAt writer) (now (out .entry)) (wholeWrite (now («data» .entry))) ⌝ }
 {
     fast_mmc::put_write(writer, out, data)
 }
@@ -91,8 +89,8 @@ pub extern "C" fn fimbrast_put_other(
     name: usize,
     data: usize,
 ) -> FlatWriter
-    ensures { λ r. ⌜ r ≡ flatWriter (writingAfter (writingAt writer) (commandItem (now (source .entry)) (Other (part 0 name) (part name «data»)))) ⌝ }
-    ensures { λ _. ⌜ now (out .exit) ≡ overlay (now (out .entry)) (writingAt writer .at) (admitted (writingAt writer) (commandItem (now (source .entry)) (Other (part 0 name) (part name «data»))) .bytes) ⌝ }
+    ensures { λ r. ⌜ r ≡ writerAfter writer (frontOther (now (source .entry)) name «data») ⌝ }
+    ensures { λ _. ⌜ now (out .exit) ≡ outAfter (writingAt writer) (now (out .entry)) (frontOther (now (source .entry)) name «data») ⌝ }
 {
     fast_mmc::put_other(writer, out, source, name, data)
 }
@@ -105,8 +103,8 @@ pub extern "C" fn fimbrast_put_field(
     source: &[u8],
     field: FlatField,
 ) -> FlatWriter
-    ensures { λ r. ⌜ r ≡ flatWriter (writingAfter (writingAt writer) (fieldItem (now (source .entry)) (fieldOf field))) ⌝ }
-    ensures { λ _. ⌜ now (out .exit) ≡ overlay (now (out .entry)) (writingAt writer .at) (admitted (writingAt writer) (fieldItem (now (source .entry)) (fieldOf field)) .bytes) ⌝ }
+    ensures { λ r. ⌜ r ≡ writerAfter writer (fieldItem (now (source .entry)) (fieldOf field)) ⌝ }
+    ensures { λ _. ⌜ now (out .exit) ≡ outAfter (writingAt writer) (now (out .entry)) (fieldItem (now (source .entry)) (fieldOf field)) ⌝ }
 {
     let wrote = writer_of(writer).put_field(out, source, field_of(field));
     let back = wrote.writer;

@@ -10,8 +10,7 @@ use Rattle.mmc.specs.declared.command.MmcCommand.{MmcCommand}
 use Rattle.mmc.specs.declared.field.InfoField.{InfoField}
 use Rattle.mmc.specs.ByPage.{StandsFor, FieldStandsFor, CommandAt, FieldAt, ReadsAs, FieldReadsAs, Writes, FieldWrites}
 use Rattle.mmc.specs.Command.{CommandCase, other, readCommand}
-use Rattle.mmc.specs.Field as Fld
-use Rattle.mmc.specs.Field.{FieldCase, readField}
+use Rattle.mmc.specs.Field.{FieldCase, readField, otherField}
 use Rattle.mmc.specs.Item.{commandItem, fieldItem}
 use Rattle.mmc.specs.Rp013Commands.{Command, commandBytes, receivedBytes, IsCommand, Field, fieldBytes, IsField}
 use Rattle.universal.specs.Emission.{sent}
@@ -47,7 +46,7 @@ pub command-read-exactly : (k : CommandCase) (name d : List ℕ) → ((readComma
 command-read-exactly = reading.command-read-exactly
 
 -- A field's name and data are read as a time code exactly where they are said to be.
-pub field-read-exactly : (k : FieldCase) (name d : List ℕ) → ((readField name d ≡ k) × (k ≢ Fld.other)) ↔ FieldReadsAs k name d
+pub field-read-exactly : (k : FieldCase) (name d : List ℕ) → ((readField name d ≡ k) × (k ≢ otherField)) ↔ FieldReadsAs k name d
 field-read-exactly = reading.field-read-exactly
 
 -- A command is accepted exactly where it is said that it may be written.

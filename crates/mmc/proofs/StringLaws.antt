@@ -26,7 +26,7 @@ use Rattle.mmc.specs.Length.{lengthOf}
 use Rattle.mmc.specs.declared.message.MmcMessage.{MmcMessage}
 use Rattle.mmc.specs.declared.message.MmcMessage.the-variants as M
 use Rattle.mmc.specs.Message.{messageFrom, messageBy}
-use Rattle.mmc.specs.Named.{nameFits, lastByte}
+use Rattle.mmc.specs.Named.{nameFits, lastOfName}
 use Rattle.mmc.specs.Part.{partOf}
 use Rattle.mmc.specs.Rp013.{Follows, Name, Item, IsItem, Spell, WellFormed, subId1, lastDevice, envelope, Message}
 use Rattle.mmc.specs.Strings.{before, walkFrom, readsOf, nextOf, item, itemAt, itemPlaces, given, back, itemBytes, joined, itemFits, allFit, zerosItem, isZeros, anyZeros, OfPageOrZeros, itemPlace, readAs, Found, Walk, walk, walkMeans, onTo, Meaning, meaning, meanings, readFrom, commandsRead, commandPair, fieldPair, AcceptedItem, Given, pairOf, emission, emissions, pairsOf, AcceptedItems, commandBack, fieldBack}
@@ -185,14 +185,14 @@ pub length-above : (kind : Kind) (byte : ℕ) → 127 < byte → lengthOf kind b
 length-above = PageStrings.length-above
 
 -- A name is one of p. 5 just where it may be one and its last byte is not 00H.
-pub name-by-page : (name : List ℕ) → Name name (lastByte name) ↔ ((nameFits name ≡ true) × (eqb (lastByte name) 0 ≡ false))
+pub name-by-page : (name : List ℕ) → Name name (lastOfName name) ↔ ((nameFits name ≡ true) × (eqb (lastOfName name) 0 ≡ false))
 name-by-page name = (
-  λ n. (PageStrings.name-fits name (lastByte name) n .0, PageStrings.name-fits name (lastByte name) n .2),
+  λ n. (PageStrings.name-fits name (lastOfName name) n .0, PageStrings.name-fits name (lastOfName name) n .2),
   λ t. PageStrings.fits-name name (t .0) (t .1),
 )
 
 -- A name of p. 5 has one last byte.
-pub last-by-page : (name : List ℕ) (last : ℕ) → Name name last → lastByte name ≡ last
+pub last-by-page : (name : List ℕ) (last : ℕ) → Name name last → lastOfName name ≡ last
 last-by-page name last n = PageStrings.name-fits name last n .1
 
 -- With bytes to 7FH, an item is one of p. 5 just where it fits and is not named 00 00 00.

@@ -14,8 +14,7 @@ use Rattle.mmc.specs.declared.length.Kind.{Kind}
 use Rattle.mmc.specs.declared.length.Kind.the-variants.{Commands, Fields}
 use Rattle.mmc.specs.declared.part.Part.{Part}
 use Rattle.mmc.specs.Command.{CommandCase, nextCommand, stop, play, deferredPlay, fastForward, rewind, recordStrobe, recordExit, pause, reset, write, other, locateField, locateTarget, move}
-use Rattle.mmc.specs.Field as Fld
-use Rattle.mmc.specs.Field.{FieldCase, timeCode, short, nextField}
+use Rattle.mmc.specs.Field.{FieldCase, timeCodeField, shortField, nextField, otherField}
 use Rattle.mmc.specs.Part.{isInside, partOf}
 use Rattle.mmc.specs.Rp013Commands.{Command, STOP, PLAY, DEFERRED-PLAY, FAST-FORWARD, REWIND, RECORD-STROBE, RECORD-EXIT, PAUSE, MMC-RESET, WRITE, LOCATE-FIELD, LOCATE-TARGET, MOVE, receivedBytes, IsFf, IsCommand, SELECTED-TIME-CODE, GP0, fieldName, HasForm, Field, FULL, SHORT, fieldBytes}
 use Rattle.mmc.specs.Strings.{item, itemBytes, itemFits}
@@ -90,9 +89,9 @@ pub record IsFieldName (f : ℕ) : Type 0 where
 
 -- Fields: any five or two bytes under any name 01H to 1FH, or 20H above.
 abbrev pub FieldReadsAs : FieldCase → List ℕ → List ℕ → Type 0
-FieldReadsAs (timeCode f c) name d = IsFieldName f × (name ≡ f ∷ []) × (length d ≡ 5) × (c ≡ readFive d)
-FieldReadsAs (short f c) name d = IsFieldName f × (name ≡ (f + 0x20) ∷ []) × (length d ≡ 2) × (c ≡ readTwo d)
-FieldReadsAs Fld.other name d = ⊥
+FieldReadsAs (timeCodeField f c) name d = IsFieldName f × (name ≡ f ∷ []) × (length d ≡ 5) × (c ≡ readFive d)
+FieldReadsAs (shortField f c) name d = IsFieldName f × (name ≡ (f + 0x20) ∷ []) × (length d ≡ 2) × (c ≡ readTwo d)
+FieldReadsAs otherField name d = ⊥
 
 -- ---- what is written, exactly
 

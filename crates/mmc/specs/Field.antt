@@ -20,26 +20,26 @@ use Rattle.universal.specs.Refusals.{Answer, gives, refused, refusalOf}
 
 -- The case of a field, without the bytes of its own that another field has.
 pub data FieldCase : Type 0 where
-  timeCode : ℕ → StandardTimeCode → FieldCase
-  short : ℕ → ShortTimeCode → FieldCase
-  other : FieldCase
+  timeCodeField : ℕ → StandardTimeCode → FieldCase
+  shortField : ℕ → ShortTimeCode → FieldCase
+  otherField : FieldCase
 
 -- A name of one byte, with its data: 01H to 1FH with five bytes, 21H to 3FH with two.
 unfoldable pub fieldByName : ℕ → List ℕ → FieldCase
 fieldByName n d =
     cond (within 1 32 n)
-    (cond (eqb (length d) 5) (timeCode n (readStandard (getD d 0 0) (getD d 1 0) (getD d 2 0) (getD d 3 0) (getD d 4 0))) other)
-    (cond (within 33 64 n) (cond (eqb (length d) 2) (short (n - 32) (readShort (getD d 0 0) (getD d 1 0))) other) other)
+    (cond (eqb (length d) 5) (timeCodeField n (readStandard (getD d 0 0) (getD d 1 0) (getD d 2 0) (getD d 3 0) (getD d 4 0))) otherField)
+    (cond (within 33 64 n) (cond (eqb (length d) 2) (shortField (n - 32) (readShort (getD d 0 0) (getD d 1 0))) otherField) otherField)
 
 -- What a name and data are read as: a name with prefixes is no time code.
 unfoldable pub readField : List ℕ → List ℕ → FieldCase
-readField name d = cond (eqb (length name) 1) (fieldByName (getD name 0 0) d) other
+readField name d = cond (eqb (length name) 1) (fieldByName (getD name 0 0) d) otherField
 
 -- The case with the parts that its name and data are.
 abbrev pub fieldOfCase : FieldCase → Part → Part → InfoField
-fieldOfCase (timeCode f c) n d = TimeCode f c
-fieldOfCase (short f c) n d = Short f c
-fieldOfCase other n d = Other n d
+fieldOfCase (timeCodeField f c) n d = TimeCode f c
+fieldOfCase (shortField f c) n d = Short f c
+fieldOfCase otherField n d = Other n d
 
 -- ---- the next field of a string
 

@@ -44,8 +44,8 @@ nameFits (a ∷ b ∷ x ∷ []) = eqb a 0 && eqb b 0
 nameFits (a ∷ b ∷ x ∷ y ∷ l) = false
 
 -- A name's last byte, which its length rule goes by.
-abbrev pub lastByte : List ℕ → ℕ
-lastByte name = getD name (length name - 1) 0
+abbrev pub lastOfName : List ℕ → ℕ
+lastOfName name = getD name (length name - 1) 0
 
 -- Data by the rule: 2 for another length, then 1 for a byte above 7FH.
 unfoldable pub byRule : Length → List ℕ → Emission
@@ -54,4 +54,4 @@ byRule Count d = check (leb (length d) 127) 2 then sent (length d ∷ []) then d
 
 -- A name, which is checked first for its form and then for its bytes, and the data by its rule.
 unfoldable pub namedItem : Kind → List ℕ → List ℕ → Emission
-namedItem kind name d = check (nameFits name) 2 then dataEmission name then byRule (lengthOf kind (lastByte name)) d
+namedItem kind name d = check (nameFits name) 2 then dataEmission name then byRule (lengthOf kind (lastOfName name)) d

@@ -17,10 +17,10 @@ use Rattle.mmc.specs.declared.length.Length.{Length}
 use Rattle.mmc.specs.declared.length.Length.the-variants.{Fixed, Count}
 use Rattle.mmc.specs.declared.split.Parts.the-variants as P
 use Rattle.mmc.specs.Command.{CommandCase, stop, play, deferredPlay, fastForward, rewind, recordStrobe, recordExit, pause, reset, write, locateField, locateTarget, move, readCommand, commandOfCase, nextCommand}
-use Rattle.mmc.specs.Field.{FieldCase, timeCode, short, readField, fieldOfCase, nextField}
+use Rattle.mmc.specs.Field.{FieldCase, timeCodeField, shortField, readField, fieldOfCase, nextField}
 use Rattle.mmc.specs.Item.{commandItem, fieldItem}
 use Rattle.mmc.specs.Length.{lengthOf}
-use Rattle.mmc.specs.Named.{nameFits, lastByte}
+use Rattle.mmc.specs.Named.{nameFits, lastOfName}
 use Rattle.mmc.specs.Part.{part, partOf}
 use Rattle.mmc.specs.Rp013.{Item, IsItem}
 use Rattle.mmc.specs.Split.{splitAt, ItemPlace, Next, next, nextAs}
@@ -37,7 +37,7 @@ item name d = record { name = name; «data» = d }
 
 -- The rule that an item's name gives.
 abbrev pub ruleOf : Kind → Item → Length
-ruleOf kind x = lengthOf kind (lastByte (x .name))
+ruleOf kind x = lengthOf kind (lastOfName (x .name))
 
 -- Data by the rule, with the count byte before them where it asks for one.
 abbrev pub withCount : Length → List ℕ → List ℕ
@@ -73,7 +73,7 @@ zerosItem = item (0 ∷ 0 ∷ 0 ∷ []) []
 
 -- A name that ends with 00H: of the names that fit, only 00 00 00 does.
 abbrev pub isZeros : Item → Bool
-isZeros x = eqb (lastByte (x .name)) 0
+isZeros x = eqb (lastOfName (x .name)) 0
 
 -- One of the items is named 00 00 00.
 unfoldable pub anyZeros : List Item → Bool
@@ -279,8 +279,8 @@ commandBack source (C.Other n d) = readCommand (partOf source n) (partOf source 
 
 -- The case that an accepted field comes back as, likewise.
 abbrev pub fieldBack : List ℕ → InfoField → FieldCase
-fieldBack source (F.TimeCode f c) = timeCode f (zeroed c)
-fieldBack source (F.Short f c) = short f c
+fieldBack source (F.TimeCode f c) = timeCodeField f (zeroed c)
+fieldBack source (F.Short f c) = shortField f c
 fieldBack source (F.Other n d) = readField (partOf source n) (partOf source d)
 
 -- What comes back, with its name and data at two parts.

@@ -2,7 +2,7 @@
 -- and 10 and their order. Assumes nothing.
 use Prim.Native.Nat.{ℕ, _+_}
 use mathlib.Core.Bool.{true, not, cond, _&&_}
-use mathlib.Core.List.{[], _∷_}
+use mathlib.Core.List.{List, [], _∷_}
 use mathlib.Core.Option.{Option, none, some}
 use lib.Dec.{leb, ltb, eqb}
 use lib.ListN.{length}
@@ -12,6 +12,7 @@ use Rattle.mmc.specs.Named.{Extent, stopOf, extentOf}
 use Rattle.universal.specs.Refusals.{Refusal, refusal, Answer, gives, refused}
 use Rattle.universal.specs.Emission.{Emission, sent, check, resume, _then_, fitted}
 use Rattle.universal.specs.Message.{opening, header}
+use Rattle.universal.specs.Overlay.{overlay}
 use Rattle.universal.specs.declared.message.MaybeSubId2.the-variants.{NoSubId2}
 
 -- A writing: the position after the bytes so far, the items accepted, and the refusal that ended it, if any did.
@@ -62,6 +63,10 @@ ready w = resume [] (orFailed w .stop) (check (ltb (w .items) 256) 10) .stop
 -- What goes out of an item: nothing where the writing has a refusal, else its own.
 unfoldable pub admitted : Writing → Emission → Emission
 admitted w e = resume [] (ready w) e
+
+-- The buffer after an item.
+abbrev pub outAfter : Writing → List ℕ → Emission → List ℕ
+outAfter w out e = overlay out (w .at) (admitted w e .bytes)
 
 -- One more item where it was accepted.
 abbrev pub itemsAfter : Option Refusal → ℕ → ℕ

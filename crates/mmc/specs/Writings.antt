@@ -11,7 +11,7 @@ use Rattle.mmc.specs.declared.length.Kind.the-variants.{Commands, Fields
 use Rattle.mmc.specs.declared.message.MmcMessage.{MmcMessage}
 use Rattle.mmc.specs.declared.message.MmcMessage.the-variants as M
 use Rattle.mmc.specs.Strings.{Given, emission}
-use Rattle.mmc.specs.Write.{Writing, openedCommands, openedResponses, openedFields, begun, admitted, closedMessage, wholeMessage, wholeFields}
+use Rattle.mmc.specs.Write.{Writing, openedCommands, openedResponses, openedFields, begun, outAfter, closedMessage, wholeMessage, wholeFields}
 use Rattle.mmc.specs.Write as W
 use Rattle.universal.specs.Refusals.{Answer}
 use Rattle.universal.specs.Emission.{Emission}
@@ -34,7 +34,7 @@ abbrev pub afterItem : (kind : Kind) → State → Given kind → State
 afterItem kind s g =
     record {
       writing = W.writingAfter (s .writing) (emission kind g);
-      out = overlay (s .out) (s .writing .at) (admitted (s .writing) (emission kind g) .bytes);
+      out = outAfter (s .writing) (s .out) (emission kind g);
     }
 
 -- After a list of items.

@@ -20,7 +20,7 @@ ghost use Rattle.universal.specs.Message.{openedOf, writtenOf};
 ghost use Rattle.universal.specs.Overlay.{overlay};
 ghost use Rattle.mmc.specs.Item.{commandItem, fieldItem};
 ghost use Rattle.mmc.specs.Named.{stopOf, putOf};
-ghost use Rattle.mmc.specs.Write.{writingOf, opensAt, writingPast, orFailed, ready, openedCommands, openedResponses, openedFields, begun, admitted, writingAfter, closedMessage, closedFields, wholeMessage, wholeFields};
+ghost use Rattle.mmc.specs.Write.{writingOf, opensAt, writingPast, orFailed, ready, openedCommands, openedResponses, openedFields, begun, admitted, outAfter, writingAfter, closedMessage, closedFields, wholeMessage, wholeFields};
 
 // Sub-ID 1 of a command message.
 const COMMAND: u8 = 0x06;
@@ -187,7 +187,7 @@ impl Writer {
     // Writes one command. Its parts lie in the lent source.
     pub fn put_command(self, out: &mut [u8], source: &[u8], command: MmcCommand) -> Wrote
         ensures { λ r. ⌜ (writingOf (r .writer) ≡ writingAfter (writingOf self) (commandItem (now (source .entry)) command)) × (stopOf (r .checked) ≡ admitted (writingOf self) (commandItem (now (source .entry)) command) .stop) ⌝ }
-        ensures { λ _. ⌜ now (out .exit) ≡ overlay (now (out .entry)) (self .at) (admitted (writingOf self) (commandItem (now (source .entry)) command) .bytes) ⌝ }
+        ensures { λ _. ⌜ now (out .exit) ≡ outAfter (writingOf self) (now (out .entry)) (commandItem (now (source .entry)) command) ⌝ }
     {
         let ready = self.ready();
         if let Checked::Refused(e) = ready {
@@ -201,7 +201,7 @@ impl Writer {
     // Writes one field, into a response or a string of fields.
     pub fn put_field(self, out: &mut [u8], source: &[u8], field: InfoField) -> Wrote
         ensures { λ r. ⌜ (writingOf (r .writer) ≡ writingAfter (writingOf self) (fieldItem (now (source .entry)) field)) × (stopOf (r .checked) ≡ admitted (writingOf self) (fieldItem (now (source .entry)) field) .stop) ⌝ }
-        ensures { λ _. ⌜ now (out .exit) ≡ overlay (now (out .entry)) (self .at) (admitted (writingOf self) (fieldItem (now (source .entry)) field) .bytes) ⌝ }
+        ensures { λ _. ⌜ now (out .exit) ≡ outAfter (writingOf self) (now (out .entry)) (fieldItem (now (source .entry)) field) ⌝ }
     {
         let ready = self.ready();
         if let Checked::Refused(e) = ready {

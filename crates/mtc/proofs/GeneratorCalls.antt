@@ -8,7 +8,7 @@ use borrow.Author.Tests.{le-leb, lt-leb}
 use lib.Dec.{T, lit≤, le→leb}
 use lib.ListN.{getD}
 use Rattle.mtc.specs.QuarterFrame.{pieces}
-use Rattle.mtc.specs.Generator.{known, pieceNext, timeNext, sentAt, nextByteOf, nextByte, afterNextByte, GeneratorCall, next, running, turn, locate, afterGeneratorCall, afterGeneratorCalls}
+use Rattle.mtc.specs.Generator.{known, pieceNext, timeNext, sentAt, nextByteOf, nextByte, afterNextByte, GeneratorCall, nextByteCall, running, turn, locate, afterGeneratorCall, afterGeneratorCalls}
 use Rattle.mtc.specs.Reader.{pieceFits}
 use Rattle.labels.specs.declared.time.MtcTime.{MtcTime}
 use Rattle.mtc.specs.declared.generator.Direction.{Direction}
@@ -74,7 +74,7 @@ next-fits g h = go (g .running)
     go false = h
 
 call-fits : (g : MtcGenerator) (c : GeneratorCall) → T (pieceFits (g .last)) → T (pieceFits (afterGeneratorCall g c .last))
-call-fits g next h = next-fits g h
+call-fits g nextByteCall h = next-fits g h
 call-fits g (running b) h = h
 call-fits g (turn d) h = h
 call-fits g (locate t) h = tt

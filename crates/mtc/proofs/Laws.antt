@@ -12,7 +12,7 @@ use Rattle.mtc.specs.declared.generator.Direction.the-variants.{Forward,
 use Rattle.mtc.specs.declared.generator.MtcGenerator.{MtcGenerator}
 use Rattle.mtc.specs.declared.reader.MaybeTime.{MaybeTime}
 use Rattle.mtc.specs.declared.reader.MtcReader.{MtcReader}
-use Rattle.mtc.specs.Generator.{final, move, started, GeneratorCall, afterGeneratorCalls}
+use Rattle.mtc.specs.Generator.{final, sequenceFrames, started, GeneratorCall, afterGeneratorCalls}
 use Rattle.mtc.specs.QuarterFrame.{pieceOf, quarterFrame, fromByte, toByte, masked, pieces}
 use Rattle.mtc.specs.Reader.{fresh, pieceFits, isSound, rawOf, sequenceOfLabel, afterByte, eventOf, afterFullMessage}
 use Rattle.mtc.specs.Ready.{Ready, NotAgainst, eightPieces, labelOfBytes, ReadsLabel}
@@ -61,7 +61,7 @@ pub pieces-masked : (t : MtcTime) → pieces t ≡ dataBytes (masked t)
 pieces-masked = QuarterFrames.pieces-masked
 
 -- The generator's and the reader's move of two frames is RP-004/008's.
-pub moves-practice : (t : MtcTime) (d : Direction) → T (isValid t) → addFrames t (move d) ≡ nextLabel d t
+pub moves-practice : (t : MtcTime) (d : Direction) → T (isValid t) → addFrames t (sequenceFrames d) ≡ nextLabel d t
 moves-practice = QuarterFrames.moves-practice
 
 -- A generator located at a valid time and set running sends RP-004/008's sequences from that time on, any number of them,

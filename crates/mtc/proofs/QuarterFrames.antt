@@ -10,7 +10,7 @@ use native.Mathlib.Omega.{arith}
 use lib.Dec.{T, eqb, eqb→eq}
 use lib.IntN.{pos, negsuc}
 use lib.ListN.{length, getD}
-use Rattle.mtc.specs.Generator.{first, final, move, sentAt}
+use Rattle.mtc.specs.Generator.{first, final, sequenceFrames, sentAt}
 use Rattle.mtc.specs.QuarterFrame.{pieceOf, valueOf, quarterFrame, fromByte, toByte, pieces, masked}
 use Rattle.mtc.specs.Reader.{fresh, Sound, orFresh, control, rawOf, sameTime, sequenceOfLabel, afterByte, eventOf, afterFullMessage}
 use Rattle.mtc.specs.Ready.{Starts, Ready, NotAgainst, eightPieces, labelOfBytes, afterBytes, ReadsLabel}
@@ -124,7 +124,7 @@ in-practice t Reverse w = ap reverse (pieces-practice t w)
 -- ---- the next sequence
 
 -- The generator's and the reader's move of two frames is RP-004/008's.
-pub moves-practice : (t : MtcTime) (d : Direction) → T (isValid t) → addFrames t (move d) ≡ nextLabel d t
+pub moves-practice : (t : MtcTime) (d : Direction) → T (isValid t) → addFrames t (sequenceFrames d) ≡ nextLabel d t
 moves-practice t Forward h =
     sym (moved-by-sum t (pos 1) (pos 1)) ∙ moved-by-one (addFrames t (pos 1)) (moved-valid t (pos 1)) ∙ ap labelAfter (moved-by-one t h)
 moves-practice t Reverse h =
@@ -142,7 +142,7 @@ unfolding bytesSent sequencesFrom
 sends-on zero t d h = refl
 sends-on (suc n) t d h =
     let moves : laterLabel d t ≡ nextLabel d t = moves-practice t d h in
-    let valid : T (isValid (laterLabel d t)) = moved-valid t (move d) in
+    let valid : T (isValid (laterLabel d t)) = moved-valid t (sequenceFrames d) in
     ap (λ (k : ℕ). bytesSent k (sentAt t d (final d))) (eight-more n)
     ∙ sends-next t d (n * 8)
     ∙ ap₂ _++_ (in-practice (laterLabel d t) d (valid-in-widths (laterLabel d t) valid)) (sends-on n (laterLabel d t) d valid)

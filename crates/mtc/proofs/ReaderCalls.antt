@@ -10,7 +10,7 @@ use native.Mathlib.Omega.{arith}
 use borrow.Author.Tests.{le-leb, lt-leb, lt-ltb, eq-eqb, ne-eqb}
 use lib.Dec.{T, leb, eqb, leb→le, le→leb}
 use lib.ListN.{getD, set}
-use Rattle.mtc.specs.Generator.{first, after, move}
+use Rattle.mtc.specs.Generator.{first, after, sequenceFrames}
 use Rattle.mtc.specs.QuarterFrame.{fromByte}
 use Rattle.mtc.specs.Reader.{Standing, nibblesFit, pieceFits, isSound, orFresh, fresh, Control, control, directionBetween, ordered, outOfOrder, orderOf, starts, numberOf, passed, stored, completed, sequenceOf, readerByNumber, reportByNumber, eventWith, rawOf, directionOf, sequenceOfLabel, sameTime, jumps, afterPiece, reportOf, afterByte, eventOf}
 use Rattle.labels.specs.Time.{addFrames, bitsOf}
@@ -260,7 +260,7 @@ module _ (t u : MtcTime) where
     same-counts f i j = rw (eq-eqb _ _ h, eq-eqb _ _ m, eq-eqb _ _ s, eq-eqb _ _ f, i, j)
 
 pub jumps-from : (m : MaybeTime) (d : Direction) (raw : MtcTime) {t u : MtcTime} {b : Bool}
-    → m ≡ Time t → u ≡ addFrames t (move d) → b ≡ sameTime u raw → not b ≡ jumps m d raw
+    → m ≡ Time t → u ≡ addFrames t (sequenceFrames d) → b ≡ sameTime u raw → not b ≡ jumps m d raw
 jumps-from m d raw e i j = rw (j, i, e)
 
 -- The sequence that eight nibbles, a direction and a previous label report.

@@ -35,13 +35,13 @@ final Forward = 7
 final Reverse = 0
 
 -- The frames from a sequence's time to the next one's: a sequence takes two.
-abbrev pub move : Direction → ℤ
-move Forward = pos 2
-move Reverse = negsuc 1
+abbrev pub sequenceFrames : Direction → ℤ
+sequenceFrames Forward = pos 2
+sequenceFrames Reverse = negsuc 1
 
 -- The time of the sequence that the piece after a piece belongs to.
 abbrev pub moved : Direction → ℕ → MtcTime → MtcTime
-moved d last t = cond (eqb last (final d)) (addFrames t (move d)) t
+moved d last t = cond (eqb last (final d)) (addFrames t (sequenceFrames d)) t
 
 -- A last piece above 7 is none.
 abbrev pub known : MaybePiece → MaybePiece
@@ -107,14 +107,14 @@ located g t = record { time = t; direction = g .direction; last = NoPiece; runni
 
 -- A call that hands back a generator: of `next_byte`, of `set_running`, of `set_direction` or of `locate`.
 pub data GeneratorCall : Type 0 where
-  next : GeneratorCall
+  nextByteCall : GeneratorCall
   running : Bool → GeneratorCall
   turn : Direction → GeneratorCall
   locate : MtcTime → GeneratorCall
 
 -- The generator that a call leaves.
 abbrev pub afterGeneratorCall : MtcGenerator → GeneratorCall → MtcGenerator
-afterGeneratorCall g next = afterNextByte g
+afterGeneratorCall g nextByteCall = afterNextByte g
 afterGeneratorCall g (running b) = withRunning g b
 afterGeneratorCall g (turn d) = withDirection g d
 afterGeneratorCall g (locate t) = located g t

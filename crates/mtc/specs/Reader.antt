@@ -7,7 +7,7 @@ use mathlib.Core.Path.{_≡_}
 use lib.Dec.{T, leb, ltb, eqb}
 use lib.IntN.{ℤ, pos, negsuc}
 use lib.ListN.{length, getD, set, replicate}
-use Rattle.mtc.specs.Generator.{first, after, move}
+use Rattle.mtc.specs.Generator.{first, after, sequenceFrames}
 use Rattle.mtc.specs.QuarterFrame.{pieceOf, valueOf}
 use Rattle.labels.specs.Time.{addFrames, rawTime, bitsOf}
 use Rattle.labels.specs.declared.time.MtcTime.{MtcTime}
@@ -159,7 +159,7 @@ sameTime t u =
 -- There is a previous label, and a sequence further on it is not this one.
 abbrev pub jumps : MaybeTime → Direction → MtcTime → Bool
 jumps NoTime d raw = false
-jumps (Time t) d raw = not (sameTime (addFrames t (move d)) raw)
+jumps (Time t) d raw = not (sameTime (addFrames t (sequenceFrames d)) raw)
 
 -- The report of a label, after a previous one.
 abbrev pub sequenceOfLabel : MtcTime → Direction → MaybeTime → MtcSequence

@@ -9,7 +9,7 @@ ghost use lib.ListN.{getD};
 ghost use Rattle.universal.specs.Refusals.{gives};
 ghost use Rattle.mtc.specs.QuarterFrame.{pieces};
 ghost use Rattle.labels.specs.Time.{addFrames};
-ghost use Rattle.mtc.specs.Generator.{first, after, final, move, moved, started, nextByteOf, nextByte, afterNextByte, sentAt, withRunning, withDirection, located};
+ghost use Rattle.mtc.specs.Generator.{first, after, final, sequenceFrames, moved, started, nextByteOf, nextByte, afterNextByte, sentAt, withRunning, withDirection, located};
 
 // The direction of a sequence.
 pub enum Direction {
@@ -52,7 +52,7 @@ impl Direction {
 
     // The time of the sequence after that of `time`.
     pub fn next_time(self, time: MtcTime) -> MtcTime
-        ensures { λ r. ⌜ r ≡ addFrames time (move self) ⌝ }
+        ensures { λ r. ⌜ r ≡ addFrames time (sequenceFrames self) ⌝ }
     {
         match self {
             Direction::Forward => time.add_frames(2),

@@ -22,8 +22,7 @@ use Rattle.mmc.specs.declared.length.Length.{Length}
 use Rattle.mmc.specs.declared.length.Length.the-variants.{Fixed, Count}
 use Rattle.mmc.specs.ByPage.{StandsFor, FieldStandsFor, CommandAt, FieldAt, ReadsAs, FieldReadsAs}
 use Rattle.mmc.specs.Command.{CommandCase, stop, play, deferredPlay, fastForward, rewind, recordStrobe, recordExit, pause, reset, write, other, locateField, locateTarget, move, readLocate, readMove, commandByName, readCommand, commandOfCase}
-use Rattle.mmc.specs.Field as Fld
-use Rattle.mmc.specs.Field.{FieldCase, timeCode, short, readField}
+use Rattle.mmc.specs.Field.{FieldCase, timeCodeField, shortField, readField, fieldByName, otherField}
 use Rattle.mmc.specs.Length.{within, commandLength, lengthOf}
 use Rattle.mmc.specs.Named.{nameFits}
 use Rattle.mmc.specs.Part.{isInside, partOf, part}
@@ -294,7 +293,7 @@ command-read-exactly k name d = (λ t. go (readCommand name d) (command-view nam
 
 data FieldView (name d : List ℕ) : FieldCase → Type 0 where
   namedField : {k : FieldCase} → FieldReadsAs k name d → FieldView name d k
-  anotherField : FieldView name d Fld.other
+  anotherField : FieldView name d otherField
 
 -- By a range, from one number up to, not including, another.
 module _ (P : FieldCase → Type 0) where
@@ -307,39 +306,39 @@ module _ (P : FieldCase → Type 0) where
 
 five-of : (n : ℕ) (d : List ℕ) → 1 ≤ n → n < 32
     → FieldView (n ∷ []) d
-    (cond (eqb (length d) 5) (timeCode n (readStandard (getD d 0 0) (getD d 1 0) (getD d 2 0) (getD d 3 0) (getD d 4 0))) Fld.other)
+    (cond (eqb (length d) 5) (timeCodeField n (readStandard (getD d 0 0) (getD d 1 0) (getD d 2 0) (getD d 3 0) (getD d 4 0))) otherField)
 five-of n d l h =
     where-same (FieldView (n ∷ []) d) (length d) 5
-    (λ e. namedField {k = timeCode n (readFive d)} (record { from = l; to = omega arith }, refl, e, refl)) (λ _. anotherField)
+    (λ e. namedField {k = timeCodeField n (readFive d)} (record { from = l; to = omega arith }, refl, e, refl)) (λ _. anotherField)
 
 two-of : (n : ℕ) (d : List ℕ) → 33 ≤ n → n < 64
-    → FieldView (n ∷ []) d (cond (eqb (length d) 2) (short (n - 32) (readShort (getD d 0 0) (getD d 1 0))) Fld.other)
+    → FieldView (n ∷ []) d (cond (eqb (length d) 2) (shortField (n - 32) (readShort (getD d 0 0) (getD d 1 0))) otherField)
 two-of n d l h =
     let m : n ≡ n - 32 + 32 = omega arith in
     where-same (FieldView (n ∷ []) d) (length d) 2
     (λ e.
-    namedField {k = short (n - 32) (readTwo d)}
+    namedField {k = shortField (n - 32) (readTwo d)}
     (record { from = omega arith; to = omega arith }, ap (λ (k : ℕ). k ∷ []) m, e, refl)) (λ _. anotherField)
 
 field-view : (name d : List ℕ) → FieldView name d (readField name d)
-unfolding readField Fld.fieldByName
+unfolding readField fieldByName
 field-view [] d = anotherField
 field-view (n ∷ []) d =
     where-within (FieldView (n ∷ []) d) 1 32 n (five-of n d) (where-within (FieldView (n ∷ []) d) 33 64 n (two-of n d) anotherField)
 field-view (n ∷ m ∷ l) d = rw (ne-eqb (length (n ∷ m ∷ l)) 1 (λ e. omega arith)) anotherField
 
 isOtherField : FieldCase → Bool
-isOtherField (timeCode f c) = false
-isOtherField (short f c) = false
-isOtherField Fld.other = true
+isOtherField (timeCodeField f c) = false
+isOtherField (shortField f c) = false
+isOtherField otherField = true
 
-field-reads-known : (k : FieldCase) (name d : List ℕ) → FieldReadsAs k name d → (readField name d ≡ k) × (k ≢ Fld.other)
-unfolding readField Fld.fieldByName isOtherField
-field-reads-known (timeCode f c) name d (b, e, l, q) = (
-  rw (e, within-range 1 32 f (b .from) (omega (arith, b .to)), eq-eqb (length d) 5 l) (ap (timeCode f) (sym q)),
+field-reads-known : (k : FieldCase) (name d : List ℕ) → FieldReadsAs k name d → (readField name d ≡ k) × (k ≢ otherField)
+unfolding readField fieldByName isOtherField
+field-reads-known (timeCodeField f c) name d (b, e, l, q) = (
+  rw (e, within-range 1 32 f (b .from) (omega (arith, b .to)), eq-eqb (length d) 5 l) (ap (timeCodeField f) (sym q)),
   λ z. true≢false (ap isOtherField (sym z)),
 )
-field-reads-known (short f c) name d (b, e, l, q) =
+field-reads-known (shortField f c) name d (b, e, l, q) =
     let n : f + 32 - 32 ≡ f = omega arith in (
       rw (
         e,
@@ -348,16 +347,16 @@ field-reads-known (short f c) name d (b, e, l, q) =
         eq-eqb (length d) 2 l,
         n,
       )
-          (ap (short f) (sym q)),
+          (ap (shortField f) (sym q)),
       λ z. true≢false (ap isOtherField (sym z)),
     )
-field-reads-known Fld.other name d h = absurd h
+field-reads-known otherField name d h = absurd h
 
 -- A field's name and data are read as a time code exactly where they are said to be.
-pub field-read-exactly : (k : FieldCase) (name d : List ℕ) → ((readField name d ≡ k) × (k ≢ Fld.other)) ↔ FieldReadsAs k name d
+pub field-read-exactly : (k : FieldCase) (name d : List ℕ) → ((readField name d ≡ k) × (k ≢ otherField)) ↔ FieldReadsAs k name d
 field-read-exactly k name d = (λ t. go (readField name d) (field-view name d) (t .0) (t .1), field-reads-known k name d)
   where
-    go : (j : FieldCase) → FieldView name d j → j ≡ k → k ≢ Fld.other → FieldReadsAs k name d
+    go : (j : FieldCase) → FieldView name d j → j ≡ k → k ≢ otherField → FieldReadsAs k name d
     go j (namedField r) e n = subst (λ (x : FieldCase). FieldReadsAs x name d) e r
     go j anotherField e n = absurd (n (sym e))
 

@@ -15,7 +15,7 @@ use Rattle.mmc.specs.declared.length.Length.{Length}
 use Rattle.mmc.specs.declared.length.Length.the-variants.{Fixed, Count}
 use Rattle.mmc.specs.declared.split.Parts.the-variants as P
 use Rattle.mmc.specs.Length.{lengthOf}
-use Rattle.mmc.specs.Named.{nameFits, lastByte}
+use Rattle.mmc.specs.Named.{nameFits, lastOfName}
 use Rattle.mmc.specs.Part.{part, isInside, partOf}
 use Rattle.mmc.specs.Rp013.{Item}
 use Rattle.mmc.specs.Split.{prefixesAt, measured, splitAt}
@@ -65,7 +65,7 @@ zeros-of pre (a ∷ b ∷ x ∷ []) rest h =
 zeros-of pre (a ∷ b ∷ x ∷ y ∷ l) rest h = absurd (true≢false (sym h))
 
 -- Its last byte.
-last-of : (pre name rest : List ℕ) → 1 ≤ length name → getD (string pre name rest) (length pre + (length name - 1)) 0 ≡ lastByte name
+last-of : (pre name rest : List ℕ) → 1 ≤ length name → getD (string pre name rest) (length pre + (length name - 1)) 0 ≡ lastOfName name
 last-of pre name rest h =
     let l : length name - 1 < length name = omega arith in
     getD-append-add pre (name ++ rest) (length name - 1) 0 ∙ List·getD-append name rest 0 (length name - 1) l
@@ -85,19 +85,19 @@ module _ (kind : Kind) (pre name rest : List ℕ) (f : nameFits name ≡ true) w
   inside : length pre + (length name - 1) < length (string pre name rest)
   inside = omega (arith, lengths)
 
-  rule-of : (rule : Length) → lengthOf kind (lastByte name) ≡ rule
+  rule-of : (rule : Length) → lengthOf kind (lastOfName name) ≡ rule
       → lengthOf kind (getD (string pre name rest) (length pre + (length name - 1)) 0) ≡ rule
   rule-of rule e = ap (lengthOf kind) (last-of pre name rest (lengths .0)) ∙ e
 
   -- A fixed number of data.
-  fixed-at : (n : ℕ) → lengthOf kind (lastByte name) ≡ Fixed n
+  fixed-at : (n : ℕ) → lengthOf kind (lastOfName name) ≡ Fixed n
       → splitAt kind (string pre name rest) (length pre)
       ≡ measured (string pre name rest) (part (length pre) (length name - 1 + 1)) (length pre + (length name - 1) + 1) n
   fixed-at n e =
       sym (fixed-data kind (string pre name rest) (length pre) (length name - 1) (zeros-of pre name rest f) inside n
       (rule-of (Fixed n) e))
 
-  split-fixed : (n : ℕ) → lengthOf kind (lastByte name) ≡ Fixed n → n ≤ length rest
+  split-fixed : (n : ℕ) → lengthOf kind (lastOfName name) ≡ Fixed n → n ≤ length rest
       → splitAt kind (string pre name rest) (length pre)
       ≡ P.Item (part (length pre) (length name)) (part (length pre + length name + 0) n) (length pre + (length name + n))
   split-fixed n e h =
@@ -107,7 +107,7 @@ module _ (kind : Kind) (pre name rest : List ℕ) (f : nameFits name ≡ true) w
       ∙ sym (enough (string pre name rest) _ _ n a b)
       ∙ item-same (length pre) _ _ _ _ n _ _ (omega (arith, lengths)) (omega (arith, lengths)) (omega (arith, lengths))
 
-  cut-fixed : (n : ℕ) → lengthOf kind (lastByte name) ≡ Fixed n → length rest < n
+  cut-fixed : (n : ℕ) → lengthOf kind (lastOfName name) ≡ Fixed n → length rest < n
       → splitAt kind (string pre name rest) (length pre) ≡ P.Cut
   cut-fixed n e h =
       let a : length pre + (length name - 1) + 1 ≤ length (string pre name rest) = omega (arith, lengths) in
@@ -115,14 +115,14 @@ module _ (kind : Kind) (pre name rest : List ℕ) (f : nameFits name ≡ true) w
       fixed-at n e ∙ sym (too-few (string pre name rest) _ _ n a b)
 
 -- A count byte that is missing.
-cut-count : (kind : Kind) (pre name : List ℕ) → nameFits name ≡ true → lengthOf kind (lastByte name) ≡ Count
+cut-count : (kind : Kind) (pre name : List ℕ) → nameFits name ≡ true → lengthOf kind (lastOfName name) ≡ Count
     → splitAt kind (string pre name []) (length pre) ≡ P.Cut
 cut-count kind pre name f e =
     sym (no-count kind (string pre name []) (length pre) (length name - 1) (zeros-of pre name [] f) (inside kind pre name [] f)
     (rule-of kind pre name [] f Count e) (omega (arith, lengths kind pre name [] f)))
 
 module _ (kind : Kind) (pre name : List ℕ) (c : ℕ) (rest : List ℕ) (f : nameFits name ≡ true)
-    (e : lengthOf kind (lastByte name) ≡ Count) where
+    (e : lengthOf kind (lastOfName name) ≡ Count) where
   known : (1 ≤ length name) × (length (string pre name (c ∷ rest)) ≡ length pre + (length name + suc (length rest)))
   known = lengths kind pre name (c ∷ rest) f
 
@@ -160,7 +160,7 @@ module _ (kind : Kind) (pre name : List ℕ) (c : ℕ) (rest : List ℕ) (f : na
 -- ---- an item that fits, at its place
 
 module _ (kind : Kind) (pre name d post : List ℕ) (f : nameFits name ≡ true) where
-  split-by-rule : (rule : Length) → lengthOf kind (lastByte name) ≡ rule → dataFits rule d ≡ true
+  split-by-rule : (rule : Length) → lengthOf kind (lastOfName name) ≡ rule → dataFits rule d ≡ true
       → splitAt kind (string pre name (withCount rule d ++ post)) (length pre)
       ≡ P.Item (part (length pre) (length name)) (part (length pre + length name + countBytes rule) (length d))
       (length pre + (length name + length (withCount rule d)))
@@ -204,7 +204,7 @@ pub data ItemFront (kind : Kind) (s : List ℕ) : Type 0 where
   whole : (x : Item) (post : List ℕ) → itemFits kind x ≡ true → s ≡ itemBytes kind x ++ post → ItemFront kind s
 
 module _ (kind : Kind) (name : List ℕ) (f : nameFits name ≡ true) where
-  fixed-front : (rest : List ℕ) (n : ℕ) → lengthOf kind (lastByte name) ≡ Fixed n → (b : Bool) → leb n (length rest) ≡ b
+  fixed-front : (rest : List ℕ) (n : ℕ) → lengthOf kind (lastOfName name) ≡ Fixed n → (b : Bool) → leb n (length rest) ≡ b
       → ItemFront kind (name ++ rest)
   unfolding itemBytes itemFits
   fixed-front rest n e true h =
@@ -213,7 +213,7 @@ module _ (kind : Kind) (name : List ℕ) (f : nameFits name ≡ true) where
       (rw (e, append-assoc name (take n rest) (drop n rest), take-append-drop n rest))
   fixed-front rest n e false h = cut (λ pre. cut-fixed kind pre name rest f n e (leb-false n (length rest) h))
 
-  counted-front : (c : ℕ) (rest : List ℕ) → lengthOf kind (lastByte name) ≡ Count → (b : Bool) → leb c (length rest) ≡ b
+  counted-front : (c : ℕ) (rest : List ℕ) → lengthOf kind (lastOfName name) ≡ Count → (b : Bool) → leb c (length rest) ≡ b
       → ItemFront kind (name ++ (c ∷ rest))
   unfolding itemBytes itemFits
   counted-front c rest e true h =
@@ -226,7 +226,7 @@ module _ (kind : Kind) (name : List ℕ) (f : nameFits name ≡ true) where
       ))
   counted-front c rest e false h = cut (λ pre. cut-counted kind pre name c rest f e (leb-false c (length rest) h))
 
-  rule-front : (rest : List ℕ) (rule : Length) → lengthOf kind (lastByte name) ≡ rule → ItemFront kind (name ++ rest)
+  rule-front : (rest : List ℕ) (rule : Length) → lengthOf kind (lastOfName name) ≡ rule → ItemFront kind (name ++ rest)
   rule-front rest (Fixed n) e = fixed-front rest n e (leb n (length rest)) refl
   rule-front [] Count e = cut (λ pre. cut-count kind pre name f e)
   rule-front (c ∷ rest) Count e = counted-front c rest e (leb c (length rest)) refl

@@ -13,7 +13,7 @@ use Rattle.mmc.specs.declared.length.Kind.the-variants.{Commands, Fields
 use Rattle.mmc.specs.declared.length.Length.{Length}
 use Rattle.mmc.specs.declared.length.Length.the-variants.{Fixed, Count}
 use Rattle.mmc.specs.Length.{commandLength, fieldLength, lengthOf}
-use Rattle.mmc.specs.Named.{nameFits, lastByte}
+use Rattle.mmc.specs.Named.{nameFits, lastOfName}
 use Rattle.mmc.specs.Rp013.{Follows, prefixed, Name, Item, After, IsItem, Spell}
 use Rattle.mmc.specs.Strings.{ruleOf, withCount, itemBytes, joined, dataFits, itemFits, allFit, zerosItem, isZeros, anyZeros, OfPageOrZeros}
 use Rattle.universal.specs.Message.{allLow}
@@ -110,7 +110,7 @@ above-zero : (n : ℕ) → eqb n 0 ≡ false → 1 ≤ n
 above-zero n h = let z : n ≡ 0 → ⊥ = eqb-false n 0 h in omega arith
 
 -- A name that may be one is the page's, unless its last byte is 00H.
-pub fits-name : (name : List ℕ) → nameFits name ≡ true → eqb (lastByte name) 0 ≡ false → Name name (lastByte name)
+pub fits-name : (name : List ℕ) → nameFits name ≡ true → eqb (lastOfName name) 0 ≡ false → Name name (lastOfName name)
 unfolding nameFits
 fits-name [] h z = absurd (true≢false (sym h))
 fits-name (x ∷ []) h z = record { prefixes = 0; few = lit≤ tt; no-prefix = above-zero x z; bytes = refl }
@@ -133,7 +133,7 @@ fits-name (a ∷ b ∷ x ∷ []) h z =
 fits-name (a ∷ b ∷ x ∷ y ∷ l) h z = absurd (true≢false (sym h))
 
 -- Of the names that may be one, only 00 00 00 has 00H as its last byte.
-pub zeros-name : (name : List ℕ) → nameFits name ≡ true → eqb (lastByte name) 0 ≡ true → name ≡ 0 ∷ 0 ∷ 0 ∷ []
+pub zeros-name : (name : List ℕ) → nameFits name ≡ true → eqb (lastOfName name) 0 ≡ true → name ≡ 0 ∷ 0 ∷ 0 ∷ []
 unfolding nameFits
 zeros-name [] h z = absurd (true≢false (sym h))
 zeros-name (x ∷ []) h z = absurd (eqb-false x 0 (not-true (eqb x 0) h) (eqb-true x 0 z))
@@ -144,7 +144,7 @@ zeros-name (a ∷ b ∷ x ∷ []) h z =
     λ i. eqb-true a 0 (t .0) i ∷ eqb-true b 0 (t .1) i ∷ eqb-true x 0 z i ∷ []
 zeros-name (a ∷ b ∷ x ∷ y ∷ l) h z = absurd (true≢false (sym h))
 
-prefixed-fits : (k last : ℕ) → k ≤ 2 → (last ≡ 0 → ⊥) → (nameFits (prefixed k last) ≡ true) × (lastByte (prefixed k last) ≡ last)
+prefixed-fits : (k last : ℕ) → k ≤ 2 → (last ≡ 0 → ⊥) → (nameFits (prefixed k last) ≡ true) × (lastOfName (prefixed k last) ≡ last)
 unfolding nameFits
 prefixed-fits zero last h n = (rw (ne-eqb last 0 n), refl)
 prefixed-fits (suc zero) last h n = (rw (ne-eqb last 0 n), refl)
@@ -153,11 +153,11 @@ prefixed-fits (suc (suc (suc k))) last h n = absurd (omega arith)
 
 -- A name of the page may be one, with its last byte, which is not 00H.
 pub name-fits : (name : List ℕ) (last : ℕ) → Name name last
-    → (nameFits name ≡ true) × (lastByte name ≡ last) × (eqb last 0 ≡ false)
+    → (nameFits name ≡ true) × (lastOfName name ≡ last) × (eqb last 0 ≡ false)
 name-fits name last n =
     let z : last ≡ 0 → ⊥ = λ e. omega (arith, n .no-prefix) in
     let p = prefixed-fits (n .prefixes) last (n .few) z in
-    (ap nameFits (n .bytes) ∙ p .0, ap lastByte (n .bytes) ∙ p .1, ne-eqb last 0 z)
+    (ap nameFits (n .bytes) ∙ p .0, ap lastOfName (n .bytes) ∙ p .1, ne-eqb last 0 z)
 
 -- ---- items
 
@@ -191,11 +191,11 @@ fits-item kind x h l z =
     let n : 1 ≤ length (x .name) = name-length (x .name) (t .0) .0 in
     let i : length (x .name) - 1 < length (x .name) = omega arith in
     record {
-      last = lastByte (x .name);
+      last = lastOfName (x .name);
       named = fits-name (x .name) (t .0) z;
       follows = ruleOf kind x;
       ranged =
-          length-follows kind (lastByte (x .name)) (above-zero (lastByte (x .name)) z)
+          length-follows kind (lastOfName (x .name)) (above-zero (lastOfName (x .name)) z)
           (all-low-byte (x .name) (length (x .name) - 1) (b .0) i);
       rest = withCount (ruleOf kind x) (x .«data»);
       after = fits-after (ruleOf kind x) (x .«data») (t .1) (b .1);
@@ -207,7 +207,7 @@ pub zeros-item : (kind : Kind) (x : Item) → itemFits kind x ≡ true → isZer
 unfolding itemFits
 zeros-item kind x h z =
     let t = and-parts (nameFits (x .name)) (dataFits (ruleOf kind x) (x .«data»)) h in
-    let r : ruleOf kind x ≡ Fixed 0 = ap (lengthOf kind) (eqb-true (lastByte (x .name)) 0 z) ∙ length-zero kind in
+    let r : ruleOf kind x ≡ Fixed 0 = ap (lengthOf kind) (eqb-true (lastOfName (x .name)) 0 z) ∙ length-zero kind in
     let n : x .name ≡ 0 ∷ 0 ∷ 0 ∷ [] = zeros-name (x .name) (t .0) z in
     let d : x .«data» ≡ [] = no-bytes (x .«data») (rw r at (t .1)) in
     λ i. record { name = n i; «data» = d i }

@@ -12,7 +12,7 @@ use Rattle.mmc.specs.declared.field.InfoField.the-variants as F
 use Rattle.codes.specs.declared.time_code.StandardTimeCode.{StandardTimeCode}
 use Rattle.codes.specs.declared.time_code.ShortTimeCode.{ShortTimeCode}
 use Rattle.mmc.specs.Command.{locateField, locateTarget, move, readLocate, readMove, commandByName, readCommand}
-use Rattle.mmc.specs.Field.{timeCode, short, fieldByName, readField}
+use Rattle.mmc.specs.Field.{timeCodeField, shortField, fieldByName, readField}
 use Rattle.mmc.specs.Item.{locateFieldItem, locateTargetItem, moveItem, commandItem, timeCodeItem, shortCodeItem, fieldItem}
 use Rattle.mmc.specs.Strings.{commandPair, fieldPair, commandBack, fieldBack}
 use Rattle.codes.specs.TimeCode.{standardList, shortList, zeroed}
@@ -58,13 +58,13 @@ command-back source (C.Other n d) h = refl
 -- ---- fields
 
 time-code-back : (f : ℕ) (c : StandardTimeCode) → timeCodeItem f c .stop ≡ none
-    → readField (f ∷ []) (standardList c) ≡ timeCode f (zeroed c)
+    → readField (f ∷ []) (standardList c) ≡ timeCodeField f (zeroed c)
 unfolding readField fieldByName
 time-code-back f c h =
-    let t = time-code-checks f c h in rw (five-listed c, within-range 1 32 f (t .0) (t .1)) (ap (timeCode f) (read-back c (t .2)))
+    let t = time-code-checks f c h in rw (five-listed c, within-range 1 32 f (t .0) (t .1)) (ap (timeCodeField f) (read-back c (t .2)))
 
 short-code-back : (f : ℕ) (c : ShortTimeCode) → shortCodeItem f c .stop ≡ none
-    → readField ((f + 32) ∷ []) (shortList c) ≡ short f c
+    → readField ((f + 32) ∷ []) (shortList c) ≡ shortField f c
 unfolding readField fieldByName
 short-code-back f c h =
     let t = short-code-checks f c h in
@@ -75,7 +75,7 @@ short-code-back f c h =
       within-range 33 64 (f + 32) (omega (arith, t .0)) (omega (arith, t .1)),
       n,
     )
-    (ap (short f) (short-read-back c (t .2)))
+    (ap (shortField f) (short-read-back c (t .2)))
 
 pub field-back : (source : List ℕ) (f : InfoField) → fieldItem source f .stop ≡ none
     → readField (fieldPair source f .name) (fieldPair source f .«data») ≡ fieldBack source f

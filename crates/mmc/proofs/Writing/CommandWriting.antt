@@ -24,7 +24,7 @@ use Rattle.mmc.specs.ByPage.{StandsFor, FieldStandsFor, Writable, Writes
 use Rattle.mmc.specs.Command.{stop}
 use Rattle.mmc.specs.Item.{standardItem, shortItem, otherItem, writeItem, locateFieldItem, isSubframes, locateTargetItem, moveItem, commandItem, formFits, codeFits, timeCodeItem, shortCodeItem, fieldItem}
 use Rattle.mmc.specs.Length.{within, commandLength, lengthOf}
-use Rattle.mmc.specs.Named.{nameFits, lastByte, byRule, namedItem}
+use Rattle.mmc.specs.Named.{nameFits, lastOfName, byRule, namedItem}
 use Rattle.mmc.specs.Part.{isInside, partOf}
 use Rattle.mmc.specs.Rp013Commands.{Command, STOP, PLAY, DEFERRED-PLAY, FAST-FORWARD, REWIND, RECORD-STROBE, RECORD-EXIT, PAUSE, MMC-RESET, WRITE, LOCATE-FIELD, LOCATE-TARGET, MOVE, commandBytes, IsFf, IsCommand, FieldName, SELECTED-TIME-CODE, GP0, fieldName, HasForm, Field, FULL, SHORT, fieldBytes, IsField}
 use Rattle.mmc.specs.Strings.{item, commandPair, fieldPair, withCount, itemBytes, dataFits, itemFits, given, AcceptedItem}
@@ -81,10 +81,10 @@ rule-sent Count d f l =
 named-sent : (kind : Kind) (name d : List ℕ) → Writable kind name d → namedItem kind name d ≡ sent (itemBytes kind (item name d))
 unfolding namedItem itemFits itemBytes
 named-sent kind name d w =
-    let t = and-parts (nameFits name) (dataFits (lengthOf kind (lastByte name)) d) (w .fits) in
-    let l = and-parts (allLow name) (allLow (withCount (lengthOf kind (lastByte name)) d))
-    (sym (all-low-append name (withCount (lengthOf kind (lastByte name)) d)) ∙ w .low) in
-    rw (t .0, data-sent name (l .0), rule-sent (lengthOf kind (lastByte name)) d (t .1) (l .1))
+    let t = and-parts (nameFits name) (dataFits (lengthOf kind (lastOfName name)) d) (w .fits) in
+    let l = and-parts (allLow name) (allLow (withCount (lengthOf kind (lastOfName name)) d))
+    (sym (all-low-append name (withCount (lengthOf kind (lastOfName name)) d)) ∙ w .low) in
+    rw (t .0, data-sent name (l .0), rule-sent (lengthOf kind (lastOfName name)) d (t .1) (l .1))
 
 other-sent : (kind : Kind) (source : List ℕ) (n d : Part) → isInside source n ≡ true → isInside source d ≡ true
     → Writable kind (partOf source n) (partOf source d)

@@ -13,7 +13,7 @@ use Rattle.mmc.specs.declared.length.Kind.the-variants.{Commands, Fields
 use Rattle.mmc.specs.declared.length.Length.{Length}
 use Rattle.mmc.specs.declared.length.Length.the-variants.{Fixed, Count}
 use Rattle.mmc.specs.Length.{within, commandLength, fieldLength, lengthOf}
-use Rattle.mmc.specs.Named.{Extent, extentOf, nameFits, lastByte, byRule, namedItem}
+use Rattle.mmc.specs.Named.{Extent, extentOf, nameFits, lastOfName, byRule, namedItem}
 use Rattle.universal.specs.Refusals.{Refusal, refusal}
 use Rattle.universal.specs.Emission.{Emission, sent, refusing, check, _then_}
 use Rattle.universal.specs.Message.{allLow, dataEmission}
@@ -87,7 +87,7 @@ module _ (kind : Kind) (name d : List ℕ) where
   unfolding namedItem
   name-high f h = rw (f, data-refused name h)
 
-  pub name-sent : nameFits name ≡ true → allLow name ≡ true → namedItem kind name d ≡ sent name then byRule (lengthOf kind (lastByte name)) d
+  pub name-sent : nameFits name ≡ true → allLow name ≡ true → namedItem kind name d ≡ sent name then byRule (lengthOf kind (lastOfName name)) d
   unfolding namedItem
   name-sent f h = rw (f, data-sent name h)
 
@@ -152,7 +152,7 @@ rule-length Count d = go (leb (length d) 127) (allLow d) refl refl
     go false b e l = rw (count-long d (leb-false (length d) 127 e)) (omega arith)
 
 pub named-puts : (kind : Kind) (name d : List ℕ) → nameFits name ≡ true → allLow name ≡ true → (rule : Length)
-    → rule ≡ lengthOf kind (lastByte name) → (out middle after : List ℕ) (at : ℕ) (o : Extent) → middle ≡ overlay out at name
+    → rule ≡ lengthOf kind (lastOfName name) → (out middle after : List ℕ) (at : ℕ) (o : Extent) → middle ≡ overlay out at name
     → Puts (byRule rule d) middle (at + length name) o after
     → Puts (namedItem kind name d) out at (record { len = length name + o .len; stop = o .stop }) after
 named-puts kind name d f h rule e out middle after at o m p =
@@ -201,6 +201,6 @@ named-small kind name d = go (nameFits name) (allLow name) refl refl
     go : (a b : Bool) → nameFits name ≡ a → allLow name ≡ b → length (namedItem kind name d .bytes) ≤ 131
     go true true f h =
         rw (name-sent kind name d f h)
-        (omega (arith, length-append name (byRule (lengthOf kind (lastByte name)) d .bytes), name-length name f, rule-small kind (lastByte name) d))
+        (omega (arith, length-append name (byRule (lengthOf kind (lastOfName name)) d .bytes), name-length name f, rule-small kind (lastOfName name) d))
     go true false f h = rw (name-high kind name d f h) (omega arith)
     go false b f h = rw (name-unfit kind name d f) (omega arith)

@@ -22,7 +22,7 @@ use Rattle.codes.specs.declared.time_code.ShortTimeCode.{ShortTimeCode}
 use Rattle.codes.specs.declared.time_code.FinalByte.{FinalByte}
 use Rattle.mmc.specs.Item.{standardItem, shortItem, otherItem, writeItem, locateFieldItem, isSubframes, locateTargetItem, moveItem, commandItem, formFits, timeCodeItem, shortCodeItem, fieldItem, codeFits}
 use Rattle.mmc.specs.Length.{within, commandLength, fieldLength, lengthOf}
-use Rattle.mmc.specs.Named.{nameFits, lastByte, byRule, namedItem}
+use Rattle.mmc.specs.Named.{nameFits, lastOfName, byRule, namedItem}
 use Rattle.mmc.specs.Part.{isInside, partOf}
 use Rattle.mmc.specs.Strings.{item, withCount, itemBytes, joined, dataFits, itemFits, allFit, commandPair, fieldPair, AcceptedItem, Given, pairOf, emission, emissions, pairsOf, AcceptedItems}
 use Rattle.codes.specs.TimeCode.{standardFits, standardList, shortFits, shortList}
@@ -99,11 +99,11 @@ goes-most Count d h m = omega arith
 -- ---- a name and data that go out
 
 pub named-accepted : (kind : Kind) (name d bytes : List ℕ) → nameFits name ≡ true → allLow name ≡ true → (rule : Length)
-    → lengthOf kind (lastByte name) ≡ rule → Goes rule d → allLow d ≡ true → bytes ≡ name ++ withCount rule d
+    → lengthOf kind (lastOfName name) ≡ rule → Goes rule d → allLow d ≡ true → bytes ≡ name ++ withCount rule d
     → AcceptedItem kind (item name d) bytes
 unfolding itemBytes itemFits
 named-accepted kind name d bytes f n rule e g l b =
-    let five : fixed rule ≤ 5 = subst (λ (r : Length). fixed r ≤ 5) e (fixed-most kind (lastByte name)) in
+    let five : fixed rule ≤ 5 = subst (λ (r : Length). fixed r ≤ 5) e (fixed-most kind (lastOfName name)) in
     let m : length (withCount rule d) ≤ 128 = goes-most rule d g five in
     let k : length name ≤ 3 = name-length name f .1 in
     record {
@@ -131,14 +131,14 @@ pub named-sound : (kind : Kind) (name d : List ℕ) → namedItem kind name d .s
     → AcceptedItem kind (item name d) (namedItem kind name d .bytes)
 unfolding namedItem
 named-sound kind name d h =
-    let rest : Emission = byRule (lengthOf kind (lastByte name)) d in
+    let rest : Emission = byRule (lengthOf kind (lastOfName name)) d in
     let t = behind (nameFits name) 2 (dataEmission name then rest) h in
     let u = then-accepted (dataEmission name) rest (t .1) in
     let n : allLow name ≡ true = data-accepted name (u .0) in
-    let r = rule-goes (lengthOf kind (lastByte name)) d (u .1) in
-    let b : namedItem kind name d .bytes ≡ name ++ withCount (lengthOf kind (lastByte name)) d =
+    let r = rule-goes (lengthOf kind (lastOfName name)) d (u .1) in
+    let b : namedItem kind name d .bytes ≡ name ++ withCount (lengthOf kind (lastOfName name)) d =
     ap (λ (x : Emission). x .bytes) (name-sent kind name d (t .0) n ∙ ap (λ (x : Emission). sent name then x) (r .2)) in
-    named-accepted kind name d (namedItem kind name d .bytes) (t .0) n (lengthOf kind (lastByte name)) refl (r .0) (r .1) b
+    named-accepted kind name d (namedItem kind name d .bytes) (t .0) n (lengthOf kind (lastOfName name)) refl (r .0) (r .1) b
 
 -- ---- what the checks of a command or field tell
 

@@ -3,7 +3,7 @@
 use Prim.Native.Nat.{ℕ, suc}
 use mathlib.Core.List.{List, _++_, append-nil}
 use mathlib.Core.Path.{_≡_, refl, _∙_, ap}
-use Rattle.mtc.specs.Generator.{final, move, sentAt, nextByte, afterNextByte}
+use Rattle.mtc.specs.Generator.{final, sequenceFrames, sentAt, nextByte, afterNextByte}
 use Rattle.mtc.specs.QuarterFrame.{pieces}
 use Rattle.mtc.specs.Stream.{runFrom, bytesSent, inOrder, SentLaw}
 use Rattle.labels.specs.Time.{addFrames}
@@ -15,7 +15,7 @@ use Rattle.labels.proofs.Laws.{moved-by-sum}
 
 -- The time of the sequence after that of a time.
 abbrev pub laterLabel : Direction → MtcTime → MtcTime
-laterLabel d t = addFrames t (move d)
+laterLabel d t = addFrames t (sequenceFrames d)
 
 -- The eight bytes of a sequence.
 abbrev pub eightBytes : Direction → MtcTime → List ℕ
@@ -46,5 +46,5 @@ sends-three g t d =
     ∙ ap (λ (l : List ℕ). eightBytes d (laterLabel d t) ++ l) (sends-next (laterLabel d t) d 0 ∙ append-nil (eightBytes d (laterLabel d (laterLabel d t)))))
 
 pub sent-law : SentLaw
-sent-law g t Forward = sends-three g t Forward ∙ rw (moved-by-sum t (move Forward) (move Forward))
-sent-law g t Reverse = sends-three g t Reverse ∙ rw (moved-by-sum t (move Reverse) (move Reverse))
+sent-law g t Forward = sends-three g t Forward ∙ rw (moved-by-sum t (sequenceFrames Forward) (sequenceFrames Forward))
+sent-law g t Reverse = sends-three g t Reverse ∙ rw (moved-by-sum t (sequenceFrames Reverse) (sequenceFrames Reverse))

@@ -8,7 +8,7 @@ use native.Mathlib.Omega.{arith}
 use borrow.Author.Tests.{eq-eqb}
 use lib.Dec.{T}
 use lib.ListN.{length, take, set, getD}
-use Rattle.mtc.specs.Generator.{first, move}
+use Rattle.mtc.specs.Generator.{first, sequenceFrames}
 use Rattle.mtc.specs.QuarterFrame.{pieceOf, pieces}
 use Rattle.mtc.specs.Reader.{Sound, fresh, isSound, nibblesFit, offset, sameTime, jumps, sequenceOfLabel, reportOf, afterPiece, afterByte, afterFullMessage}
 use Rattle.mtc.specs.Ready.{afterBytes}
@@ -195,12 +195,12 @@ module _ (t : MtcTime) where
   on-2-2 Reverse = refl
 
   on-4-3 : (d : Direction) → addFrames (laterLabel d t) (offset d) ≡ shifted t d 4 3
-  on-4-3 Forward = moved-by-sum t (move Forward) (offset Forward)
-  on-4-3 Reverse = moved-by-sum t (move Reverse) (offset Reverse)
+  on-4-3 Forward = moved-by-sum t (sequenceFrames Forward) (offset Forward)
+  on-4-3 Reverse = moved-by-sum t (sequenceFrames Reverse) (offset Reverse)
 
   on-4-4 : (d : Direction) → laterLabel d (laterLabel d t) ≡ shifted t d 4 4
-  on-4-4 Forward = moved-by-sum t (move Forward) (move Forward)
-  on-4-4 Reverse = moved-by-sum t (move Reverse) (move Reverse)
+  on-4-4 Forward = moved-by-sum t (sequenceFrames Forward) (sequenceFrames Forward)
+  on-4-4 Reverse = moved-by-sum t (sequenceFrames Reverse) (sequenceFrames Reverse)
 
   on-6-5 : (d : Direction) → addFrames (laterLabel d (laterLabel d t)) (offset d) ≡ shifted t d 6 5
   on-6-5 d = ap (λ (u : MtcTime). addFrames u (offset d)) (on-4-4 d) ∙ go d
@@ -298,14 +298,14 @@ module _ (calls : List Call) (g : MtcGenerator) (t : MtcTime) (d : Direction) (v
   sixteenth-report =
       let q = after8 .next .previous in (
         jumps q d t₂,
-        place 15 ∙ own-values t₂ (valid-in-widths t₂ (moved-valid t (move d))) d q
+        place 15 ∙ own-values t₂ (valid-in-widths t₂ (moved-valid t (sequenceFrames d))) d q
             ∙ ap₂ (λ (x y : MtcTime). reportWith d x y (jumps q d t₂)) (on-2-2 t d) (on-4-3 t d),
       )
 
   last-report : nthReport 24 es ≡ reportWith d (shifted t d 4 4) (shifted t d 6 5) false
   last-report =
-      let w₂ = valid-in-widths t₂ (moved-valid t (move d)) in
-      let w₄ = valid-in-widths t₄ (moved-valid t₂ (move d)) in
+      let w₂ = valid-in-widths t₂ (moved-valid t (sequenceFrames d)) in
+      let w₄ = valid-in-widths t₄ (moved-valid t₂ (sequenceFrames d)) in
       place 23
       ∙ ap (λ (u : MtcTime). Sequence (sequenceOfLabel (assembled (values t₄)) d (Time u))) (raw-values t₂ w₂)
       ∙ own-values t₄ w₄ d (Time t₂)

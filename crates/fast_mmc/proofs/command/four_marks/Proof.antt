@@ -30,7 +30,9 @@ add-result-3 c = omega (arith, c .before .before .before .before .flag .ensures 
 
 returns : tie.Need-returns
 unfolding fourMarks
-returns c = (rw (c .before .before .before .before .flag .ensures .0, c .before .before .before .flag2 .ensures .0, c .before .flag3 .ensures .0, c .flag4 .ensures .0, c .before .before .is-status .ensures), omega (arith, c .before .before .before .before .flag .ensures .1, c .before .before .before .flag2 .ensures .1, c .before .flag3 .ensures .1, c .flag4 .ensures .1))
+returns c =
+    let past = c .before .before .before .before in
+    (rw (past .flag .ensures .0, c .before .before .before .flag2 .ensures .0, c .before .flag3 .ensures .0, c .flag4 .ensures .0, c .before .before .is-status .ensures), omega (arith, past .flag .ensures .1, c .before .before .before .flag2 .ensures .1, c .before .flag3 .ensures .1, c .flag4 .ensures .1))
 
 pub four-marks-spec : {M : Type 1} → statement M
 four-marks-spec = tie.close (tie.spec flag-requires flag-requires-2 add-result is-status-requires flag-requires-3 add-result-2 flag-requires-4 add-result-3 returns)

@@ -76,7 +76,9 @@ add-result-7 c = omega (arith, c .four-marks .ensures .1)
 
 returns : tie.Need-returns
 unfolding targetWord
-returns c = rw (c .before .before .before .before .before .before .before .before .wide .ensures, c .before .before .before .before .before .before .before .wide2 .ensures, c .before .before .before .before .before .before .wide3 .ensures, c .before .before .before .before .before .wide4 .ensures, c .before .before .before .wide5 .ensures, c .before .wide6 .ensures, c .before .before .before .before .flat-final .ensures, c .before .before .into-bits .ensures, c .four-marks .ensures .0)
+returns c =
+    let past = c .before .before .before .before in
+    rw (past .before .before .before .before .wide .ensures, past .before .before .before .wide2 .ensures, past .before .before .wide3 .ensures, past .before .wide4 .ensures, c .before .before .before .wide5 .ensures, c .before .wide6 .ensures, past .flat-final .ensures, c .before .before .into-bits .ensures, c .four-marks .ensures .0)
 
 pub target-word-spec : {M : Type 1} → statement M
 target-word-spec = tie.close (tie.spec wide-requires mul-result add-result wide-requires-2 mul-result-2 add-result-2 wide-requires-3 mul-result-3 add-result-3 wide-requires-4 mul-result-4 add-result-4 flat-final-requires wide-requires-5 mul-result-5 add-result-5 into-bits-requires wide-requires-6 four-marks-requires mul-result-6 add-result-6 mul-result-7 add-result-7 returns)

@@ -51,7 +51,9 @@ same-length : tie.Need-same-length
 same-length c = search needs
 
 returns : tie.Need-returns
-returns c = overlay-then _ _ _ _ _ (_ ∷ _ ∷ _ ∷ _ ∷ []) (_ ∷ []) (overlay-then _ _ _ _ _ (_ ∷ _ ∷ _ ∷ []) (_ ∷ []) (overlay-then _ _ _ _ _ (_ ∷ _ ∷ []) (_ ∷ []) (overlay-then _ _ _ _ _ (_ ∷ []) (_ ∷ []) (c .before .before .before .before .before .before .before .before .before .before .before .before .before .before .before .before .before .before .put .ensures) (c .before .before .before .before .before .before .before .before .before .before .before .before .before .before .put2 .ensures) refl) (c .before .before .before .before .before .before .before .before .before .before .put3 .ensures) refl) (c .before .before .before .before .before .before .put4 .ensures) refl) (c .before .before .put5 .ensures) refl
+returns c =
+    let past = c .before .before .before .before .before .before in
+    overlay-then _ _ _ _ _ (_ ∷ _ ∷ _ ∷ _ ∷ []) (_ ∷ []) (overlay-then _ _ _ _ _ (_ ∷ _ ∷ _ ∷ []) (_ ∷ []) (overlay-then _ _ _ _ _ (_ ∷ _ ∷ []) (_ ∷ []) (overlay-then _ _ _ _ _ (_ ∷ []) (_ ∷ []) (past .before .before .before .before .before .before .before .before .before .before .before .before .put .ensures) (past .before .before .before .before .before .before .before .before .put2 .ensures) refl) (past .before .before .before .before .put3 .ensures) refl) (past .put4 .ensures) refl) (c .before .before .put5 .ensures) refl
 
 pub put-five-spec : {M : Type 1} → statement M
 put-five-spec =

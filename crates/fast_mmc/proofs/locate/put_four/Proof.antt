@@ -42,7 +42,9 @@ same-length : tie.Need-same-length
 same-length c = search needs
 
 returns : tie.Need-returns
-returns c = overlay-then _ _ _ _ _ (_ ∷ _ ∷ _ ∷ []) (_ ∷ []) (overlay-then _ _ _ _ _ (_ ∷ _ ∷ []) (_ ∷ []) (overlay-then _ _ _ _ _ (_ ∷ []) (_ ∷ []) (c .before .before .before .before .before .before .before .before .before .before .before .before .before .before .put .ensures) (c .before .before .before .before .before .before .before .before .before .before .put2 .ensures) refl) (c .before .before .before .before .before .before .put3 .ensures) refl) (c .before .before .put4 .ensures) refl
+returns c =
+    let past = c .before .before .before .before .before .before in
+    overlay-then _ _ _ _ _ (_ ∷ _ ∷ _ ∷ []) (_ ∷ []) (overlay-then _ _ _ _ _ (_ ∷ _ ∷ []) (_ ∷ []) (overlay-then _ _ _ _ _ (_ ∷ []) (_ ∷ []) (past .before .before .before .before .before .before .before .before .put .ensures) (past .before .before .before .before .put2 .ensures) refl) (past .put3 .ensures) refl) (c .before .before .put4 .ensures) refl
 
 pub put-four-spec : {M : Type 1} → statement M
 put-four-spec = tie.close (tie.spec array-read-put put-requires add-put array-read-put-2 put-requires-2 add-put-2 array-read-put-3 put-requires-3 add-put-3 array-read-put-4 put-requires-4 same-length returns)

@@ -24,7 +24,9 @@ same-length : tie.Need-same-length
 same-length c = search needs
 
 returns : tie.Need-returns
-returns c = overlay-then _ _ _ _ _ (_ ∷ _ ∷ []) (_ ∷ []) (overlay-then _ _ _ _ _ (_ ∷ []) (_ ∷ []) (c .before .before .before .before .before .before .before .before .before .before .put .ensures) (c .before .before .before .before .before .before .put2 .ensures) refl) (c .before .before .put3 .ensures) refl
+returns c =
+    let past = c .before .before .before .before .before .before in
+    overlay-then _ _ _ _ _ (_ ∷ _ ∷ []) (_ ∷ []) (overlay-then _ _ _ _ _ (_ ∷ []) (_ ∷ []) (past .before .before .before .before .put .ensures) (past .put2 .ensures) refl) (c .before .before .put3 .ensures) refl
 
 pub put-locate-start-spec : {M : Type 1} → statement M
 put-locate-start-spec =

@@ -17,7 +17,9 @@ same-length : tie.Need-same-length
 same-length c = search needs
 
 returns : tie.Need-returns
-returns c = (c .flat-writer .ensures ∙ ap flatWriter (rw (c .before .before .before .before .before .before .writer-of .ensures) at (c .before .before .before .before .put-command .ensures .0 .0)), rw (c .before .before .before .before .before .before .writer-of .ensures) at (c .before .before .before .before .put-command .ensures .1))
+returns c =
+    let past = c .before .before .before .before in
+    (c .flat-writer .ensures ∙ ap flatWriter (rw (past .before .before .writer-of .ensures) at (past .put-command .ensures .0 .0)), rw (past .before .before .writer-of .ensures) at (past .put-command .ensures .1))
 
 pub put-other-spec : {M : Type 1} → statement M
 put-other-spec = tie.close (tie.spec writer-of-requires put-command-requires flat-writer-requires same-length returns)

@@ -27,7 +27,9 @@ same-length-2 : tie.Need-same-length-2
 same-length-2 c = search needs
 
 returns-2 : tie.Need-returns-2
-returns-2 c = one-by-writer _ _ _ _ _ _ _ _ (one-still _ _ _ _ _ (c .before .before .before .before .before .before .before .before .before .put-usual .ensures) (c .before .before .before .before .before .before .if1 .left)) (c .flat-writer .ensures) (c .before .before .before .before .writer-of .ensures) (c .before .before .before .give-word .ensures .0) (c .before .before .before .give-word .ensures .1)
+returns-2 c =
+    let past = c .before .before .before .before in
+    one-by-writer _ _ _ _ _ _ _ _ (one-still _ _ _ _ _ (past .before .before .before .before .before .put-usual .ensures) (past .before .before .if1 .left)) (c .flat-writer .ensures) (past .writer-of .ensures) (c .before .before .before .give-word .ensures .0) (c .before .before .before .give-word .ensures .1)
 
 pub put-word-spec : {M : Type 1} → statement M
 put-word-spec = tie.close (tie.spec put-usual-requires same-length returns writer-of-requires give-word-requires flat-writer-requires same-length-2 returns-2)

@@ -19,13 +19,17 @@ same-length : tie.Need-same-length
 same-length c = search needs
 
 returns-3 : tie.Need-returns-3
-returns-3 c = ends-fit _ (c .before .before .before .before .before .before .before .before .pre) _ _ (c .before .before .before .before .before .before .if1 .left) (c .before .before .before .before .before .if2 .left) (c .if3 .taken) (c .before .before .before .put .ensures)
+returns-3 c =
+    let past = c .before .before .before .before .before in
+    ends-fit _ (past .before .before .before .pre) _ _ (past .before .if1 .left) (past .if2 .left) (c .if3 .taken) (c .before .before .before .put .ensures)
 
 same-length-2 : tie.Need-same-length-2
 same-length-2 c = search needs
 
 returns-4 : tie.Need-returns-4
-returns-4 c = ends-full _ (c .before .before .before .before .before .before .before .before .pre) _ _ (c .before .before .before .before .before .before .if1 .left) (c .before .before .before .before .before .if2 .left) (c .if3 .left) (c .before .before .before .put .ensures)
+returns-4 c =
+    let past = c .before .before .before .before .before in
+    ends-full _ (past .before .before .before .pre) _ _ (past .before .if1 .left) (past .if2 .left) (c .if3 .left) (c .before .before .before .put .ensures)
 
 pub close-at-spec : {M : Type 1} → statement M
 close-at-spec =

@@ -1,6 +1,6 @@
 use native.Mathlib.Omega.{arith}
 use borrow.Author.Tests.{not-false}
-use Rattle.fast_mmc.specs.Contracts.{nothing}
+use Rattle.fast_mmc.specs.Contracts.{went-nothing}
 use Rattle.fast_mmc.proofs.WordPuts.{put-usual}
 use Rattle.fast_mmc.proofs.WordRanges.{usual-of}
 use borrow.Author.Needs.{needs}
@@ -11,19 +11,19 @@ add-next : tie.Need-add-next
 add-next c = search needs
 
 returns : tie.Need-returns
-returns c = (search needs, nothing)
+returns c = (search needs, went-nothing)
 
 is-in-range-requires : tie.Need-is-in-range-requires
 is-in-range-requires c κs = search needs
 
 returns-2 : tie.Need-returns-2
-returns-2 c = (search needs, nothing)
+returns-2 c = (search needs, went-nothing)
 
 is-kept-requires : tie.Need-is-kept-requires
 is-kept-requires c κs = search needs
 
 returns-3 : tie.Need-returns-3
-returns-3 c = (search needs, nothing)
+returns-3 c = (search needs, went-nothing)
 
 cast-hours : tie.Need-cast-hours
 cast-hours c = search needs
@@ -56,7 +56,9 @@ same-length : tie.Need-same-length
 same-length c = search needs
 
 returns-4 : tie.Need-returns-4
-returns-4 c = (search needs, put-usual _ _ _ _ (c .before .before .before .before .before .before .before .before .before .before .pre .1) (c .before .before .before .before .before .before .before .is-in-range .ensures (not-false _ (c .before .before .before .before .before .before .if2 .left)) .top) (usual-of _ (c .before .before .before .before .before .before .before .is-in-range .ensures (not-false _ (c .before .before .before .before .before .before .if2 .left))) (c .before .before .before .before .before .is-kept .ensures (not-false _ (c .before .before .before .before .if3 .left)))) (c .before .before .put-locate-bytes .ensures))
+returns-4 c =
+    let past = c .before .before .before .before in
+    (search needs, put-usual _ _ _ _ (past .before .before .before .before .before .before .pre .1) (past .before .before .before .is-in-range .ensures (not-false _ (past .before .before .if2 .left)) .top) (usual-of _ (past .before .before .before .is-in-range .ensures (not-false _ (past .before .before .if2 .left))) (past .before .is-kept .ensures (not-false _ (past .if3 .left)))) (c .before .before .put-locate-bytes .ensures))
 
 pub put-locate-spec : {M : Type 1} → statement M
 put-locate-spec =

@@ -2,13 +2,13 @@ use Prim.Native.Nat.{_+_, _*_, _≤_, _-_}
 use native.Mathlib.Omega.{arith}
 use borrow.Author.Needs.{needs}
 use lib.ListN.{length}
-use Rattle.fast_mmc.specs.Contracts.{going}
+use Rattle.fast_mmc.specs.Contracts.{openWriting}
 use Rattle.fast_mmc.proofs.WordPuts.{Gone, gone-none, gone-whole, gone-still, gone-rest, gone-all, ends-any}
 use Rattle.fast_mmc.proofs.whole.put_words.Statement.{statement}
 use Rattle.fast_mmc.proofs.whole.put_words.Tie as tie
 
 abbrev Inv-loop : tie.InvT-loop
-Inv-loop out₀ words at₀ i₀ out at i = (i ≤ length words) × ((at ≤ 4 + 8 * i) × Gone (going 4 0) out₀ 0 words (going at i) out i)
+Inv-loop out₀ words at₀ i₀ out at i = (i ≤ length words) × ((at ≤ 4 + 8 * i) × Gone (openWriting 4 0) out₀ 0 words (openWriting at i) out i)
 
 abbrev μ-loop : tie.MeasureT-loop
 μ-loop out₀ words at₀ i₀ out at i = length words - i
@@ -32,7 +32,9 @@ same-length : tie.Need-same-length Inv-loop μ-loop
 same-length c = search needs
 
 returns : tie.Need-returns Inv-loop μ-loop
-returns c = gone-rest _ _ _ _ _ _ _ (gone-still _ _ _ _ _ _ _ _ _ _ (c .before .before .before .before .before .before .before .before .before .before .before .loop .inv .1 .1) (c .before .before .before .before .before .before .before .put-whole .ensures .1) (c .before .before .before .before .if1 .taken)) _ _ (c .before .before .put-rest .ensures)
+returns c =
+    let past = c .before .before .before .before in
+    gone-rest _ _ _ _ _ _ _ (gone-still _ _ _ _ _ _ _ _ _ _ (past .before .before .before .before .before .before .before .loop .inv .1 .1) (past .before .before .before .put-whole .ensures .1) (past .if1 .taken)) _ _ (c .before .before .put-rest .ensures)
 
 add-i : tie.Need-add-i Inv-loop μ-loop
 add-i c = search needs
@@ -41,7 +43,9 @@ loop-less : tie.Need-loop-less Inv-loop μ-loop
 loop-less c = search needs
 
 loop-again : tie.Need-loop-again Inv-loop μ-loop
-loop-again c = (omega arith, (omega (arith, c .before .before .before .put-whole .ensures .0), gone-whole _ _ (omega arith) (omega arith) _ _ _ _ _ _ _ (c .before .before .before .before .before .before .before .loop .inv .1 .1) (c .before .before .before .before .before .before .loop-test .taken) (c .before .before .before .put-whole .ensures .1) (c .if1 .left)))
+loop-again c =
+    let past = c .before .before .before .before .before .before in
+    (omega arith, (omega (arith, c .before .before .before .put-whole .ensures .0), gone-whole _ _ (omega arith) (omega arith) _ _ _ _ _ _ _ (past .before .loop .inv .1 .1) (past .loop-test .taken) (c .before .before .before .put-whole .ensures .1) (c .if1 .left)))
 
 close-at-requires : tie.Need-close-at-requires Inv-loop μ-loop
 close-at-requires c κs = search needs
@@ -50,7 +54,9 @@ same-length-2 : tie.Need-same-length-2 Inv-loop μ-loop
 same-length-2 c = search needs
 
 returns-2 : tie.Need-returns-2 Inv-loop μ-loop
-returns-2 c = gone-all _ _ _ _ _ _ _ (c .before .before .before .before .before .loop .inv .1 .1) _ _ (c .before .before .before .before .loop-test .left) (ends-any _ _ _ _ _ (omega arith) (omega arith) (c .before .before .close-at .ensures))
+returns-2 c =
+    let past = c .before .before .before .before in
+    gone-all _ _ _ _ _ _ _ (past .before .loop .inv .1 .1) _ _ (past .loop-test .left) (ends-any _ _ _ _ _ (omega arith) (omega arith) (c .before .before .close-at .ensures))
 
 pub put-words-spec : {M : Type 1} → statement M
 put-words-spec =

@@ -16,7 +16,9 @@ same-length : tie.Need-same-length
 same-length c = search needs
 
 returns-2 : tie.Need-returns-2
-returns-2 c = opened-words _ _ _ _ _ _ (c .before .before .before .before .before .before .before .before .before .if1 .left) (c .before .before .before .before .before .before .put-start .ensures) (c .before .before .put-rest .ensures)
+returns-2 c =
+    let past = c .before .before .before .before .before .before in
+    opened-words _ _ _ _ _ _ (past .before .before .before .if1 .left) (past .put-start .ensures) (c .before .before .put-rest .ensures)
 
 put-start-requires-2 : tie.Need-put-start-requires-2
 put-start-requires-2 c κs = search needs
@@ -28,7 +30,9 @@ same-length-2 : tie.Need-same-length-2
 same-length-2 c = search needs
 
 returns-3 : tie.Need-returns-3
-returns-3 c = opened-words _ _ _ _ _ _ (c .before .before .before .before .before .before .before .before .before .before .if1 .left) (c .before .before .before .before .before .before .before .put-start2 .ensures) (c .before .before .put-rest2 .ensures)
+returns-3 c =
+    let past = c .before .before .before .before .before .before .before in
+    opened-words _ _ _ _ _ _ (past .before .before .before .if1 .left) (past .put-start2 .ensures) (c .before .before .put-rest2 .ensures)
 
 put-words-requires : tie.Need-put-words-requires
 put-words-requires c κs = search needs
@@ -37,7 +41,9 @@ same-length-3 : tie.Need-same-length-3
 same-length-3 c = search needs
 
 returns-4 : tie.Need-returns-4
-returns-4 c = opened-words _ _ _ _ _ _ (c .before .before .before .before .before .before .before .before .before .before .if1 .left) (c .before .before .before .before .before .before .before .put-start2 .ensures) (c .before .before .put-words .ensures)
+returns-4 c =
+    let past = c .before .before .before .before .before .before .before in
+    opened-words _ _ _ _ _ _ (past .before .before .before .if1 .left) (past .put-start2 .ensures) (c .before .before .put-words .ensures)
 
 pub write-words-spec : {M : Type 1} → statement M
 write-words-spec =

@@ -26,7 +26,9 @@ sub-if2 : tie.Need-sub-if2
 sub-if2 c = search needs
 
 returns-2 : tie.Need-returns-2
-returns-2 c = few-data-word _ _ (c .before .before .before .before .pre .0) (counted-name _ (within-range 64 120 _ (c .before .before .before .before .pre .1 .0) (c .before .before .before .before .pre .1 .1))) (c .before .before .if1 .left) (c .if2 .taken)
+returns-2 c =
+    let past = c .before .before .before .before in
+    few-data-word _ _ (past .pre .0) (counted-name _ (within-range 64 120 _ (past .pre .1 .0) (past .pre .1 .1))) (c .before .before .if1 .left) (c .if2 .taken)
 
 add-end : tie.Need-add-end
 add-end c = search needs
@@ -47,7 +49,9 @@ read-word-requires : tie.Need-read-word-requires
 read-word-requires c κs = search needs
 
 returns-3 : tie.Need-returns-3
-returns-3 c = counted-word _ _ (c .before .before .before .before .before .before .before .pre .0) (counted-name _ (within-range 64 120 _ (c .before .before .before .before .before .before .before .pre .1 .0) (c .before .before .before .before .before .before .before .pre .1 .1))) _ _ (c .before .before .before .before .before .if1 .left) (c .before .before .before .if2 .left) (c .read-word .ensures) (rw add-sub-cancel-left (part-inside _ _ _ (omega arith)))
+returns-3 c =
+    let past = c .before .before .before .before .before in
+    counted-word _ _ (past .before .before .pre .0) (counted-name _ (within-range 64 120 _ (past .before .before .pre .1 .0) (past .before .before .pre .1 .1))) _ _ (past .if1 .left) (c .before .before .before .if2 .left) (c .read-word .ensures) (rw add-sub-cancel-left (part-inside _ _ _ (omega arith)))
 
 pub counted-word-spec : {M : Type 1} → statement M
 counted-word-spec = tie.close (tie.spec add-after returns add-start shared-slice-read-count cast-count sub-if2 returns-2 add-end shared-slice-read-read-word sub-read-word part-read-word-start part-read-word-end read-word-requires returns-3)

@@ -65,7 +65,9 @@ target-read-requires c κs = search needs
 
 returns-6 : tie.Need-returns-6
 unfolding commandWord
-returns-6 c = c .target-read .ensures ∙ ap commandWord (locate-target _ _ _ (c .before .before .before .before .before .before .before .before .before .before .before .if1 .left) (c .before .before .before .before .before .before .before .if4 .left) (c .before .before .before .before .before .before .if5 .left))
+returns-6 c =
+    let past = c .before .before .before .before .before .before in
+    c .target-read .ensures ∙ ap commandWord (locate-target _ _ _ (past .before .before .before .before .before .if1 .left) (past .before .if4 .left) (past .if5 .left))
 
 pub locate-word-spec : {M : Type 1} → statement M
 locate-word-spec =

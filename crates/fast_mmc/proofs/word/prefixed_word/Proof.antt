@@ -19,7 +19,9 @@ refusal-word-requires : tie.Need-refusal-word-requires
 refusal-word-requires c κs = search needs
 
 returns : tie.Need-returns
-returns c = prefixed-word _ _ _ _ (c .before .before .before .before .next-parts .ensures) (c .before .before .before .before .before .before .pre .0) (c .before .before .before .before .before .before .pre .1) _ _ _ (c .before .before .answer .given .1) (c .other-word .ensures)
+returns c =
+    let past = c .before .before .before .before in
+    prefixed-word _ _ _ _ (past .next-parts .ensures) (past .before .before .pre .0) (past .before .before .pre .1) _ _ _ (c .before .before .answer .given .1) (c .other-word .ensures)
 
 returns-2 : tie.Need-returns-2
 returns-2 c = word-refused _ _ _ _ (c .before .before .before .before .next-parts .ensures) _ _ (c .before .before .answer2 .given .1) (c .refusal-word .ensures)

@@ -2,13 +2,13 @@ use borrow.Author.Needs.{needs}
 use lib.Dec.{lit≤}
 use mathlib.Core.Logic.{inl, inr}
 use Rattle.mmc.proofs.ReadingLaws.{within-range, below-range, above-range}
-use Rattle.fast_mmc.specs.Contracts.{more}
+use Rattle.fast_mmc.specs.Contracts.{longer}
 use Rattle.fast_mmc.proofs.WordReading.{short-known, short-pause, short-reset, short-other}
 use Rattle.fast_mmc.proofs.word.short_word.Statement.{statement}
 use Rattle.fast_mmc.proofs.word.short_word.Tie as tie
 
 returns : tie.Need-returns
-returns c = more (inl (c .match .keys1))
+returns c = longer (inl (c .match .keys1))
 
 returns-2 : tie.Need-returns-2
 returns-2 c = short-known 0 _ (c .match .keys2) (lit≤ tt)
@@ -38,7 +38,7 @@ returns-10 : tie.Need-returns-10
 returns-10 c = short-reset _ (c .match .keys10)
 
 returns-11 : tie.Need-returns-11
-returns-11 c = more (inr (within-range 64 120 _ (c .before .if1 .left) (c .if2 .taken)))
+returns-11 c = longer (inr (within-range 64 120 _ (c .before .if1 .left) (c .if2 .taken)))
 
 returns-12 : tie.Need-returns-12
 returns-12 c = short-other _ (c .before .match .rest .0 .0 .0 .0 .0 .0 .0 .0 .0 .1) (c .before .match .rest .0 .0 .0 .0 .0 .0 .0 .0 .1) (c .before .match .rest .0 .0 .0 .0 .0 .0 .0 .1) (c .before .match .rest .0 .0 .0 .0 .0 .0 .1) (c .before .match .rest .0 .0 .0 .0 .0 .1) (c .before .match .rest .0 .0 .0 .0 .1) (c .before .match .rest .0 .0 .0 .1) (c .before .match .rest .0 .0 .1) (c .before .match .rest .0 .1) (c .before .match .rest .1) (below-range 64 120 _ (c .if1 .taken))

@@ -29,7 +29,8 @@ send-requires c κs = search needs
 
 returns-2 : tie.Need-returns-2
 returns-2 c =
-    starts-over _ _ _ _ _ (c .before .before .before .before .before .before .before .if1 .left) (c .before .before .before .before .before .direction-at .ensures) (c .before .before .before .if2 .taken) (c .before .first .ensures .0) (c .send .ensures)
+    let past = c .before .before .before .before .before in
+    starts-over _ _ _ _ _ (past .before .before .if1 .left) (past .direction-at .ensures) (c .before .before .before .if2 .taken) (c .before .first .ensures .0) (c .send .ensures)
 
 last-requires : tie.Need-last-requires
 last-requires c κs = search needs
@@ -42,7 +43,8 @@ send-requires-2 c κs = search needs
 
 returns-3 : tie.Need-returns-3
 returns-3 c =
-    goes-on _ _ _ _ _ (c .before .before .before .before .before .before .before .before .before .if1 .left) (c .before .before .before .before .before .before .before .direction-at .ensures) (c .before .before .before .before .before .if2 .left) (c .before .before .before .before .last2 .ensures) (c .before .before .before .if3 .taken) (c .before .after .ensures .0) (c .send2 .ensures)
+    let past = c .before .before .before .before in
+    goes-on _ _ _ _ _ (past .before .before .before .before .before .if1 .left) (past .before .before .before .direction-at .ensures) (past .before .if2 .left) (past .last2 .ensures) (c .before .before .before .if3 .taken) (c .before .after .ensures .0) (c .send2 .ensures)
 
 move-on-requires : tie.Need-move-on-requires
 move-on-requires c κs = search needs
@@ -55,7 +57,8 @@ send-requires-3 c κs = search needs
 
 returns-4 : tie.Need-returns-4
 returns-4 c =
-    moves-on _ _ _ _ _ (c .before .before .before .before .before .before .before .before .before .before .before .if1 .left) (c .before .before .before .before .before .before .before .before .before .direction-at .ensures) (c .before .before .before .before .before .before .before .if2 .left) (c .before .before .before .before .before .before .last2 .ensures) (c .before .before .before .before .before .if3 .left) (c .before .after2 .ensures .0) (c .before .before .before .move-on .ensures) (c .send3 .ensures)
+    let past = c .before .before .before .before .before in
+    moves-on _ _ _ _ _ (past .before .before .before .before .before .before .if1 .left) (past .before .before .before .before .direction-at .ensures) (past .before .before .if2 .left) (past .before .last2 .ensures) (past .if3 .left) (c .before .after2 .ensures .0) (c .before .before .before .move-on .ensures) (c .send3 .ensures)
 
 pub next-byte-spec : {M : Type 1} → statement M
 next-byte-spec =

@@ -35,8 +35,10 @@ number-30-requires : tie.Need-number-30-requires
 number-30-requires c κs = search needs
 
 returns-3 : tie.Need-returns-3
-returns-3 c = let bits = c .before .before .before .before .into-bits .ensures in
-    c .number-30 .ensures ∙ ap labelNumber (even-at _ _ _ Fps30 (is-30 _ (c .before .before .before .before .before .pre) (λ e. c .before .before .before .if1 .left (bits ∙ e)) (λ e. c .before .before .if2 .left (bits ∙ e))) (c .before .within3 .ensures))
+returns-3 c =
+    let past = c .before .before .before .before in
+    let bits = past .into-bits .ensures in
+    c .number-30 .ensures ∙ ap labelNumber (even-at _ _ _ Fps30 (is-30 _ (past .before .pre) (λ e. c .before .before .before .if1 .left (bits ∙ e)) (λ e. c .before .before .if2 .left (bits ∙ e))) (c .before .within3 .ensures))
 
 pub even-number-spec : {M : Type 1} → statement M
 even-number-spec =

@@ -80,7 +80,9 @@ within-requires-2 : tie.Need-within-requires-2
 within-requires-2 c κs = rw (c .day .ensures) (day-positive (c .before .before .before .before .before .before .before .before .args .t .rate))
 
 returns-2 : tie.Need-returns-2
-returns-2 c = even-count _ _ (λ e. c .before .before .before .before .if1 .left (c .before .before .before .before .before .into-bits .ensures ∙ e)) (c .within2 .ensures ∙ even-told _ _ _ _ (c .before .before .before .before .before .before .before .before .before .args .t .rate) (c .before .before .frames-per-second .ensures) (c .before .day .ensures))
+returns-2 c =
+    let past = c .before .before .before .before in
+    even-count _ _ (λ e. past .if1 .left (past .before .into-bits .ensures ∙ e)) (c .within2 .ensures ∙ even-told _ _ _ _ (past .before .before .before .before .before .args .t .rate) (c .before .before .frames-per-second .ensures) (c .before .day .ensures))
 
 pub frame-count-spec : {M : Type 1} → statement M
 frame-count-spec =

@@ -22,7 +22,9 @@ drop-number-requires : tie.Need-drop-number-requires
 drop-number-requires c κs = search needs
 
 returns : tie.Need-returns
-returns c = c .drop-number .ensures ∙ ap labelNumber (drop-added _ _ _ _ (sym (c .before .before .before .before .into-bits .ensures) ∙ c .before .before .before .if1 .taken) (c .before .before .frame-count .ensures) (c .before .drop-moved .ensures ∙ rw (toZ-ofZ w32 _ (c .before .before .before .before .before .fits .delta))))
+returns c =
+    let past = c .before .before .before .before in
+    c .drop-number .ensures ∙ ap labelNumber (drop-added _ _ _ _ (sym (past .into-bits .ensures) ∙ c .before .before .before .if1 .taken) (c .before .before .frame-count .ensures) (c .before .drop-moved .ensures ∙ rw (toZ-ofZ w32 _ (past .before .fits .delta))))
 
 day-requires : tie.Need-day-requires
 day-requires c κs = search needs
@@ -34,7 +36,9 @@ frame-count-requires-2 : tie.Need-frame-count-requires-2
 frame-count-requires-2 c κs = search needs
 
 add-even-number : tie.Need-add-even-number
-add-even-number c = sum-fits (c .before .before .before .before .before .args .t) (c .before .before .before .before .before .args .delta) _ _ _ (c .frame-count2 .ensures) (c .before .before .day .ensures) (passed-mod _ _ _ (c .before .before .before .before .before .fits .delta) (c .before .reduced .ensures))
+add-even-number c =
+    let past = c .before .before .before .before .before in
+    sum-fits (past .args .t) (past .args .delta) _ _ _ (c .frame-count2 .ensures) (c .before .before .day .ensures) (passed-mod _ _ _ (past .fits .delta) (c .before .reduced .ensures))
 
 even-number-requires : tie.Need-even-number-requires
 even-number-requires c κs = search needs

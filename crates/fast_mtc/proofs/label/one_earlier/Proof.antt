@@ -33,8 +33,10 @@ sub-u : tie.Need-sub-u
 sub-u c = search needs
 
 returns-4 : tie.Need-returns-4
-returns-4 c = let d = c .before .before .is-in-day .ensures (was-true _ (c .before .if3 .left)) in
-    one-earlier _ _ _ _ _ (d .0) (d .1 .0) (d .1 .1) (c .before .before .before .before .before .before .if1 .left) (omega (arith, c .before .before .before .if2 .left, c .before .before .before .before .before .frames-per-second .ensures))
+returns-4 c =
+    let past = c .before .before .before .before .before in
+    let d = c .before .before .is-in-day .ensures (was-true _ (c .before .if3 .left)) in
+    one-earlier _ _ _ _ _ (d .0) (d .1 .0) (d .1 .1) (past .before .if1 .left) (omega (arith, c .before .before .before .if2 .left, past .frames-per-second .ensures))
 
 pub one-earlier-spec : {M : Type 1} → statement M
 one-earlier-spec =

@@ -31,8 +31,10 @@ add-u : tie.Need-add-u
 add-u c = search needs
 
 returns-3 : tie.Need-returns-3
-returns-3 c = let d = c .before .before .is-in-day .ensures (was-true _ (c .before .if2 .left)) in
-    two-later _ _ _ _ _ (d .0) (d .1 .0) (d .1 .1) (omega (arith, c .before .before .before .if1 .left, c .before .before .before .before .before .frames-per-second .ensures, two-fit (c .before .before .before .before .before .before .args .t .rate)))
+returns-3 c =
+    let past = c .before .before .before .before .before in
+    let d = c .before .before .is-in-day .ensures (was-true _ (c .before .if2 .left)) in
+    two-later _ _ _ _ _ (d .0) (d .1 .0) (d .1 .1) (omega (arith, c .before .before .before .if1 .left, past .frames-per-second .ensures, two-fit (past .before .args .t .rate)))
 
 pub two-later-spec : {M : Type 1} → statement M
 two-later-spec =

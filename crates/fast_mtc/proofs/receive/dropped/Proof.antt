@@ -20,16 +20,24 @@ add-if2 : tie.Need-add-if2
 add-if2 c = search needs
 
 go-reverse-requires : tie.Need-go-reverse-requires
-go-reverse-requires c κs = (search needs, kept-forward (c .before .before .before .before .before .before .args .r .now) (c .before .before .before .before .has-words .ensures) (c .before .before .if1 .taken))
+go-reverse-requires c κs =
+    let past = c .before .before .before .before in
+    (search needs, kept-forward (past .before .before .args .r .now) (past .has-words .ensures) (c .before .before .if1 .taken))
 
 returns : tie.Need-returns
-returns c = forward-turned _ _ _ _ (c .before .before .before .before .before .has-words .ensures) (c .before .before .before .if1 .taken) ((c .before .before .before .before .before .before .before .pre) .1 .0) (c .before .before .if2 .taken) (c .go-reverse .ensures)
+returns c =
+    let past = c .before .before .before .before .before in
+    forward-turned _ _ _ _ (past .has-words .ensures) (c .before .before .before .if1 .taken) ((past .before .before .pre) .1 .0) (c .before .before .if2 .taken) (c .go-reverse .ensures)
 
 go-forward-requires : tie.Need-go-forward-requires
-go-forward-requires c κs = (search needs, kept-forward (c .before .before .before .before .before .before .args .r .now) (c .before .before .before .before .has-words .ensures) (c .before .before .if1 .taken))
+go-forward-requires c κs =
+    let past = c .before .before .before .before in
+    (search needs, kept-forward (past .before .before .args .r .now) (past .has-words .ensures) (c .before .before .if1 .taken))
 
 returns-2 : tie.Need-returns-2
-returns-2 c = forward-broken _ _ _ _ (c .before .before .before .before .before .has-words .ensures) (c .before .before .before .if1 .taken) ((c .before .before .before .before .before .before .before .pre) .1 .0) (c .before .before .if2 .left) (c .go-forward .ensures)
+returns-2 c =
+    let past = c .before .before .before .before .before in
+    forward-broken _ _ _ _ (past .has-words .ensures) (c .before .before .before .if1 .taken) ((past .before .before .pre) .1 .0) (c .before .before .if2 .left) (c .go-forward .ensures)
 
 element-write-r-3 : tie.Need-element-write-r-3
 element-write-r-3 c = search needs
@@ -41,16 +49,24 @@ add-if3 : tie.Need-add-if3
 add-if3 c = search needs
 
 go-forward-requires-2 : tie.Need-go-forward-requires-2
-go-forward-requires-2 c κs = (search needs, kept-reverse (c .before .before .before .before .before .before .args .r .now) (c .before .before .before .before .has-words .ensures) (c .before .before .if1 .left) ((c .before .before .before .before .before .before .pre) .0))
+go-forward-requires-2 c κs =
+    let past = c .before .before .before .before in
+    (search needs, kept-reverse (past .before .before .args .r .now) (past .has-words .ensures) (c .before .before .if1 .left) ((past .before .before .pre) .0))
 
 returns-3 : tie.Need-returns-3
-returns-3 c = reverse-turned _ _ _ _ (c .before .before .before .before .before .has-words .ensures) (c .before .before .before .if1 .left) ((c .before .before .before .before .before .before .before .pre) .0) ((c .before .before .before .before .before .before .before .pre) .1 .1) (c .before .before .if3 .taken) (c .go-forward2 .ensures)
+returns-3 c =
+    let past = c .before .before .before .before .before in
+    reverse-turned _ _ _ _ (past .has-words .ensures) (c .before .before .before .if1 .left) ((past .before .before .pre) .0) ((past .before .before .pre) .1 .1) (c .before .before .if3 .taken) (c .go-forward2 .ensures)
 
 go-reverse-requires-2 : tie.Need-go-reverse-requires-2
-go-reverse-requires-2 c κs = (search needs, kept-reverse (c .before .before .before .before .before .before .args .r .now) (c .before .before .before .before .has-words .ensures) (c .before .before .if1 .left) ((c .before .before .before .before .before .before .pre) .0))
+go-reverse-requires-2 c κs =
+    let past = c .before .before .before .before in
+    (search needs, kept-reverse (past .before .before .args .r .now) (past .has-words .ensures) (c .before .before .if1 .left) ((past .before .before .pre) .0))
 
 returns-4 : tie.Need-returns-4
-returns-4 c = reverse-broken _ _ _ _ (c .before .before .before .before .before .has-words .ensures) (c .before .before .before .if1 .left) ((c .before .before .before .before .before .before .before .pre) .0) ((c .before .before .before .before .before .before .before .pre) .1 .1) (c .before .before .if3 .left) (c .go-reverse2 .ensures)
+returns-4 c =
+    let past = c .before .before .before .before .before in
+    reverse-broken _ _ _ _ (past .has-words .ensures) (c .before .before .before .if1 .left) ((past .before .before .pre) .0) ((past .before .before .pre) .1 .1) (c .before .before .if3 .left) (c .go-reverse2 .ensures)
 
 pub dropped-spec : {M : Type 1} → statement M
 dropped-spec = tie.close (tie.spec has-words-requires element-copy-out-order element-write-r element-write-r-2 add-if2 go-reverse-requires returns go-forward-requires returns-2 element-write-r-3 element-write-r-4 add-if3 go-forward-requires-2 returns-3 go-reverse-requires-2 returns-4)

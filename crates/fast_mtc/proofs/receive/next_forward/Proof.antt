@@ -20,16 +20,22 @@ element-write-r-2 : tie.Need-element-write-r-2
 element-write-r-2 c = search needs
 
 complete-requires : tie.Need-complete-requires
-complete-requires c κs = next-forward-going (c .before .before .before .before .args .r .now) (c .before .before .before .before .args .byte) (c .before .before .before .before .args .p) (c .before .before .has-words .ensures) ((c .before .before .before .before .pre) .0) ((c .before .before .before .before .pre) .1)
+complete-requires c κs =
+    let past = c .before .before .before .before in
+    next-forward-going (past .args .r .now) (past .args .byte) (past .args .p) (c .before .before .has-words .ensures) ((past .pre) .0) ((past .pre) .1)
 
 returns : tie.Need-returns
-returns c = next-forward-ends _ _ _ (c .before .before .before .has-words .ensures) ((c .before .before .before .before .before .pre) .0) ((c .before .before .before .before .before .pre) .1) _ _ (c .before .before .if1 .taken) (c .complete .ensures)
+returns c =
+    let past = c .before .before .before .before .before in
+    next-forward-ends _ _ _ (c .before .before .before .has-words .ensures) ((past .pre) .0) ((past .pre) .1) _ _ (c .before .before .if1 .taken) (c .complete .ensures)
 
 quiet-requires : tie.Need-quiet-requires
 quiet-requires c κs = search needs
 
 returns-2 : tie.Need-returns-2
-returns-2 c = next-forward-on _ _ _ (c .before .before .has-words .ensures) ((c .before .before .before .before .pre) .0) ((c .before .before .before .before .pre) .1) _ (c .before .if1 .left) (c .quiet .ensures)
+returns-2 c =
+    let past = c .before .before .before .before in
+    next-forward-on _ _ _ (c .before .before .has-words .ensures) ((past .pre) .0) ((past .pre) .1) _ (c .before .if1 .left) (c .quiet .ensures)
 
 pub next-forward-spec : {M : Type 1} → statement M
 next-forward-spec = tie.close (tie.spec has-words-requires mul-r element-write-r add-r element-write-r-2 complete-requires returns quiet-requires returns-2)

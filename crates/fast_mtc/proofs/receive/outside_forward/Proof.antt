@@ -14,10 +14,14 @@ add-if1 : tie.Need-add-if1
 add-if1 c = search needs
 
 go-forward-requires : tie.Need-go-forward-requires
-go-forward-requires c κs = (search needs, kept-forward-out (c .before .before .before .before .before .args .r .now) (c .before .before .before .has-words .ensures) ((c .before .before .before .before .before .pre) .0) ((c .before .before .before .before .before .pre) .1))
+go-forward-requires c κs =
+    let past = c .before .before .before .before .before in
+    (search needs, kept-forward-out (past .args .r .now) (c .before .before .before .has-words .ensures) ((past .pre) .0) ((past .pre) .1))
 
 returns : tie.Need-returns
-returns c = out-forward-on _ _ _ _ (c .before .before .before .before .has-words .ensures) ((c .before .before .before .before .before .before .pre) .0) ((c .before .before .before .before .before .before .pre) .1) (c .before .before .if1 .taken) (c .go-forward .ensures)
+returns c =
+    let past = c .before .before .before .before in
+    out-forward-on _ _ _ _ (past .has-words .ensures) ((past .before .before .pre) .0) ((past .before .before .pre) .1) (c .before .before .if1 .taken) (c .go-forward .ensures)
 
 element-write-r : tie.Need-element-write-r
 element-write-r c = search needs
@@ -26,16 +30,24 @@ add-if2 : tie.Need-add-if2
 add-if2 c = search needs
 
 go-reverse-requires : tie.Need-go-reverse-requires
-go-reverse-requires c κs = (search needs, kept-unlocked (c .before .before .before .before .before .before .args .r .now) (c .before .before .before .before .has-words .ensures) (kept-forward-out (c .before .before .before .before .before .before .args .r .now) (c .before .before .before .before .has-words .ensures) ((c .before .before .before .before .before .before .pre) .0) ((c .before .before .before .before .before .before .pre) .1)))
+go-reverse-requires c κs =
+    let past = c .before .before .before .before in
+    (search needs, kept-unlocked (past .before .before .args .r .now) (past .has-words .ensures) (kept-forward-out (past .before .before .args .r .now) (past .has-words .ensures) ((past .before .before .pre) .0) ((past .before .before .pre) .1)))
 
 returns-2 : tie.Need-returns-2
-returns-2 c = out-forward-turned _ _ _ _ (c .before .before .before .before .before .has-words .ensures) ((c .before .before .before .before .before .before .before .pre) .0) ((c .before .before .before .before .before .before .before .pre) .1) (c .before .before .before .if1 .left) (c .before .before .if2 .taken) (c .go-reverse .ensures)
+returns-2 c =
+    let past = c .before .before .before .before .before in
+    out-forward-turned _ _ _ _ (past .has-words .ensures) ((past .before .before .pre) .0) ((past .before .before .pre) .1) (c .before .before .before .if1 .left) (c .before .before .if2 .taken) (c .go-reverse .ensures)
 
 go-forward-requires-2 : tie.Need-go-forward-requires-2
-go-forward-requires-2 c κs = (search needs, kept-unlocked (c .before .before .before .before .before .before .args .r .now) (c .before .before .before .before .has-words .ensures) (kept-forward-out (c .before .before .before .before .before .before .args .r .now) (c .before .before .before .before .has-words .ensures) ((c .before .before .before .before .before .before .pre) .0) ((c .before .before .before .before .before .before .pre) .1)))
+go-forward-requires-2 c κs =
+    let past = c .before .before .before .before in
+    (search needs, kept-unlocked (past .before .before .args .r .now) (past .has-words .ensures) (kept-forward-out (past .before .before .args .r .now) (past .has-words .ensures) ((past .before .before .pre) .0) ((past .before .before .pre) .1)))
 
 returns-3 : tie.Need-returns-3
-returns-3 c = out-forward-broken _ _ _ _ (c .before .before .before .before .before .has-words .ensures) ((c .before .before .before .before .before .before .before .pre) .0) ((c .before .before .before .before .before .before .before .pre) .1) (c .before .before .before .if1 .left) (c .before .before .if2 .left) (c .go-forward2 .ensures)
+returns-3 c =
+    let past = c .before .before .before .before .before in
+    out-forward-broken _ _ _ _ (past .has-words .ensures) ((past .before .before .pre) .0) ((past .before .before .pre) .1) (c .before .before .before .if1 .left) (c .before .before .if2 .left) (c .go-forward2 .ensures)
 
 pub outside-forward-spec : {M : Type 1} → statement M
 outside-forward-spec = tie.close (tie.spec has-words-requires element-copy-out-order add-if1 go-forward-requires returns element-write-r add-if2 go-reverse-requires returns-2 go-forward-requires-2 returns-3)

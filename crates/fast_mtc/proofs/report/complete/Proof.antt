@@ -19,19 +19,25 @@ keep-requires : tie.Need-keep-requires
 keep-requires c κs = search needs
 
 returns : tie.Need-returns
-returns c = (c .keep .ensures) (reports-sequence _ _ _ _ _ (c .before .before .before .before .before .before .before .before .pre) (c .before .before .before .before .before .before .raw-in .ensures) (previous-at _) ((c .before .steady .ensures) ∙ sym ((c .before .before .before .before .is-steady .ensures) (c .before .before .before .if1 .taken) .report)))
+returns c =
+    let past = c .before .before .before .before in
+    (c .keep .ensures) (reports-sequence _ _ _ _ _ (past .before .before .before .before .pre) (past .before .before .raw-in .ensures) (previous-at _) ((c .before .steady .ensures) ∙ sym ((past .is-steady .ensures) (c .before .before .before .if1 .taken) .report)))
 
 enum-told : tie.Need-enum-told
 enum-told c = search needs
 
 complete-any-requires : tie.Need-complete-any-requires
-complete-any-requires c κs = ((c .before .before .before .before .before .before .before .before .pre) ∙ ap Going (c .before .enum-told .given .1), (c .before .before .before .before .before .before .raw-in .ensures))
+complete-any-requires c κs =
+    let past = c .before .before .before .before .before .before in
+    ((past .before .before .pre) ∙ ap Going (c .before .enum-told .given .1), (past .raw-in .ensures))
 
 enum-told-2 : tie.Need-enum-told-2
 enum-told-2 c = search needs
 
 complete-any-requires-2 : tie.Need-complete-any-requires-2
-complete-any-requires-2 c κs = ((c .before .before .before .before .before .before .before .before .pre) ∙ ap Going (c .before .enum-told2 .given .1), (c .before .before .before .before .before .before .raw-in .ensures))
+complete-any-requires-2 c κs =
+    let past = c .before .before .before .before .before .before in
+    ((past .before .before .pre) ∙ ap Going (c .before .enum-told2 .given .1), (past .raw-in .ensures))
 
 returns-2 : tie.Need-returns-2
 returns-2 c = rw (c .before .before .enum-told .given .1) (c .complete-any .ensures)

@@ -18,7 +18,9 @@ keep-requires : tie.Need-keep-requires
 keep-requires c κs = search needs
 
 returns : tie.Need-returns
-returns c = (c .keep .ensures) (reports-sequence _ _ _ _ _ (c .before .before .before .before .before .before .pre .0) (c .before .before .before .before .before .before .pre .1) (c .before .before .before .before .previous .ensures) (rw ((c .before .before .before .current .ensures), (c .before .before .jumps .ensures))))
+returns c =
+    let past = c .before .before .before .before in
+    (c .keep .ensures) (reports-sequence _ _ _ _ _ (past .before .before .pre .0) (past .before .before .pre .1) (past .previous .ensures) (rw ((c .before .before .before .current .ensures), (c .before .before .jumps .ensures))))
 
 pub complete-any-spec : {M : Type 1} → statement M
 complete-any-spec = tie.close (tie.spec previous-requires current-requires jumps-requires keep-requires returns)

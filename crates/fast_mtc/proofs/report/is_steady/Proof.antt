@@ -47,7 +47,8 @@ array-read-result : tie.Need-array-read-result
 array-read-result c = search needs
 
 sub-result : tie.Need-sub-result
-sub-result c = word-fits _ _ (c .before .before .label-word .ensures) (c .before .before .before .before .before .before .if3 .left)
+sub-result c =
+    omega (arith, word-fits _ _ (c .before .before .label-word .ensures) (c .before .before .before .before .before .before .if3 .left))
 
 enum-told-2 : tie.Need-enum-told-2
 enum-told-2 c = search needs
@@ -56,13 +57,19 @@ array-read-result-2 : tie.Need-array-read-result-2
 array-read-result-2 c = search needs
 
 add-result : tie.Need-add-result
-add-result c = omega (arith, word-room _ _ (c .before .before .label-word .ensures) (omega (arith, (c .before .before .before .if4 .left), (c .before .before .before .before .before .frames-per-second .ensures), fps-small (c .before .before .before .before .before .before .before .before .before .before .before .before .args .raw .rate))) (c .before .before .label-word .ok))
+add-result c =
+    let past = c .before .before .before .before .before in
+    omega (arith, word-room _ _ (c .before .before .label-word .ensures) (omega (arith, (c .before .before .before .if4 .left), (past .frames-per-second .ensures), fps-small (past .before .before .before .before .before .before .before .args .raw .rate))) (c .before .before .label-word .ok))
 
 returns-5 : tie.Need-returns-5
-returns-5 c = λ h. told-forward _ _ _ _ _ _ (c .before .before .label-word .ensures) ((c .before .before .before .before .before .before .before .before .before .is-in-day .ensures) (not-false _ (c .before .before .before .before .before .before .before .before .if2 .left))) (c .before .before .before .before .before .before .if3 .left) (c .before .before .before .before .before .frames-per-second .ensures) (c .before .before .before .if4 .left) (c .before .before .label-word .ok) (c .before .before .before .before .before .before .before .before .before .before .if1 .left) (c .before .before .before .before .before .before .before .before .before .before .before .rate-mark .ensures .0) (c .enum-told .given .1) (eqb-true _ _ h)
+returns-5 c =
+    let past = c .before .before .before .before .before in
+    λ h. told-forward _ _ _ _ _ _ (c .before .before .label-word .ensures) ((past .before .before .before .before .is-in-day .ensures) (not-false _ (past .before .before .before .if2 .left))) (past .before .if3 .left) (past .frames-per-second .ensures) (c .before .before .before .if4 .left) (c .before .before .label-word .ok) (past .before .before .before .before .before .if1 .left) (past .before .before .before .before .before .before .rate-mark .ensures .0) (c .enum-told .given .1) (eqb-true _ _ h)
 
 returns-6 : tie.Need-returns-6
-returns-6 c = λ h. told-reverse _ _ _ _ _ _ (c .before .before .label-word .ensures) ((c .before .before .before .before .before .before .before .before .before .is-in-day .ensures) (not-false _ (c .before .before .before .before .before .before .before .before .if2 .left))) (c .before .before .before .before .before .before .if3 .left) (c .before .before .before .before .before .frames-per-second .ensures) (c .before .before .before .if4 .left) (c .before .before .label-word .ok) (c .before .before .before .before .before .before .before .before .before .before .if1 .left) (c .before .before .before .before .before .before .before .before .before .before .before .rate-mark .ensures .0) (c .enum-told2 .given .1) (eqb-true _ _ h)
+returns-6 c =
+    let past = c .before .before .before .before .before in
+    λ h. told-reverse _ _ _ _ _ _ (c .before .before .label-word .ensures) ((past .before .before .before .before .is-in-day .ensures) (not-false _ (past .before .before .before .if2 .left))) (past .before .if3 .left) (past .frames-per-second .ensures) (c .before .before .before .if4 .left) (c .before .before .label-word .ok) (past .before .before .before .before .before .if1 .left) (past .before .before .before .before .before .before .rate-mark .ensures .0) (c .enum-told2 .given .1) (eqb-true _ _ h)
 
 pub is-steady-spec : {M : Type 1} → statement M
 is-steady-spec = tie.close (tie.spec array-read-if1 rate-mark-requires returns is-in-day-requires returns-2 returns-3 frames-per-second-requires sub-if4 returns-4 label-word-requires enum-told array-read-result sub-result enum-told-2 array-read-result-2 add-result returns-5 returns-6)

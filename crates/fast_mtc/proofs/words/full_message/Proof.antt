@@ -47,7 +47,9 @@ element-write-r-6 : tie.Need-element-write-r-6
 element-write-r-6 c = search needs
 
 returns : tie.Need-returns
-returns c = informs _ _ _ _ _ _ (c .before .before .before .before .before .before .has-words .ensures) (c .before .before .before .before .stopped .ensures) (c .before .before .first-in .ensures) (c .before .rate-mark .ensures .0) (c .label-word .ensures)
+returns c =
+    let past = c .before .before .before .before in
+    informs _ _ _ _ _ _ (past .before .before .has-words .ensures) (past .stopped .ensures) (c .before .before .first-in .ensures) (c .before .rate-mark .ensures .0) (c .label-word .ensures)
 
 pub full-message-spec : {M : Type 1} → statement M
 full-message-spec = tie.close (tie.spec has-words-requires element-copy-out-order stopped-requires element-write-r element-copy-out-first-in first-in-requires cast-r element-write-r-2 element-write-r-3 element-write-r-4 rate-mark-requires element-write-r-5 label-word-requires element-write-r-6 returns)

@@ -54,15 +54,21 @@ returns-5 c = simp (le-ltb _ _ (c .before .before .before .before .if1 .left), l
 
 returns-6 : tie.Need-returns-6
 unfolding lastIn
-returns-6 c = simp (le-ltb _ _ (c .before .before .before .before .before .if1 .left), le-ltb _ _ (c .before .before .before .before .if2 .left), le-ltb _ _ (c .before .before .before .if3 .left), le-ltb _ _ (c .before .before .if4 .left), le-ltb _ _ (c .before .if5 .left), eq-eqb _ _ (c .if6 .taken))
+returns-6 c =
+    let past = c .before .before .before .before in
+    simp (le-ltb _ _ (past .before .if1 .left), le-ltb _ _ (past .if2 .left), le-ltb _ _ (c .before .before .before .if3 .left), le-ltb _ _ (c .before .before .if4 .left), le-ltb _ _ (c .before .if5 .left), eq-eqb _ _ (c .if6 .taken))
 
 returns-7 : tie.Need-returns-7
 unfolding lastIn
-returns-7 c = simp (le-ltb _ _ (c .before .before .before .before .before .before .if1 .left), le-ltb _ _ (c .before .before .before .before .before .if2 .left), le-ltb _ _ (c .before .before .before .before .if3 .left), le-ltb _ _ (c .before .before .before .if4 .left), le-ltb _ _ (c .before .before .if5 .left), ne-eqb _ _ (c .before .if6 .left), eq-eqb _ _ (c .if7 .taken))
+returns-7 c =
+    let past = c .before .before .before .before in
+    simp (le-ltb _ _ (past .before .before .if1 .left), le-ltb _ _ (past .before .if2 .left), le-ltb _ _ (past .if3 .left), le-ltb _ _ (c .before .before .before .if4 .left), le-ltb _ _ (c .before .before .if5 .left), ne-eqb _ _ (c .before .if6 .left), eq-eqb _ _ (c .if7 .taken))
 
 returns-8 : tie.Need-returns-8
 unfolding lastIn
-returns-8 c = simp (le-ltb _ _ (c .before .before .before .before .before .before .if1 .left), le-ltb _ _ (c .before .before .before .before .before .if2 .left), le-ltb _ _ (c .before .before .before .before .if3 .left), le-ltb _ _ (c .before .before .before .if4 .left), le-ltb _ _ (c .before .before .if5 .left), ne-eqb _ _ (c .before .if6 .left), ne-eqb _ _ (c .if7 .left))
+returns-8 c =
+    let past = c .before .before .before .before in
+    simp (le-ltb _ _ (past .before .before .if1 .left), le-ltb _ _ (past .before .if2 .left), le-ltb _ _ (past .if3 .left), le-ltb _ _ (c .before .before .before .if4 .left), le-ltb _ _ (c .before .before .if5 .left), ne-eqb _ _ (c .before .if6 .left), ne-eqb _ _ (c .if7 .left))
 
 pub last-in-spec : {M : Type 1} → statement M
 last-in-spec = tie.close (tie.spec add-t3 cast-t5 returns add-t6 cast-t8 returns-2 add-t9 cast-t11 returns-3 add-t12 cast-t14 returns-4 cast-t16 returns-5 returns-6 returns-7 returns-8)

@@ -37,7 +37,9 @@ time-requires c κs = search needs
 
 returns : tie.Need-returns
 unfolding readerIn
-returns c = rw ((c .before .before .before .before .before .before .nibbles-in .ensures), (c .before .before .before .before .before .count-in .ensures), (c .before .before .before .before .first-in .ensures), (c .before .before .before .last-in .ensures), (c .before .before .way-in .ensures), (c .before .previous .ensures), (c .time .ensures))
+returns c =
+    let past = c .before .before .before .before in
+    rw ((past .before .before .nibbles-in .ensures), (past .before .count-in .ensures), (past .first-in .ensures), (c .before .before .before .last-in .ensures), (c .before .before .way-in .ensures), (c .before .previous .ensures), (c .time .ensures))
 
 pub reader-in-spec : {M : Type 1} → statement M
 reader-in-spec = tie.close (tie.spec array-read-order nibbles-in-requires count-in-requires array-read-first-in first-in-requires last-in-requires way-in-requires array-read-t17 previous-requires time-requires returns)

@@ -27,11 +27,15 @@ returns-5 c = simp (le-ltb _ _ (c .before .before .before .before .if1 .left), l
 
 returns-6 : tie.Need-returns-6
 unfolding wayIn
-returns-6 c = simp (le-ltb _ _ (c .before .before .before .before .before .if1 .left), le-ltb _ _ (c .before .before .before .before .if2 .left), le-ltb _ _ (c .before .before .before .if3 .left), le-ltb _ _ (c .before .before .if4 .left), ne-eqb _ _ (c .before .if5 .left), eq-eqb _ _ (c .if6 .taken))
+returns-6 c =
+    let past = c .before .before .before .before in
+    simp (le-ltb _ _ (past .before .if1 .left), le-ltb _ _ (past .if2 .left), le-ltb _ _ (c .before .before .before .if3 .left), le-ltb _ _ (c .before .before .if4 .left), ne-eqb _ _ (c .before .if5 .left), eq-eqb _ _ (c .if6 .taken))
 
 returns-7 : tie.Need-returns-7
 unfolding wayIn
-returns-7 c = simp (le-ltb _ _ (c .before .before .before .before .before .if1 .left), le-ltb _ _ (c .before .before .before .before .if2 .left), le-ltb _ _ (c .before .before .before .if3 .left), le-ltb _ _ (c .before .before .if4 .left), ne-eqb _ _ (c .before .if5 .left), ne-eqb _ _ (c .if6 .left))
+returns-7 c =
+    let past = c .before .before .before .before in
+    simp (le-ltb _ _ (past .before .if1 .left), le-ltb _ _ (past .if2 .left), le-ltb _ _ (c .before .before .before .if3 .left), le-ltb _ _ (c .before .before .if4 .left), ne-eqb _ _ (c .before .if5 .left), ne-eqb _ _ (c .if6 .left))
 
 pub way-in-spec : {M : Type 1} → statement M
 way-in-spec = tie.close (tie.spec returns returns-2 returns-3 returns-4 returns-5 returns-6 returns-7)

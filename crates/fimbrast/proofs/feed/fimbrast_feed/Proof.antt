@@ -28,7 +28,9 @@ receive-requires : tie.Need-receive-requires Inv-loop μ-loop
 receive-requires c κs = search needs
 
 counted-requires : tie.Need-counted-requires Inv-loop μ-loop
-counted-requires c κs = (omega (arith, c .before .before .before .before .loop .inv .1 .reports), omega (arith, c .before .before .before .before .loop .inv .1 .discontinuities))
+counted-requires c κs =
+    let past = c .before .before .before .before in
+    (omega (arith, past .loop .inv .1 .reports), omega (arith, past .loop .inv .1 .discontinuities))
 
 add-i : tie.Need-add-i Inv-loop μ-loop
 add-i c = omega arith
@@ -37,7 +39,9 @@ loop-less : tie.Need-loop-less Inv-loop μ-loop
 loop-less c = omega arith
 
 loop-again : tie.Need-loop-again Inv-loop μ-loop
-loop-again c = (omega arith, after-one _ _ _ _ _ _ _ _ (c .before .before .before .before .before .loop .inv .1) (c .before .before .before .before .loop-test .taken) (c .before .receive .ensures) (c .counted .ensures))
+loop-again c =
+    let past = c .before .before .before .before in
+    (omega arith, after-one _ _ _ _ _ _ _ _ (past .before .loop .inv .1) (past .loop-test .taken) (c .before .receive .ensures) (c .counted .ensures))
 
 returns : tie.Need-returns Inv-loop μ-loop
 returns c = after-all _ _ _ _ _ (c .before .loop .inv .1) (c .loop-test .left)

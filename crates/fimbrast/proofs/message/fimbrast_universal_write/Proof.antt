@@ -18,7 +18,9 @@ same-length : tie.Need-same-length
 same-length c = search needs
 
 returns : tie.Need-returns
-returns c = (c .written-numbers .ensures ∙ ap writtenNumbers (rw (c .before .before .before .before .before .universal-of .ensures) at (c .before .before .before .write .ensures .0)), rw (c .before .before .before .before .before .universal-of .ensures) at (c .before .before .before .write .ensures .1))
+returns c =
+    let past = c .before .before .before .before .before in
+    (c .written-numbers .ensures ∙ ap writtenNumbers (rw (past .universal-of .ensures) at (c .before .before .before .write .ensures .0)), rw (past .universal-of .ensures) at (c .before .before .before .write .ensures .1))
 
 pub fimbrast-universal-write-spec : {M : Type 1} → statement M
 fimbrast-universal-write-spec =

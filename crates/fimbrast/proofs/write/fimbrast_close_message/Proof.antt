@@ -18,7 +18,9 @@ same-length : tie.Need-same-length
 same-length c = search needs
 
 returns : tie.Need-returns
-returns c = (c .written-numbers .ensures ∙ ap writtenNumbers (rw (c .before .before .before .before .before .writer-of .ensures) at (c .before .before .before .close-message .ensures .0)), rw (c .before .before .before .before .before .writer-of .ensures) at (c .before .before .before .close-message .ensures .1))
+returns c =
+    let past = c .before .before .before .before .before in
+    (c .written-numbers .ensures ∙ ap writtenNumbers (rw (past .writer-of .ensures) at (c .before .before .before .close-message .ensures .0)), rw (past .writer-of .ensures) at (c .before .before .before .close-message .ensures .1))
 
 pub fimbrast-close-message-spec : {M : Type 1} → statement M
 fimbrast-close-message-spec =

@@ -21,7 +21,9 @@ same-length : tie.Need-same-length
 same-length c = search needs
 
 returns : tie.Need-returns
-returns c = (c .flat-writer .ensures ∙ ap flatWriter (rw (c .before .before .before .before .before .before .before .writer-of .ensures, c .before .before .before .before .before .field-of .ensures) at (c .before .before .before .before .put-field .ensures .0 .0)), rw (c .before .before .before .before .before .before .before .writer-of .ensures, c .before .before .before .before .before .field-of .ensures) at (c .before .before .before .before .put-field .ensures .1))
+returns c =
+    let past = c .before .before .before .before in
+    (c .flat-writer .ensures ∙ ap flatWriter (rw (past .before .before .before .writer-of .ensures, past .before .field-of .ensures) at (past .put-field .ensures .0 .0)), rw (past .before .before .before .writer-of .ensures, past .before .field-of .ensures) at (past .put-field .ensures .1))
 
 pub fimbrast-put-field-spec : {M : Type 1} → statement M
 fimbrast-put-field-spec =

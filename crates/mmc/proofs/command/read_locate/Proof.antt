@@ -50,7 +50,9 @@ from-bytes-requires : tie.Need-from-bytes-requires
 from-bytes-requires c κs = search needs
 
 returns-6 : tie.Need-returns-6
-returns-6 c = ap (λ (k : StandardTimeCode). LocateTarget k) (c .from-bytes .ensures) ∙ locate-target _ _ _ (c .before .before .before .before .before .before .before .before .before .before .before .if1 .left) (c .before .before .before .before .before .before .before .if4 .left) (c .before .before .before .before .before .before .if5 .left)
+returns-6 c =
+    let past = c .before .before .before .before .before .before in
+    ap (λ (k : StandardTimeCode). LocateTarget k) (c .from-bytes .ensures) ∙ locate-target _ _ _ (past .before .before .before .before .before .if1 .left) (past .before .if4 .left) (past .if5 .left)
 
 pub read-locate-spec : {M : Type 1} → statement M
 read-locate-spec =

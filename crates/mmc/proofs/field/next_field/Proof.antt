@@ -27,7 +27,9 @@ enum-known-answer-2 c = search needs
 
 returns : tie.Need-returns
 unfolding nextField
-returns c = read-found (partsAs (λ (x y : List ℕ). fieldOfCase (readField x y)) _) _ _ _ (c .before .before .before .before .before .before .next-parts .ensures) _ _ _ (c .before .before .before .before .answer .given .1) (read-parts (λ (x y : List ℕ). fieldOfCase (readField x y)) _ _ _ _ _ _ (c .read .ensures) (c .before .before .of .ensures) (c .before .of2 .ensures))
+returns c =
+    let past = c .before .before .before .before in
+    read-found (partsAs (λ (x y : List ℕ). fieldOfCase (readField x y)) _) _ _ _ (past .before .before .next-parts .ensures) _ _ _ (past .answer .given .1) (read-parts (λ (x y : List ℕ). fieldOfCase (readField x y)) _ _ _ _ _ _ (c .read .ensures) (c .before .before .of .ensures) (c .before .of2 .ensures))
 
 returns-2 : tie.Need-returns-2
 unfolding nextField

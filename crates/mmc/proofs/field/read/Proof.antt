@@ -43,10 +43,14 @@ from-bytes-requires-2 : tie.Need-from-bytes-requires-2
 from-bytes-requires-2 c κs = search needs
 
 returns-4 : tie.Need-returns-4
-returns-4 c = code _ _ _ _ (c .before .before .before .before .before .before .before .before .before .before .if1 .left) (c .before .before .before .before .before .before .before .before .if2 .left) (c .before .before .before .before .before .before .before .if3 .taken) (c .before .before .before .before .before .before .if4 .left) _ (c .from-bytes .ensures)
+returns-4 c =
+    let past = c .before .before .before .before .before .before in
+    code _ _ _ _ (past .before .before .before .before .if1 .left) (past .before .before .if2 .left) (past .before .if3 .taken) (past .if4 .left) _ (c .from-bytes .ensures)
 
 returns-5 : tie.Need-returns-5
-returns-5 c = short-code _ _ _ _ (c .before .before .before .before .before .before .before .before .before .if1 .left) (c .before .before .before .before .before .if5 .left) (c .before .before .before .before .if6 .taken) (c .before .before .before .if7 .left) _ (c .from-bytes2 .ensures)
+returns-5 c =
+    let past = c .before .before .before .before in
+    short-code _ _ _ _ (past .before .before .before .before .before .if1 .left) (past .before .if5 .left) (past .if6 .taken) (c .before .before .before .if7 .left) _ (c .from-bytes2 .ensures)
 
 returns-6 : tie.Need-returns-6
 returns-6 c = zero-name _ _ _ _ (c .before .before .if1 .left) (c .if2 .taken)

@@ -23,7 +23,9 @@ same-length : tie.Need-same-length
 same-length c = search needs
 
 returns-2 : tie.Need-returns-2
-returns-2 c = puts _ _ _ _ _ _ (ap (λ (k : Checked). checkedItem k (c .before .before .before .before .before .before .before .before .args .bytes .now)) (c .before .before .before .before .enum-told .given .1)) refl (c .before .before .put-part .ensures)
+returns-2 c =
+    let past = c .before .before .before .before in
+    puts _ _ _ _ _ _ (ap (λ (k : Checked). checkedItem k (past .before .before .before .before .args .bytes .now)) (past .enum-told .given .1)) refl (c .before .before .put-part .ensures)
 
 pub put-checked-spec : {M : Type 1} → statement M
 put-checked-spec =

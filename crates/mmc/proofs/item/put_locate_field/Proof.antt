@@ -21,7 +21,9 @@ same-length : tie.Need-same-length
 same-length c = search needs
 
 returns-3 : tie.Need-returns-3
-returns-3 c = puts _ _ _ _ _ _ (register-sent _ (c .before .before .before .before .before .before .if1 .left) (c .before .before .before .before .before .if2 .left)) refl (c .before .before .put-part .ensures)
+returns-3 c =
+    let past = c .before .before .before .before .before in
+    puts _ _ _ _ _ _ (register-sent _ (past .before .if1 .left) (past .if2 .left)) refl (c .before .before .put-part .ensures)
 
 pub put-locate-field-spec : {M : Type 1} → statement M
 put-locate-field-spec =

@@ -35,7 +35,9 @@ same-length : tie.Need-same-length
 same-length c = search needs
 
 returns-2 : tie.Need-returns-2
-returns-2 c = puts-as _ _ _ _ _ _ (target-sent _ _ (c .before .before .before .before .before .before .before .before .before .before .enum-told2 .given .1) refl) (puts-after _ _ _ _ _ _ 3 _ refl (c .before .before .before .before .before .before .before .put-part .ensures) (c .before .before .before .put-standard .ensures))
+returns-2 c =
+    let past = c .before .before .before .before .before .before .before in
+    puts-as _ _ _ _ _ _ (target-sent _ _ (past .before .before .before .enum-told2 .given .1) refl) (puts-after _ _ _ _ _ _ 3 _ refl (past .put-part .ensures) (c .before .before .before .put-standard .ensures))
 
 pub put-locate-target-spec : {M : Type 1} → statement M
 put-locate-target-spec =

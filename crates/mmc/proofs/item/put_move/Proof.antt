@@ -28,7 +28,9 @@ same-length : tie.Need-same-length
 same-length c = search needs
 
 returns-3 : tie.Need-returns-3
-returns-3 c = puts _ _ _ _ _ _ (move-sent _ _ (sym (c .before .before .before .before .before .before .before .before .is-time-field .ensures) ∙ not-false _ (c .before .before .before .before .before .before .before .if1 .left)) (sym (c .before .before .before .before .before .before .is-time-field2 .ensures) ∙ not-false _ (c .before .before .before .before .before .if2 .left))) refl (c .before .before .put-part .ensures)
+returns-3 c =
+    let past = c .before .before .before .before .before in
+    puts _ _ _ _ _ _ (move-sent _ _ (sym (past .before .before .before .is-time-field .ensures) ∙ not-false _ (past .before .before .if1 .left)) (sym (past .before .is-time-field2 .ensures) ∙ not-false _ (past .if2 .left))) refl (c .before .before .put-part .ensures)
 
 pub put-move-spec : {M : Type 1} → statement M
 put-move-spec =

@@ -31,7 +31,9 @@ same-length : tie.Need-same-length
 same-length c = search needs
 
 returns-3 : tie.Need-returns-3
-returns-3 c = named-as _ _ _ _ _ _ _ _ _ _ (both-inside _ _ _ _ (sym (c .before .before .before .before .before .before .before .before .before .is-inside .ensures) ∙ not-false _ (c .before .before .before .before .before .before .before .before .if1 .left)) (sym (c .before .before .before .before .before .before .before .is-inside2 .ensures) ∙ not-false _ (c .before .before .before .before .before .before .if2 .left))) (c .before .before .before .before .of .ensures) (c .before .before .before .of2 .ensures) (c .before .before .put-named .ensures)
+returns-3 c =
+    let past = c .before .before .before .before in
+    named-as _ _ _ _ _ _ _ _ _ _ (both-inside _ _ _ _ (sym (past .before .before .before .before .before .is-inside .ensures) ∙ not-false _ (past .before .before .before .before .if1 .left)) (sym (past .before .before .before .is-inside2 .ensures) ∙ not-false _ (past .before .before .if2 .left))) (past .of .ensures) (c .before .before .before .of2 .ensures) (c .before .before .put-named .ensures)
 
 pub put-other-spec : {M : Type 1} → statement M
 put-other-spec =

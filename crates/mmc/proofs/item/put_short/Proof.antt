@@ -16,7 +16,9 @@ same-length : tie.Need-same-length
 same-length c = search needs
 
 returns : tie.Need-returns
-returns c = puts-as _ _ _ _ _ _ (short-checked _ (c .before .before .before .before .before .before .to-bytes .result .checked) (c .before .before .before .before .before .before .to-bytes .result .bytes) (c .before .before .before .before .before .before .to-bytes .ensures .0)) (c .before .before .put-checked .ensures)
+returns c =
+    let past = c .before .before .before .before .before .before in
+    puts-as _ _ _ _ _ _ (short-checked _ (past .to-bytes .result .checked) (past .to-bytes .result .bytes) (past .to-bytes .ensures .0)) (c .before .before .put-checked .ensures)
 
 pub put-short-spec : {M : Type 1} → statement M
 put-short-spec =

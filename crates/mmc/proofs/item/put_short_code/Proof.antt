@@ -15,7 +15,9 @@ returns : tie.Need-returns
 returns c = puts-none _ 3 _ _ (short-unfit _ _ (sym (c .before .code-fits .ensures) ∙ not-true _ (c .if1 .taken)))
 
 add-put : tie.Need-add-put
-add-put c = omega (arith, fits-below (c .before .before .before .before .args .field) (c .before .before .before .before .args .code .negative) (c .before .before .before .before .args .code .«final_byte») (sym (c .before .before .code-fits .ensures) ∙ not-false _ (c .before .if1 .left)))
+add-put c =
+    let past = c .before .before .before .before in
+    omega (arith, fits-below (past .args .field) (past .args .code .negative) (past .args .code .«final_byte») (sym (c .before .before .code-fits .ensures) ∙ not-false _ (c .before .if1 .left)))
 
 put-requires : tie.Need-put-requires
 put-requires c κs = search needs
@@ -33,7 +35,9 @@ same-length : tie.Need-same-length
 same-length c = search needs
 
 returns-2 : tie.Need-returns-2
-returns-2 c = puts-as _ _ _ _ _ _ (short-sent _ _ (sym (c .before .before .before .before .before .before .before .before .before .before .code-fits .ensures) ∙ not-false _ (c .before .before .before .before .before .before .before .before .before .if1 .left))) (puts-after _ _ _ _ _ _ 1 _ refl (c .before .before .before .before .before .before .before .put .ensures) (c .before .before .before .put-short .ensures))
+returns-2 c =
+    let past = c .before .before .before .before .before .before .before in
+    puts-as _ _ _ _ _ _ (short-sent _ _ (sym (past .before .before .before .code-fits .ensures) ∙ not-false _ (past .before .before .if1 .left))) (puts-after _ _ _ _ _ _ 1 _ refl (past .put .ensures) (c .before .before .before .put-short .ensures))
 
 pub put-short-code-spec : {M : Type 1} → statement M
 put-short-code-spec =

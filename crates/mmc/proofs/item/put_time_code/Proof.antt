@@ -30,7 +30,9 @@ same-length : tie.Need-same-length
 same-length c = search needs
 
 returns-2 : tie.Need-returns-2
-returns-2 c = puts-as _ _ _ _ _ _ (code-sent _ _ (sym (c .before .before .before .before .before .before .before .before .before .before .code-fits .ensures) ∙ not-false _ (c .before .before .before .before .before .before .before .before .before .if1 .left))) (puts-after _ _ _ _ _ _ 1 _ refl (c .before .before .before .before .before .before .before .put .ensures) (c .before .before .before .put-standard .ensures))
+returns-2 c =
+    let past = c .before .before .before .before .before .before .before in
+    puts-as _ _ _ _ _ _ (code-sent _ _ (sym (past .before .before .before .code-fits .ensures) ∙ not-false _ (past .before .before .if1 .left))) (puts-after _ _ _ _ _ _ 1 _ refl (past .put .ensures) (c .before .before .before .put-standard .ensures))
 
 pub put-time-code-spec : {M : Type 1} → statement M
 put-time-code-spec =

@@ -25,7 +25,9 @@ same-length : tie.Need-same-length
 same-length c = search needs
 
 returns-2 : tie.Need-returns-2
-returns-2 c = named-as _ _ _ _ _ _ _ _ _ _ (write-inside _ _ (sym (c .before .before .before .before .before .before .before .is-inside .ensures) ∙ not-false _ (c .before .before .before .before .before .before .if1 .left))) refl (c .before .before .before .of .ensures) (c .before .before .put-named .ensures)
+returns-2 c =
+    let past = c .before .before .before .before .before .before in
+    named-as _ _ _ _ _ _ _ _ _ _ (write-inside _ _ (sym (past .before .is-inside .ensures) ∙ not-false _ (past .if1 .left))) refl (c .before .before .before .of .ensures) (c .before .before .put-named .ensures)
 
 pub put-write-spec : {M : Type 1} → statement M
 put-write-spec =

@@ -42,7 +42,9 @@ same-length : tie.Need-same-length
 same-length c = search needs
 
 returns-4 : tie.Need-returns-4
-returns-4 c = puts _ _ _ _ _ _ (of-rule _ _ _ (c .before .before .before .before .before .before .before .enum-told .given .1) ∙ count-high _ (c .before .before .before .before .before .before .if3 .left) (sym (c .before .all-low2 .ensures) ∙ not-true _ (c .if4 .taken))) refl (c .before .before .before .before .put .ensures)
+returns-4 c =
+    let past = c .before .before .before .before in
+    puts _ _ _ _ _ _ (of-rule _ _ _ (past .before .before .before .enum-told .given .1) ∙ count-high _ (past .before .before .if3 .left) (sym (c .before .all-low2 .ensures) ∙ not-true _ (c .if4 .taken))) refl (past .put .ensures)
 
 add-put-part : tie.Need-add-put-part
 add-put-part c = search needs
@@ -57,13 +59,17 @@ same-length-2 : tie.Need-same-length-2
 same-length-2 c = search needs
 
 returns-5 : tie.Need-returns-5
-returns-5 c = puts _ _ _ _ _ _ (of-rule _ _ _ (c .before .before .before .before .before .before .before .before .rule .given .1) ∙ fixed-low _ _ (c .before .before .before .before .before .before .if1 .left) (sym (c .before .before .before .before .before .all-low .ensures) ∙ not-false _ (c .before .before .before .before .if2 .left))) (c .before .before .before .before .before .before .if1 .left) (c .before .before .put-part .ensures)
+returns-5 c =
+    let past = c .before .before .before .before in
+    puts _ _ _ _ _ _ (of-rule _ _ _ (past .before .before .before .before .rule .given .1) ∙ fixed-low _ _ (past .before .before .if1 .left) (sym (past .before .all-low .ensures) ∙ not-false _ (past .if2 .left))) (past .before .before .if1 .left) (c .before .before .put-part .ensures)
 
 same-length-3 : tie.Need-same-length-3
 same-length-3 c = search needs
 
 returns-6 : tie.Need-returns-6
-returns-6 c = puts _ _ _ _ _ _ (of-rule _ _ _ (c .before .before .before .before .before .before .before .before .before .before .before .enum-told .given .1) ∙ count-low _ (c .before .before .before .before .before .before .before .before .before .before .if3 .left) (sym (c .before .before .before .before .before .all-low2 .ensures) ∙ not-false _ (c .before .before .before .before .if4 .left))) (omega arith) (overlay-then _ _ _ _ _ (_ ∷ []) _ (c .before .before .before .before .before .before .before .before .put .ensures) (c .before .before .put-part2 .ensures) refl)
+returns-6 c =
+    let past = c .before .before .before .before in
+    puts _ _ _ _ _ _ (of-rule _ _ _ (past .before .before .before .before .before .before .before .enum-told .given .1) ∙ count-low _ (past .before .before .before .before .before .before .if3 .left) (sym (past .before .all-low2 .ensures) ∙ not-false _ (past .if4 .left))) (omega arith) (overlay-then _ _ _ _ _ (_ ∷ []) _ (past .before .before .before .before .put .ensures) (c .before .before .put-part2 .ensures) refl)
 
 pub put-by-rule-spec : {M : Type 1} → statement M
 put-by-rule-spec =

@@ -23,10 +23,14 @@ put-part-requires : tie.Need-put-part-requires
 put-part-requires c κs = search needs
 
 sub-length-of : tie.Need-sub-length-of
-sub-length-of c = omega (arith, name-length _ (sym (c .before .before .before .before .before .before .before .name-fits .ensures) ∙ not-false _ (c .before .before .before .before .before .before .if1 .left)))
+sub-length-of c =
+    let past = c .before .before .before .before .before .before in
+    omega (arith, name-length _ (sym (past .before .name-fits .ensures) ∙ not-false _ (past .if1 .left)))
 
 shared-slice-read-length-of : tie.Need-shared-slice-read-length-of
-shared-slice-read-length-of c = omega (arith, name-length _ (sym (c .before .before .before .before .before .before .before .before .name-fits .ensures) ∙ not-false _ (c .before .before .before .before .before .before .before .if1 .left)))
+shared-slice-read-length-of c =
+    let past = c .before .before .before .before .before .before .before in
+    omega (arith, name-length _ (sym (past .before .name-fits .ensures) ∙ not-false _ (past .if1 .left)))
 
 length-of-requires : tie.Need-length-of-requires
 length-of-requires c κs = search needs
@@ -35,16 +39,22 @@ add-put-by-rule : tie.Need-add-put-by-rule
 add-put-by-rule c = search needs
 
 put-by-rule-requires : tie.Need-put-by-rule-requires
-put-by-rule-requires c κs = omega (arith, name-length _ (sym (c .before .before .before .before .before .before .before .before .before .before .name-fits .ensures) ∙ not-false _ (c .before .before .before .before .before .before .before .before .before .if1 .left)))
+put-by-rule-requires c κs =
+    let past = c .before .before .before .before .before .before .before .before .before in
+    omega (arith, name-length _ (sym (past .before .name-fits .ensures) ∙ not-false _ (past .if1 .left)))
 
 add-t19 : tie.Need-add-t19
-add-t19 c = omega (arith, name-length _ (sym (c .before .before .before .before .before .before .before .before .before .before .before .before .before .before .name-fits .ensures) ∙ not-false _ (c .before .before .before .before .before .before .before .before .before .before .before .before .before .if1 .left)), ap (λ (o : Extent). o .len) (c .before .before .before .put-by-rule .ensures .0), rule-length (c .before .before .before .before .before .length-of .result) (c .before .before .before .before .before .before .before .before .before .before .before .before .before .before .before .before .before .before .args .«data» .now), c .before .before .before .before .before .before .before .before .before .before .before .before .before .before .before .before .before .before .good)
+add-t19 c =
+    let past = c .before .before .before .before .before in
+    omega (arith, name-length _ (sym (past .before .before .before .before .before .before .before .before .before .name-fits .ensures) ∙ not-false _ (past .before .before .before .before .before .before .before .before .if1 .left)), ap (λ (o : Extent). o .len) (c .before .before .before .put-by-rule .ensures .0), rule-length (past .length-of .result) (past .before .before .before .before .before .before .before .before .before .before .before .before .before .args .«data» .now), past .before .before .before .before .before .before .before .before .before .before .before .before .before .good)
 
 same-length : tie.Need-same-length
 same-length c = search needs
 
 returns-3 : tie.Need-returns-3
-returns-3 c = named-puts _ _ _ (sym (c .before .before .before .before .before .before .before .before .before .before .before .before .before .before .name-fits .ensures) ∙ not-false _ (c .before .before .before .before .before .before .before .before .before .before .before .before .before .if1 .left)) (sym (c .before .before .before .before .before .before .before .before .before .before .before .before .all-low .ensures) ∙ not-false _ (c .before .before .before .before .before .before .before .before .before .before .before .if2 .left)) _ (c .before .before .before .before .before .length-of .ensures) _ _ _ _ _ (c .before .before .before .before .before .before .before .before .before .put-part .ensures) (c .before .before .before .put-by-rule .ensures)
+returns-3 c =
+    let past = c .before .before .before .before .before in
+    named-puts _ _ _ (sym (past .before .before .before .before .before .before .before .before .before .name-fits .ensures) ∙ not-false _ (past .before .before .before .before .before .before .before .before .if1 .left)) (sym (past .before .before .before .before .before .before .before .all-low .ensures) ∙ not-false _ (past .before .before .before .before .before .before .if2 .left)) _ (past .length-of .ensures) _ _ _ _ _ (past .before .before .before .before .put-part .ensures) (c .before .before .before .put-by-rule .ensures)
 
 pub put-named-spec : {M : Type 1} → statement M
 put-named-spec =

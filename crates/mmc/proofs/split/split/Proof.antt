@@ -37,7 +37,9 @@ enum-told : tie.Need-enum-told
 enum-told c = search needs
 
 returns-2 : tie.Need-returns-2
-returns-2 c = no-count _ _ _ _ (c .before .before .before .before .before .before .prefixes .ensures) (c .before .before .before .before .before .if1 .left) (sym (c .before .before .before .length-of .ensures) ∙ c .before .enum-told .given .1) (c .if2 .taken)
+returns-2 c =
+    let past = c .before .before .before .before .before in
+    no-count _ _ _ _ (past .before .prefixes .ensures) (past .if1 .left) (sym (c .before .before .before .length-of .ensures) ∙ c .before .enum-told .given .1) (c .if2 .taken)
 
 add-measure : tie.Need-add-measure
 add-measure c = search needs
@@ -46,16 +48,22 @@ shared-slice-read-measure : tie.Need-shared-slice-read-measure
 shared-slice-read-measure c = search needs
 
 cast-measure : tie.Need-cast-measure
-cast-measure c = omega (arith, c .shared-slice-known3 .given (c .before .before .before .before .before .before .before .before .before .args .at + c .before .before .before .before .before .before .before .prefixes .result + 1))
+cast-measure c =
+    let past = c .before .before .before .before .before .before .before in
+    omega (arith, c .shared-slice-known3 .given (past .before .before .args .at + past .prefixes .result + 1))
 
 measure-requires-2 : tie.Need-measure-requires-2
 measure-requires-2 c κs = search needs
 
 returns-3 : tie.Need-returns-3
-returns-3 c = c .measure .ensures ∙ fixed-data _ _ _ _ (c .before .before .before .before .before .before .before .prefixes .ensures) (c .before .before .before .before .before .before .if1 .left) _ (sym (c .before .before .before .before .length-of .ensures) ∙ c .before .before .n .given .1)
+returns-3 c =
+    let past = c .before .before .before .before in
+    c .measure .ensures ∙ fixed-data _ _ _ _ (past .before .before .before .prefixes .ensures) (past .before .before .if1 .left) _ (sym (past .length-of .ensures) ∙ c .before .before .n .given .1)
 
 returns-4 : tie.Need-returns-4
-returns-4 c = c .measure2 .ensures ∙ counted-data _ _ _ _ (c .before .before .before .before .before .before .before .before .prefixes .ensures) (c .before .before .before .before .before .before .before .if1 .left) (sym (c .before .before .before .before .before .length-of .ensures) ∙ c .before .before .before .enum-told .given .1) (c .before .before .if2 .left)
+returns-4 c =
+    let past = c .before .before .before .before .before in
+    c .measure2 .ensures ∙ counted-data _ _ _ _ (past .before .before .before .prefixes .ensures) (past .before .before .if1 .left) (sym (past .length-of .ensures) ∙ c .before .before .before .enum-told .given .1) (c .before .before .if2 .left)
 
 pub split-spec : {M : Type 1} → statement M
 split-spec =

@@ -18,7 +18,9 @@ same-length : tie.Need-same-length
 same-length c = search needs
 
 returns-2 : tie.Need-returns-2
-returns-2 c = (opens-responses _ _ _ (c .before .before .before .before .before .if1 .left) (c .writer-of .ensures) (c .before .before .before .«open» .ensures .0), left-as _ _ _ 0 _ (response-opening _ (c .before .before .before .before .before .if1 .left)) (c .before .before .before .«open» .ensures .1))
+returns-2 c =
+    let past = c .before .before .before .before .before in
+    (opens-responses _ _ _ (past .if1 .left) (c .writer-of .ensures) (c .before .before .before .«open» .ensures .0), left-as _ _ _ 0 _ (response-opening _ (past .if1 .left)) (c .before .before .before .«open» .ensures .1))
 
 pub open-responses-spec : {M : Type 1} → statement M
 open-responses-spec =

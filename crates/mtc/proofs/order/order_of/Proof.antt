@@ -37,12 +37,15 @@ ordered-requires-2 c κs = search needs
 
 returns-2 : tie.Need-returns-2
 returns-2 c =
+    let past = c .before .before .before .before in
     c .ordered2 .ensures
-    ∙ order-next _ _ (c .before .before .before .before .before .before .before .last .given .1) (c .before .before .before .before .direction .given .1)
+    ∙ order-next _ _ (past .before .before .before .last .given .1) (past .direction .given .1)
     (sym (c .before .before .after .ensures .0) ∙ c .before .if1 .taken)
 
 direction-between-requires-2 : tie.Need-direction-between-requires-2
-direction-between-requires-2 c κs = sound-last _ (c .before .before .before .before .before .before .before .before .pre) (c .before .before .before .before .before .before .last .given .1)
+direction-between-requires-2 c κs =
+    let past = c .before .before .before .before .before .before in
+    sound-last _ (past .before .before .pre) (past .last .given .1)
 
 out-of-order-requires-2 : tie.Need-out-of-order-requires-2
 out-of-order-requires-2 c κs = search needs
@@ -54,8 +57,9 @@ returns-3 c =
 
 returns-4 : tie.Need-returns-4
 returns-4 c =
+    let past = c .before .before .before .before .before in
     c .out-of-order2 .ensures
-    ∙ order-turned _ _ (c .before .before .before .before .before .before .before .before .last .given .1) (c .before .direction-between2 .ensures) (c .before .before .before .before .before .direction .given .1)
+    ∙ order-turned _ _ (past .before .before .before .last .given .1) (c .before .direction-between2 .ensures) (past .direction .given .1)
     (λ e. c .before .before .if1 .left (c .before .before .before .after .ensures .0 ∙ e))
 
 pub order-of-spec : {M : Type 1} → statement M

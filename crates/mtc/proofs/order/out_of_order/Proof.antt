@@ -39,8 +39,9 @@ ordered-requires-3 c κs = search needs
 
 returns-3 : tie.Need-returns-3
 returns-3 c =
+    let past = c .before .before .before .before .before in
     c .ordered3 .ensures
-    ∙ second _ _ _ (c .before .before .before .before .before .enum-told3 .given .1) (c .before .before .before .before .before .before .before .before .found .given .1) (c .before .before .before .if1 .left)
+    ∙ second _ _ _ (past .enum-told3 .given .1) (past .before .before .before .found .given .1) (c .before .before .before .if1 .left)
     (c .before .before .first .ensures .0)
 
 ordered-requires-4 : tie.Need-ordered-requires-4

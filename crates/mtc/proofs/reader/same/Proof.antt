@@ -9,16 +9,22 @@ returns c = other-hours (c .before .before .before .args .t) (c .before .before 
     (c .if1 .taken)
 
 returns-2 : tie.Need-returns-2
-returns-2 c = other-minutes (c .before .before .before .before .before .before .args .t) (c .before .before .before .before .before .before .args .u)
+returns-2 c =
+    let past = c .before .before .before .before .before .before in
+    other-minutes (past .args .t) (past .args .u)
     (c .before .before .before .if1 .left) (c .if2 .taken)
 
 returns-3 : tie.Need-returns-3
-returns-3 c = other-seconds (c .before .before .before .before .before .before .before .before .before .args .t) (c .before .before .before .before .before .before .before .before .before .args .u)
-    (c .before .before .before .before .before .before .if1 .left) (c .before .before .before .if2 .left) (c .if3 .taken)
+returns-3 c =
+    let past = c .before .before .before .before .before .before in
+    other-seconds (past .before .before .before .args .t) (past .before .before .before .args .u)
+    (past .if1 .left) (c .before .before .before .if2 .left) (c .if3 .taken)
 
 returns-4 : tie.Need-returns-4
-returns-4 c = other-frames (c .before .before .before .before .before .before .before .before .before .before .before .before .args .t) (c .before .before .before .before .before .before .before .before .before .before .before .before .args .u)
-    (c .before .before .before .before .before .before .before .before .before .if1 .left) (c .before .before .before .before .before .before .if2 .left) (c .before .before .before .if3 .left) (c .if4 .taken)
+returns-4 c =
+    let past = c .before .before .before .before .before .before in
+    other-frames (past .before .before .before .before .before .before .args .t) (past .before .before .before .before .before .before .args .u)
+    (past .before .before .before .if1 .left) (past .if2 .left) (c .before .before .before .if3 .left) (c .if4 .taken)
 
 into-bits-requires : tie.Need-into-bits-requires
 into-bits-requires c κs = search needs
@@ -28,8 +34,9 @@ into-bits-requires-2 c κs = search needs
 
 returns-5 : tie.Need-returns-5
 returns-5 c =
-    same-counts (c .before .before .before .before .before .before .before .before .before .before .before .before .before .before .args .t) (c .before .before .before .before .before .before .before .before .before .before .before .before .before .before .args .u)
-    (c .before .before .before .before .before .before .before .before .before .before .before .if1 .left) (c .before .before .before .before .before .before .before .before .if2 .left) (c .before .before .before .before .before .if3 .left) (c .before .before .if4 .left)
+    let past = c .before .before .before .before .before in
+    same-counts (past .before .before .before .before .before .before .before .before .before .args .t) (past .before .before .before .before .before .before .before .before .before .args .u)
+    (past .before .before .before .before .before .before .if1 .left) (past .before .before .before .if2 .left) (past .if3 .left) (c .before .before .if4 .left)
     (c .before .into-bits .ensures) (c .into-bits2 .ensures)
 
 pub same-spec : {M : Type 1} → statement M

@@ -63,7 +63,8 @@ loop-less c =
 
 loop-again : tie.Need-loop-again Inv-loop μ-loop
 loop-again c =
-    let turn = c .before .before .before .before .before .obey-next in
+    let past = c .before .before .before .before .before in
+    let turn = past .obey-next in
     let given = c .before .before .before .answer .given .1 in
     let t = on-turn _ _ _ _ _ (turn .result) (turn .ensures) _ _ given in (
       omega (arith, t .0),
@@ -71,7 +72,7 @@ loop-again c =
         omega (arith, c .one-refused .ensures .1),
         (
           t .1,
-          next-turn _ _ _ _ _ (turn .result) (turn .ensures) _ _ _ (c .before .before .before .before .before .before .loop .inv .1 .1 .1) _ _
+          next-turn _ _ _ _ _ (turn .result) (turn .ensures) _ _ _ (past .before .loop .inv .1 .1 .1) _ _
               (c .one-refused .result) given (omega (arith, t .0, t .1)) (c .one-refused .ensures .0),
         ),
       ),

@@ -28,7 +28,9 @@ enum-told : tie.Need-enum-told
 enum-told c = search needs
 
 returns : tie.Need-returns
-returns c = located-so _ _ _ _ (sym (c .before .before .before .before .before .before .resolve .ensures) ∙ ap targetOf (c .before .before .before .before .time .given .1)) (c .done .ensures ∙ ap finished (c .before .set-running .ensures ∙ ap (λ (g : MtcGenerator). withRunning g false) (c .before .before .locate .ensures)))
+returns c =
+    let past = c .before .before .before .before in
+    located-so _ _ _ _ (sym (past .before .before .resolve .ensures) ∙ ap targetOf (past .time .given .1)) (c .done .ensures ∙ ap finished (c .before .set-running .ensures ∙ ap (λ (g : MtcGenerator). withRunning g false) (c .before .before .locate .ensures)))
 
 returns-2 : tie.Need-returns-2
 returns-2 c = located-so _ _ _ _ (sym (c .before .before .resolve .ensures) ∙ ap targetOf (c .enum-told .given .1)) refl

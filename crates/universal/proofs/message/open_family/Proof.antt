@@ -18,7 +18,8 @@ same-length c = search needs
 
 returns-2 : tie.Need-returns-2
 returns-2 c =
-    plain-high _ _ _ (c .before .before .before .before .before .before .before .before .pre) _ (c .before .before .before .before .before .before .has-sub-id2 .ensures) _ _ (c .before .before .before .put-start .ensures) (c .before .before .before .before .before .if1 .left) (c .if2 .taken)
+    let past = c .before .before .before .before .before in
+    plain-high _ _ _ (past .before .before .before .pre) _ (past .before .has-sub-id2 .ensures) _ _ (c .before .before .before .put-start .ensures) (past .if1 .left) (c .if2 .taken)
 
 put-requires : tie.Need-put-requires
 put-requires c κs = search needs
@@ -28,8 +29,9 @@ same-length-2 c = search needs
 
 returns-3 : tie.Need-returns-3
 returns-3 c =
-    plain-whole _ _ _ (c .before .before .before .before .before .before .before .before .before .before .before .before .pre) _ (c .before .before .before .before .before .before .before .before .before .before .has-sub-id2 .ensures) _ _ (c .before .before .before .before .before .before .before .put-start .ensures)
-    (c .before .before .before .before .before .before .before .before .before .if1 .left) (c .before .before .before .before .if2 .left) _ (c .before .before .put .ensures)
+    let past = c .before .before .before .before in
+    plain-whole _ _ _ (past .before .before .before .before .before .before .before .before .pre) _ (past .before .before .before .before .before .before .has-sub-id2 .ensures) _ _ (past .before .before .before .put-start .ensures)
+    (past .before .before .before .before .before .if1 .left) (past .if2 .left) _ (c .before .before .put .ensures)
 
 pub open-family-spec : {M : Type 1} → statement M
 open-family-spec =

@@ -18,7 +18,8 @@ same-length c = search needs
 
 returns-2 : tie.Need-returns-2
 returns-2 c =
-    with-high _ _ _ (c .before .before .before .before .before .before .before .before .pre) _ (c .before .before .before .before .before .before .has-sub-id2 .ensures) _ _ (c .before .before .before .put-start .ensures) _ (c .before .before .before .before .before .if1 .left) (c .if2 .taken)
+    let past = c .before .before .before .before .before in
+    with-high _ _ _ (past .before .before .before .pre) _ (past .before .has-sub-id2 .ensures) _ _ (c .before .before .before .put-start .ensures) _ (past .if1 .left) (c .if2 .taken)
 
 put-requires : tie.Need-put-requires
 put-requires c κs = search needs
@@ -28,8 +29,9 @@ same-length-2 c = search needs
 
 returns-3 : tie.Need-returns-3
 returns-3 c =
-    with-high-sub-id2 _ _ _ (c .before .before .before .before .before .before .before .before .before .before .before .before .before .pre) _ (c .before .before .before .before .before .before .before .before .before .before .before .has-sub-id2 .ensures) _ _ (c .before .before .before .before .before .before .before .before .put-start .ensures) _
-    (c .before .before .before .before .before .before .before .before .before .before .if1 .left) (c .before .before .before .before .before .if2 .left) _ (c .before .before .before .put .ensures) (c .if3 .taken)
+    let past = c .before .before .before .before .before in
+    with-high-sub-id2 _ _ _ (past .before .before .before .before .before .before .before .before .pre) _ (past .before .before .before .before .before .before .has-sub-id2 .ensures) _ _ (past .before .before .before .put-start .ensures) _
+    (past .before .before .before .before .before .if1 .left) (past .if2 .left) _ (c .before .before .before .put .ensures) (c .if3 .taken)
 
 put-requires-2 : tie.Need-put-requires-2
 put-requires-2 c κs = search needs
@@ -39,8 +41,9 @@ same-length-3 c = search needs
 
 returns-4 : tie.Need-returns-4
 returns-4 c =
-    with-whole _ _ _ (c .before .before .before .before .before .before .before .before .before .before .before .before .before .before .before .before .before .pre) _ (c .before .before .before .before .before .before .before .before .before .before .before .before .before .before .before .has-sub-id2 .ensures) _ _ (c .before .before .before .before .before .before .before .before .before .before .before .before .put-start .ensures) _
-    (c .before .before .before .before .before .before .before .before .before .before .before .before .before .before .if1 .left) (c .before .before .before .before .before .before .before .before .before .if2 .left) _ (c .before .before .before .before .before .before .before .put .ensures) (c .before .before .before .before .if3 .left) _ (c .before .before .put2 .ensures)
+    let past = c .before .before .before .before in
+    with-whole _ _ _ (past .before .before .before .before .before .before .before .before .before .before .before .before .before .pre) _ (past .before .before .before .before .before .before .before .before .before .before .before .has-sub-id2 .ensures) _ _ (past .before .before .before .before .before .before .before .before .put-start .ensures) _
+    (past .before .before .before .before .before .before .before .before .before .before .if1 .left) (past .before .before .before .before .before .if2 .left) _ (past .before .before .before .put .ensures) (past .if3 .left) _ (c .before .before .put2 .ensures)
 
 pub open-with-sub-id2-spec : {M : Type 1} → statement M
 open-with-sub-id2-spec =

@@ -23,8 +23,9 @@ same-length c = search needs
 
 returns : tie.Need-returns
 returns c =
+    let past = c .before .before .before .before .before .before in
     overlay-then _ _ _ 0 2 (_ ∷ _ ∷ []) (_ ∷ [])
-    (overlay-then _ _ _ 0 1 (_ ∷ []) (_ ∷ []) (c .before .before .before .before .before .before .before .before .before .before .before .put .ensures) (c .before .before .before .before .before .before .put2 .ensures ∙ rw (c .before .before .before .before .before .before .before .class-id .ensures)) refl)
+    (overlay-then _ _ _ 0 1 (_ ∷ []) (_ ∷ []) (past .before .before .before .before .before .put .ensures) (past .put2 .ensures ∙ rw (past .before .class-id .ensures)) refl)
     (c .before .before .put3 .ensures) refl
 
 pub put-start-spec : {M : Type 1} → statement M

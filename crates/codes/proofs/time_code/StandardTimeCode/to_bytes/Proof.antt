@@ -30,10 +30,14 @@ flag-of-requires-2 : tie.Need-flag-of-requires-2
 flag-of-requires-2 c κs = search needs
 
 add-sc : tie.Need-add-sc
-add-sc c = omega (arith, label-widths _ _ (c .before .before .before .before .before .is-valid .ensures) (c .before .before .before .before .if2 .left) .seconds)
+add-sc c =
+    let past = c .before .before .before .before in
+    omega (arith, label-widths _ _ (past .before .is-valid .ensures) (past .if2 .left) .seconds)
 
 frames-byte-requires : tie.Need-frames-byte-requires
-frames-byte-requires c κs = label-widths _ _ (c .before .before .before .before .before .is-valid .ensures) (c .before .before .before .before .if2 .left) .frames
+frames-byte-requires c κs =
+    let past = c .before .before .before .before in
+    label-widths _ _ (past .before .is-valid .ensures) (past .if2 .left) .frames
 
 hours-byte-requires : tie.Need-hours-byte-requires
 hours-byte-requires c κs = search needs
@@ -42,7 +46,9 @@ value-requires : tie.Need-value-requires
 value-requires c κs = search needs
 
 returns-3 : tie.Need-returns-3
-returns-3 c = standard-given _ _ (c .before .before .before .before .before .before .before .before .before .before .before .fits2 .ensures) (c .before .before .before .before .before .before .before .before .before .before .if1 .left) _ _ (c .before .before .before .before .before .before .before .before .before .written-label .ensures) (c .before .before .before .before .before .before .before .before .is-valid .ensures) (c .before .before .before .before .before .before .before .if2 .left) _ _ _ _ _ (c .before .hours-byte .ensures) (c .before .before .before .before .before .before .flag-of .ensures .0) (c .before .before .before .before .flag-of2 .ensures .0) (c .before .before .frames-byte .ensures) (c .value .ensures)
+returns-3 c =
+    let past = c .before .before .before .before in
+    standard-given _ _ (past .before .before .before .before .before .before .before .fits2 .ensures) (past .before .before .before .before .before .before .if1 .left) _ _ (past .before .before .before .before .before .written-label .ensures) (past .before .before .before .before .is-valid .ensures) (past .before .before .before .if2 .left) _ _ _ _ _ (c .before .hours-byte .ensures) (past .before .before .flag-of .ensures .0) (past .flag-of2 .ensures .0) (c .before .before .frames-byte .ensures) (c .value .ensures)
 
 pub to-bytes-spec : {M : Type 1} → statement M
 to-bytes-spec =

@@ -24,14 +24,16 @@ frames-per-second-requires c κs = search needs
 
 returns-4 : tie.Need-returns-4
 returns-4 c =
-    frames-over _ _ (c .before .before .before .before .before .before .before .if1 .left) (c .before .before .before .before .before .if2 .left) (c .before .before .before .if3 .left) (c .before .before .frames-per-second .ensures) (c .if4 .taken)
+    let past = c .before .before .before .before .before in
+    frames-over _ _ (past .before .before .if1 .left) (past .if2 .left) (c .before .before .before .if3 .left) (c .before .before .frames-per-second .ensures) (c .if4 .taken)
 
 skipped-requires : tie.Need-skipped-requires
 skipped-requires c κs = search needs
 
 returns-5 : tie.Need-returns-5
 returns-5 c =
-    ap not (c .skipped .ensures) ∙ all-in-range _ _ (c .before .before .before .before .before .before .before .before .if1 .left) (c .before .before .before .before .before .before .if2 .left) (c .before .before .before .before .if3 .left) (c .before .before .before .frames-per-second .ensures) (c .before .if4 .left)
+    let past = c .before .before .before .before in
+    ap not (c .skipped .ensures) ∙ all-in-range _ _ (past .before .before .before .before .if1 .left) (past .before .before .if2 .left) (past .if3 .left) (c .before .before .before .frames-per-second .ensures) (c .before .if4 .left)
 
 pub is-valid-spec : {M : Type 1} → statement M
 is-valid-spec =

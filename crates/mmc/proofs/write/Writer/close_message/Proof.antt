@@ -31,7 +31,9 @@ same-length : tie.Need-same-length
 same-length c = search needs
 
 returns-4 : tie.Need-returns-4
-returns-4 c = ends-closed _ _ _ _ (close-sent _ (sym (c .before .before .before .before .before .before .before .before .or-failed .ensures) ∙ ap stopOf (c .before .before .before .before .before .before .enum-told .given .1)) (c .before .before .before .before .before .if1 .left) (omega (arith, c .before .before .before .before .if2 .left))) (omega (arith, c .before .before .before .before .if2 .left)) (c .before .before .close .ensures .0) (c .before .before .close .ensures .1) (omega (arith, c .before .before .before .before .before .before .before .before .before .before .good))
+returns-4 c =
+    let past = c .before .before .before .before in
+    ends-closed _ _ _ _ (close-sent _ (sym (past .before .before .before .before .or-failed .ensures) ∙ ap stopOf (past .before .before .enum-told .given .1)) (past .before .if1 .left) (omega (arith, past .if2 .left))) (omega (arith, past .if2 .left)) (c .before .before .close .ensures .0) (c .before .before .close .ensures .1) (omega (arith, past .before .before .before .before .before .before .good))
 
 pub close-message-spec : {M : Type 1} → statement M
 close-message-spec =

@@ -24,16 +24,22 @@ enum-told : tie.Need-enum-told
 enum-told c = search needs
 
 put-command-requires : tie.Need-put-command-requires
-put-command-requires c κs = goes-on (writingOf (c .before .before .before .before .before .before .args .self)) (ready-told (writingOf (c .before .before .before .before .before .before .args .self)) (sym (c .before .before .before .ready .ensures) ∙ ap stopOf (c .before .enum-told .given .1)) .0) .1
+put-command-requires c κs =
+    let past = c .before .before .before .before .before .before in
+    goes-on (writingOf (past .args .self)) (ready-told (writingOf (past .args .self)) (sym (c .before .before .before .ready .ensures) ∙ ap stopOf (c .before .enum-told .given .1)) .0) .1
 
 after-requires : tie.Need-after-requires
-after-requires c κs = omega (arith, goes-on (writingOf (c .before .before .before .before .before .before .before .before .before .args .self)) (ready-told (writingOf (c .before .before .before .before .before .before .before .before .before .args .self)) (sym (c .before .before .before .before .before .before .ready .ensures) ∙ ap stopOf (c .before .before .before .before .enum-told .given .1)) .0), ready-told (writingOf (c .before .before .before .before .before .before .before .before .before .args .self)) (sym (c .before .before .before .before .before .before .ready .ensures) ∙ ap stopOf (c .before .before .before .before .enum-told .given .1)) .1, ap (λ (o : Extent). o .len) (c .before .before .put-command .ensures .0), command-small (c .before .before .before .before .before .before .before .before .before .args .source .now) (c .before .before .before .before .before .before .before .before .before .args .command))
+after-requires c κs =
+    let past = c .before .before .before .before in
+    omega (arith, goes-on (writingOf (past .before .before .before .before .before .args .self)) (ready-told (writingOf (past .before .before .before .before .before .args .self)) (sym (past .before .before .ready .ensures) ∙ ap stopOf (past .enum-told .given .1)) .0), ready-told (writingOf (past .before .before .before .before .before .args .self)) (sym (past .before .before .ready .ensures) ∙ ap stopOf (past .enum-told .given .1)) .1, ap (λ (o : Extent). o .len) (c .before .before .put-command .ensures .0), command-small (past .before .before .before .before .before .args .source .now) (past .before .before .before .before .before .args .command))
 
 same-length : tie.Need-same-length
 same-length c = search needs
 
 returns-2 : tie.Need-returns-2
-returns-2 c = put-gives _ _ _ _ _ _ _ (takes _ _ (sym (c .before .before .before .before .before .before .before .ready .ensures) ∙ ap stopOf (c .before .before .before .before .before .enum-told .given .1))) (c .before .before .before .put-command .ensures) (c .after .ensures)
+returns-2 c =
+    let past = c .before .before .before .before .before in
+    put-gives _ _ _ _ _ _ _ (takes _ _ (sym (past .before .before .ready .ensures) ∙ ap stopOf (past .enum-told .given .1))) (c .before .before .before .put-command .ensures) (c .after .ensures)
 
 pub put-command-spec : {M : Type 1} → statement M
 put-command-spec =

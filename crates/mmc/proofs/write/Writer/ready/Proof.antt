@@ -25,7 +25,9 @@ returns-3 : tie.Need-returns-3
 returns-3 c = ready-full _ (sym (c .before .before .before .before .or-failed .ensures) ∙ ap stopOf (c .before .before .enum-told .given .1)) (c .if3 .taken)
 
 returns-4 : tie.Need-returns-4
-returns-4 c = ready-on _ (sym (c .before .before .before .before .or-failed .ensures) ∙ ap stopOf (c .before .before .enum-told .given .1)) (under-256 _ (goes-on (writingOf (c .before .before .before .before .before .before .before .args .self)) (sym (c .before .before .before .before .or-failed .ensures) ∙ ap stopOf (c .before .before .enum-told .given .1)) .0) (c .if3 .left))
+returns-4 c =
+    let past = c .before .before .before .before in
+    ready-on _ (sym (past .or-failed .ensures) ∙ ap stopOf (c .before .before .enum-told .given .1)) (under-256 _ (goes-on (writingOf (past .before .before .before .args .self)) (sym (past .or-failed .ensures) ∙ ap stopOf (c .before .before .enum-told .given .1)) .0) (c .if3 .left))
 
 pub ready-spec : {M : Type 1} → statement M
 ready-spec =

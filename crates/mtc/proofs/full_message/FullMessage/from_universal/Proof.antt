@@ -33,9 +33,10 @@ raw-requires c κs = search needs
 
 returns-3 : tie.Need-returns-3
 returns-3 c =
+    let past = c .before .before .before .before .before in
     full-whole _ _ _
-    (sym (c .before .before .before .before .before .before .before .is-time-code .ensures) ∙ not-false _ (c .before .before .before .before .before .before .if1 .left))
-    (c .before .before .before .before .before .if2 .left)
+    (sym (past .before .before .is-time-code .ensures) ∙ not-false _ (past .before .if1 .left))
+    (past .if2 .left)
     (c .raw .ensures)
 
 pub from-universal-spec : {M : Type 1} → statement M

@@ -34,10 +34,11 @@ same-length c = search needs
 
 returns-3 : tie.Need-returns-3
 returns-3 c =
-    full-written _ _ (c .before .before .before .before .before .before .before .before .before .if1 .left) _ _ _ _
-    (sym (c .before .before .before .before .before .before .before .before .is-valid .ensures) ∙ not-false _ (c .before .before .before .before .before .before .before .if2 .left))
-    (c .before .before .before .before .before .time-code .ensures)
-    (c .before .before .before .before .before .before .hours-byte .ensures)
+    let past = c .before .before .before .before .before in
+    full-written _ _ (past .before .before .before .before .if1 .left) _ _ _ _
+    (sym (past .before .before .before .is-valid .ensures) ∙ not-false _ (past .before .before .if2 .left))
+    (past .time-code .ensures)
+    (past .before .hours-byte .ensures)
     (c .before .before .write .ensures)
 
 pub write-spec : {M : Type 1} → statement M

@@ -34,8 +34,9 @@ send-requires-2 c κs = search needs
 
 returns-3 : tie.Need-returns-3
 returns-3 c =
-    answers _ (c .send2 .result) (not-false _ (c .before .before .before .before .before .before .before .if1 .left))
-    (known-above (c .before .before .before .before .last .given .1) (c .before .before .if2 .taken)) refl
+    let past = c .before .before .before .before in
+    answers _ (c .send2 .result) (not-false _ (past .before .before .before .if1 .left))
+    (known-above (past .last .given .1) (c .before .before .if2 .taken)) refl
     (c .before .first2 .ensures .0) (c .send2 .ensures)
 
 moved-on-requires : tie.Need-moved-on-requires
@@ -49,8 +50,9 @@ send-requires-3 c κs = search needs
 
 returns-4 : tie.Need-returns-4
 returns-4 c =
-    answers _ (c .send3 .result) (not-false _ (c .before .before .before .before .before .before .before .before .if1 .left))
-    (known-within (c .before .before .before .before .before .last .given .1) (c .before .before .before .if2 .left))
+    let past = c .before .before .before .before .before in
+    answers _ (c .send3 .result) (not-false _ (past .before .before .before .if1 .left))
+    (known-within (past .last .given .1) (c .before .before .before .if2 .left))
     (c .before .before .moved-on .ensures) (c .before .after .ensures .0) (c .send3 .ensures)
 
 pub next-byte-spec : {M : Type 1} → statement M

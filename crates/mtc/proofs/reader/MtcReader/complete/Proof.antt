@@ -19,7 +19,8 @@ event-requires c κs = search needs
 
 returns : tie.Need-returns
 returns c =
-    let e = sequence-is (c .before .before .before .before .before .before .before .args .self) (c .before .before .before .before .before .raw .ensures) (c .before .before .before .before .way .ensures) (c .before .before .before .report .ensures) in
+    let past = c .before .before .before .before in
+    let e = sequence-is (past .before .before .before .args .self) (past .before .raw .ensures) (past .way .ensures) (c .before .before .before .report .ensures) in
     (rw e, c .event .ensures ∙ rw e)
 
 pub complete-spec : {M : Type 1} → statement M

@@ -25,8 +25,9 @@ nibbles-fit-requires c κs = search needs
 
 returns-4 : tie.Need-returns-4
 returns-4 c =
+    let past = c .before .before .before .before in
     c .nibbles-fit .ensures
-    ∙ sound-but _ (c .before .before .before .before .before .before .if1 .left) (c .before .before .before .before .if2 .left)
+    ∙ sound-but _ (past .before .before .if1 .left) (past .if2 .left)
     (sym (c .before .before .before .piece-fits .ensures) ∙ not-false _ (c .before .before .if3 .left))
 
 pub is-sound-spec : {M : Type 1} → statement M

@@ -24,7 +24,8 @@ event-requires c κs = search needs
 
 returns : tie.Need-returns
 returns c =
-    passes _ _ (c .before .before .before .before .before .before .or-fresh .ensures .0) (c .before .before .before .before .before .from-byte .ensures) (c .before .before .before .before .order-of .ensures) (c .before .before .before .number-of .ensures .0)
+    let past = c .before .before .before .before in
+    passes _ _ (past .before .before .or-fresh .ensures .0) (past .before .from-byte .ensures) (past .order-of .ensures) (c .before .before .before .number-of .ensures .0)
     (c .before .before .if1 .taken) (c .before .passed .ensures) (c .event .ensures)
 
 stored-requires : tie.Need-stored-requires
@@ -32,12 +33,14 @@ stored-requires c κs = piece-small _ _ (c .before .before .before .from-byte .e
 
 complete-requires : tie.Need-complete-requires
 complete-requires c κs =
+    let past = c .before .before .before .before .before in
     rw (c .before .stored .ensures)
-    (fit-set 8 _ _ _ (sound-nibbles _ (c .before .before .before .before .before .before .or-fresh .ensures .1)) (value-small _ _ (c .before .before .before .before .before .from-byte .ensures)))
+    (fit-set 8 _ _ _ (sound-nibbles _ (past .before .or-fresh .ensures .1)) (value-small _ _ (past .from-byte .ensures)))
 
 returns-2 : tie.Need-returns-2
 returns-2 c =
-    completes _ _ (c .before .before .before .before .before .before .before .or-fresh .ensures .0) (c .before .before .before .before .before .before .from-byte .ensures) (c .before .before .before .before .before .order-of .ensures) (c .before .before .before .before .number-of .ensures .0)
+    let past = c .before .before .before .before in
+    completes _ _ (past .before .before .before .or-fresh .ensures .0) (past .before .before .from-byte .ensures) (past .before .order-of .ensures) (past .number-of .ensures .0)
     (c .before .if2 .taken) (c .before .before .stored .ensures) (c .complete .ensures)
 
 event-requires-2 : tie.Need-event-requires-2
@@ -45,7 +48,8 @@ event-requires-2 c κs = search needs
 
 returns-3 : tie.Need-returns-3
 returns-3 c =
-    keeps _ _ (c .before .before .before .before .before .before .before .or-fresh .ensures .0) (c .before .before .before .before .before .before .from-byte .ensures) (c .before .before .before .before .before .order-of .ensures) (c .before .before .before .before .number-of .ensures .0)
+    let past = c .before .before .before .before in
+    keeps _ _ (past .before .before .before .or-fresh .ensures .0) (past .before .before .from-byte .ensures) (past .before .order-of .ensures) (past .number-of .ensures .0)
     (c .before .before .before .if1 .left) (c .before .if2 .left) (c .before .before .stored .ensures) (c .event2 .ensures)
 
 pub step-spec : {M : Type 1} → statement M

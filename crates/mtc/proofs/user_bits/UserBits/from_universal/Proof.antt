@@ -52,9 +52,10 @@ shared-slice-read-t11-2 c = search needs
 
 returns-3 : tie.Need-returns-3
 returns-3 c =
+    let past = c .before .before .before .before .before .before .before .before .before in
     bits-whole _ _
-    (sym (c .before .before .before .before .before .before .before .before .before .before .before .is-time-code .ensures) ∙ not-false _ (c .before .before .before .before .before .before .before .before .before .before .if1 .left))
-    (c .before .before .before .before .before .before .before .before .before .if2 .left)
+    (sym (past .before .before .is-time-code .ensures) ∙ not-false _ (past .before .if1 .left))
+    (past .if2 .left)
 
 pub from-universal-spec : {M : Type 1} → statement M
 from-universal-spec =

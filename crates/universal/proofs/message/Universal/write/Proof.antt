@@ -33,7 +33,8 @@ put-part-requires c κs = search needs
 
 add-close : tie.Need-add-close
 add-close c =
-    omega (arith, at-most-five _ _ _ _ (put-opened _ _ (c .before .before .before .before .before .before .before .before .at .given .1) (c .before .before .before .before .before .before .before .before .before .before .before .before .«open» .ensures)))
+    let past = c .before .before .before .before .before .before .before .before in
+    omega (arith, at-most-five _ _ _ _ (put-opened _ _ (past .at .given .1) (past .before .before .before .before .«open» .ensures)))
 
 close-requires : tie.Need-close-requires
 close-requires c κs = search needs
@@ -50,9 +51,10 @@ same-length-3 c = search needs
 
 returns-3 : tie.Need-returns-3
 returns-3 c =
-    message-ends _ _ _ _ _ (put-opened _ _ (c .before .before .before .before .before .before .before .before .before .before .before .at .given .1) (c .before .before .before .before .before .before .before .before .before .before .before .before .before .before .before .«open» .ensures)) _ _ _
-    (sym (c .before .before .before .before .before .before .before .before .before .all-low .ensures) ∙ not-false _ (c .before .before .before .before .before .before .before .before .if1 .left))
-    (c .before .before .before .before .before .before .put-part .ensures)
+    let past = c .before .before .before .before .before .before in
+    message-ends _ _ _ _ _ (put-opened _ _ (past .before .before .before .before .before .at .given .1) (past .before .before .before .before .before .before .before .before .before .«open» .ensures)) _ _ _
+    (sym (past .before .before .before .all-low .ensures) ∙ not-false _ (past .before .before .if1 .left))
+    (past .put-part .ensures)
     (c .before .before .close .ensures .0)
     (c .before .before .close .ensures .1)
     (omega arith)
