@@ -21,9 +21,9 @@ use Rattle.fast_mmc.specs.Words.{afterWords, closedOut, wordsState, word
 use Rattle.mmc.specs.Length.{within}
 use Rattle.mmc.specs.Named.{extentOf}
 use Rattle.mmc.specs.declared.write.Writer.{Writer}
-use Rattle.mmc.specs.Write.{Writing, writingOf, openedCommands, begun, admitted, itemsAfter, writingPast, writingAfter, orFailed, closedMessage, closeAnswer, wholeMessage}
+use Rattle.mmc.specs.Write.{Writing, writingOf, openedCommands, begun, admitted, itemsAfter, writingPast, writingAfter, orFailed, closedMessage, wholeMessage}
 use Rattle.mmc.specs.Writings.{State}
-use Rattle.universal.specs.Emission.{Emission, sent, refusing, check, resume, _then_}
+use Rattle.universal.specs.Emission.{Emission, sent, refusing, check, resume, _then_, answerIn}
 use Rattle.universal.specs.Overlay.{overlay}
 use Rattle.universal.specs.Refusals.{Refusal, Answer, gives, refused, refusal, tooSmall}
 use Rattle.universal.proofs.Laws.{length-overlay, overlay-none}
@@ -249,16 +249,16 @@ pub ends-any : (at i : ℕ) (out : List ℕ) (a : WrittenNumbers) (left : List �
 ends-any at i out a left few near p =
     let same : wholeMessage (openWriting at 0) (length out) ≡ wholeMessage (openWriting at i) (length out) =
     whole-ended (openWriting at 0) (length out)
-    ∙ ap (λ (e : Emission). closeAnswer (e .stop) (at + 1) (length out)) (any-items at i few near)
+    ∙ ap (λ (e : Emission). answerIn (e .stop) (at + 1) (length out)) (any-items at i few near)
     ∙ sym (whole-ended (openWriting at i) (length out)) in
     (p .0 ∙ ap writtenNumbers same, p .1 ∙ ap (λ (e : Emission). overlay out at (e .bytes)) (any-items at i few near))
 
 module _ (at : ℕ) (near : at ≤ 40000) (out : List ℕ) where
-  ends-as : (e : Emission) (a : Answer ℕ) (left : List ℕ) → closedMessage (openWriting at 0) ≡ e → a ≡ closeAnswer (e .stop) (at + 1) (length out)
+  ends-as : (e : Emission) (a : Answer ℕ) (left : List ℕ) → closedMessage (openWriting at 0) ≡ e → a ≡ answerIn (e .stop) (at + 1) (length out)
       → left ≡ overlay out at (e .bytes) → ClosesWith (record { writing = openWriting at 0; out = out }) (length out) (writtenNumbers a) left
   ends-as e a left q p l = (
     ap writtenNumbers
-        (p ∙ sym (whole-ended (openWriting at 0) (length out) ∙ ap (λ (x : Emission). closeAnswer (x .stop) (at + 1) (length out)) q)),
+        (p ∙ sym (whole-ended (openWriting at 0) (length out) ∙ ap (λ (x : Emission). answerIn (x .stop) (at + 1) (length out)) q)),
     l ∙ ap (λ (x : Emission). overlay out at (x .bytes)) (sym q),
   )
 
@@ -336,7 +336,7 @@ unfolding writtenNumbers neededOf
 barred-ends out =
     let c = close-repeats (barred (refusal 5)) (refusal 5) (barred-sound (refusal 5)) in (
       ap writtenNumbers
-          (sym (whole-ended (barred (refusal 5)) (length out) ∙ ap (λ (x : Emission). closeAnswer (x .stop) 1 (length out)) c)),
+          (sym (whole-ended (barred (refusal 5)) (length out) ∙ ap (λ (x : Emission). answerIn (x .stop) 1 (length out)) c)),
       sym (ap (λ (x : Emission). overlay out 0 (x .bytes)) c ∙ overlay-none out 0),
     )
 

@@ -19,11 +19,11 @@ use Rattle.mmc.specs.Rp013.{Item, Message, subId1, lastDevice, envelope}
 use Rattle.mmc.specs.Strings.{Given, emission, emissions, pairsOf, anyZeros, itemBytes, pairOf, AcceptedItem, readFrom, ruleOf, withCount, dataFits, itemFits, meanings}
 use Rattle.mmc.specs.Message.{messageFrom}
 use Rattle.mmc.specs.Write as W
-use Rattle.mmc.specs.Write.{Writing, orFailed, openedCommands, admitted, writingPast, closedFields, closeAnswer, wholeMessage, wholeFields}
+use Rattle.mmc.specs.Write.{Writing, orFailed, openedCommands, admitted, writingPast, closedFields, wholeMessage, wholeFields}
 use Rattle.mmc.specs.Writings.{State, opened, afterItem, afterItems, openingOf, stringState, stringAnswer, stringLeft, stringOf, headerOf, upToClose, bodyOf, fieldsOpened, fieldsAnswer, fieldsLeft}
 use Rattle.mmc.specs.WholeLists.{messageEmission, fieldsEmission, Accepts, AcceptsFields, checks, checksBy, AllAccepted, NoneRefused, NoneRefusedFields, ReadBack, Entry, entryEmission, afterEntry, afterEntries, entriesEmission, HoldsAll, Repeats, InLimits}
 use Rattle.universal.specs.Refusals.{Refusal, refusal, gives}
-use Rattle.universal.specs.Emission.{Emission, sent, refusing, check, resume, _then_, answer}
+use Rattle.universal.specs.Emission.{Emission, sent, refusing, check, resume, _then_, answer, answerIn}
 use Rattle.universal.specs.Message.{opening}
 use Rattle.universal.specs.Overlay.{overlay}
 use Rattle.universal.proofs.Laws.{overlay-none, then-sent, then-assoc, then-accepted, answer-fits, answer-gives, opening-plain, all-low-byte, none-some}
@@ -284,9 +284,9 @@ repeats-now r s t f p u =
       position = p;
       untouched = u;
       next-item = λ x. repeats (t .writing) (entryEmission x) r (sym (ready-failed (t .writing) r f));
-      as-message = λ room. ap (λ (e : Emission). closeAnswer (e .stop) (t .writing .at + 1) room) c;
+      as-message = λ room. ap (λ (e : Emission). answerIn (e .stop) (t .writing .at + 1) room) c;
       no-close = ap (λ (e : Emission). e .bytes) c;
-      as-fields = λ room. ap (λ (k : Option Refusal). closeAnswer (resume [] k (sent []) .stop) (t .writing .at) room) f;
+      as-fields = λ room. ap (λ (k : Option Refusal). answerIn (resume [] k (sent []) .stop) (t .writing .at) room) f;
     }
 
 -- One more call leaves it failed by the same refusal.

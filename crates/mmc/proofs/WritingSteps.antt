@@ -14,11 +14,11 @@ use Rattle.mmc.specs.Item.{commandItem, isSubframes, locateTargetItem, s
 use Rattle.mmc.specs.Length.{within}
 use Rattle.mmc.specs.Named.{extentOf}
 use Rattle.mmc.specs.Strings.{Given}
-use Rattle.mmc.specs.Write.{Writing, orFailed, openedCommands, begun, ready, admitted, writingPast, writingAfter, closedMessage, closeAnswer, wholeMessage}
+use Rattle.mmc.specs.Write.{Writing, orFailed, openedCommands, begun, ready, admitted, writingPast, writingAfter, closedMessage, wholeMessage}
 use Rattle.mmc.specs.Writings.{State, opened, afterItem, afterItems, openingOf, stringState, stringAnswer, stringLeft}
 use Rattle.codes.specs.declared.time_code.StandardTimeCode.{StandardTimeCode}
 use Rattle.codes.specs.TimeCode.{standardFits, standardList}
-use Rattle.universal.specs.Emission.{Emission, sent, refusing, check, resume, _then_}
+use Rattle.universal.specs.Emission.{Emission, sent, refusing, check, resume, _then_, answerIn}
 use Rattle.universal.specs.Message.{header}
 use Rattle.universal.specs.Overlay.{overlay}
 use Rattle.universal.specs.Refusals.{Refusal, refusal, Answer}
@@ -113,7 +113,7 @@ unfolding closedMessage
 closed-after w = refl
 
 -- Its answer is its refusal, else the length against the buffer's.
-pub whole-ended : (w : Writing) (room : ℕ) → wholeMessage w room ≡ closeAnswer (closedMessage w .stop) (w .at + 1) room
+pub whole-ended : (w : Writing) (room : ℕ) → wholeMessage w room ≡ answerIn (closedMessage w .stop) (w .at + 1) room
 unfolding wholeMessage
 whole-ended w room = refl
 

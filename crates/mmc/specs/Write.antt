@@ -10,7 +10,7 @@ use Rattle.mmc.specs.declared.write.Writer.{Writer}
 use Rattle.mmc.specs.Length.{within}
 use Rattle.mmc.specs.Named.{Extent, stopOf, extentOf}
 use Rattle.universal.specs.Refusals.{Refusal, refusal, Answer, gives, refused}
-use Rattle.universal.specs.Emission.{Emission, sent, check, resume, _then_, fitted}
+use Rattle.universal.specs.Emission.{Emission, sent, check, resume, _then_, answerIn}
 use Rattle.universal.specs.Message.{opening, header}
 use Rattle.universal.specs.Overlay.{overlay}
 use Rattle.universal.specs.declared.message.MaybeSubId2.the-variants.{NoSubId2}
@@ -92,12 +92,8 @@ unfoldable pub closedFields : Writing → Emission
 closedFields w = resume [] (orFailed w .stop) (sent [])
 
 -- The answer of a close: its refusal, else the length against the buffer's.
-abbrev pub closeAnswer : Option Refusal → ℕ → ℕ → Answer ℕ
-closeAnswer none n room = fitted (leb n room) n
-closeAnswer (some r) n room = refused r
-
 unfoldable pub wholeMessage : Writing → ℕ → Answer ℕ
-wholeMessage w room = closeAnswer (closedMessage w .stop) (w .at + 1) room
+wholeMessage w room = answerIn (closedMessage w .stop) (w .at + 1) room
 
 unfoldable pub wholeFields : Writing → ℕ → Answer ℕ
-wholeFields w room = closeAnswer (closedFields w .stop) (w .at) room
+wholeFields w room = answerIn (closedFields w .stop) (w .at) room

@@ -129,6 +129,11 @@ then-accepted d e h = go (d .stop) h
     go none p = (refl, p)
     go (some r) p = absurd (none-some r p)
 
+-- The answer by the refusal and the length.
+pub answer-by : (e : Emission) (room : ℕ) → answer e room ≡ answerIn (e .stop) (length (e .bytes)) room
+unfolding answer
+answer-by e room = refl
+
 -- The answer of a message that is not refused and fits is its length.
 pub answer-fits : (e : Emission) (room : ℕ) → e .stop ≡ none → length (e .bytes) ≤ room
     → answer e room ≡ gives (length (e .bytes))

@@ -18,10 +18,10 @@ use Rattle.mmc.specs.Named.{extentOf}
 use Rattle.mmc.specs.Rp013.{subId1}
 use Rattle.mmc.specs.Strings.{Given, emission, emissions}
 use Rattle.mmc.specs.Write as W
-use Rattle.mmc.specs.Write.{Writing, orFailed, openedCommands, openedResponses, begun, ready, admitted, writingPast, closedMessage, closeAnswer, wholeMessage}
+use Rattle.mmc.specs.Write.{Writing, orFailed, openedCommands, openedResponses, begun, ready, admitted, writingPast, closedMessage, wholeMessage}
 use Rattle.mmc.specs.Writings.{State, opened, afterItem, afterItems, openingOf, stringState, stringAnswer, stringLeft}
 use Rattle.universal.specs.Refusals.{Refusal, refusal, gives, refused}
-use Rattle.universal.specs.Emission.{Emission, sent, check, _then_, fitted}
+use Rattle.universal.specs.Emission.{Emission, sent, check, _then_, fitted, answerIn}
 use Rattle.universal.specs.Message.{opening, header}
 use Rattle.universal.specs.Overlay.{overlay}
 use Rattle.universal.specs.declared.message.MaybeSubId2.the-variants.{NoSubId2}
@@ -151,7 +151,7 @@ record Closed (w : Writing) (room n : ℕ) : Type 0 where
   close : closedMessage w ≡ sent (247 ∷ [])
 
 -- An answer with a length came after no refusal, and the length fits.
-pub ended-gives : (s : Option Refusal) (m room n : ℕ) → closeAnswer s m room ≡ gives n → (s ≡ none) × (n ≡ m) × (n ≤ room)
+pub ended-gives : (s : Option Refusal) (m room n : ℕ) → answerIn s m room ≡ gives n → (s ≡ none) × (n ≡ m) × (n ≤ room)
 ended-gives none m room n e = go (leb m room) refl e
   where
     go : (b : Bool) → leb m room ≡ b → fitted b m ≡ gives n → (_≡_ {A = Option Refusal} none none) × (n ≡ m) × (n ≤ room)

@@ -17,7 +17,7 @@ use Rattle.mmc.specs.Length.{within}
 use Rattle.mmc.specs.Rp013.{subId1, lastDevice}
 use Rattle.mmc.specs.Strings.{Given, emission, emissions, withCount}
 use Rattle.mmc.specs.Write as W
-use Rattle.mmc.specs.Write.{Writing, orFailed, openedCommands, openedFields, begun, admitted, closedMessage, closedFields, closeAnswer, wholeMessage, wholeFields}
+use Rattle.mmc.specs.Write.{Writing, orFailed, openedCommands, openedFields, begun, admitted, closedMessage, closedFields, wholeMessage, wholeFields}
 use Rattle.mmc.specs.Writings.{State, opened, afterItem, afterItems, openingOf, fieldsOpened}
 use Rattle.mmc.specs.WholeLists.{checks, checksBy, Entry, entry, entryEmission, afterEntry, afterEntries, entriesEmission}
 use Rattle.universal.specs.Refusals.{Refusal}
@@ -25,7 +25,7 @@ use Rattle.universal.specs.Emission.{Emission, sent, refusing, check, resume, _
 use Rattle.universal.specs.Message.{header}
 use Rattle.universal.specs.Overlay.{overlay}
 use Rattle.universal.specs.declared.message.MaybeSubId2.the-variants.{NoSubId2}
-use Rattle.universal.proofs.Laws.{overlay-none, overlay-append, then-sent, then-refused, then-assoc, opening-device, opening-plain}
+use Rattle.universal.proofs.Laws.{overlay-none, overlay-append, then-sent, then-refused, then-assoc, answer-by, opening-device, opening-plain}
 use Rattle.mmc.proofs.Writing.ItemPuts.{command-small, field-small}
 use Rattle.mmc.proofs.RangeTests.{within-range, below-range, above-range}
 use Rattle.mmc.proofs.Writing.WriterCalls.{ready-kept, ready-failed, repeats, takes, no-response, response-opening}
@@ -246,13 +246,14 @@ pub record HeldToEnd (found : List ℕ) (e : Emission) (s : State) : Type 0 wher
 
 pub ends-message : (found : List ℕ) (e : Emission) (most : ℕ) (s : State) → Holds found e most s
     → HeldToEnd found (e then check (within 5 53 (length (e .bytes))) 2 then sent (247 ∷ [])) s
-unfolding wholeMessage answer
+unfolding wholeMessage
 ends-message found e most s h =
     let c = closes found e most s h in
     record {
       answers =
-          ap₂ (λ (x : Emission) (k : ℕ). closeAnswer (x .stop) (k + 1) (length found)) c (h .at)
-          ∙ go (e .stop) (within 5 53 (length (e .bytes)));
+          ap₂ (λ (x : Emission) (k : ℕ). answerIn (x .stop) (k + 1) (length found)) c (h .at)
+          ∙ go (e .stop) (within 5 53 (length (e .bytes)))
+          ∙ sym (answer-by (e then check (within 5 53 (length (e .bytes))) 2 then sent (247 ∷ [])) (length found));
       leaves =
           ap₂ (λ (x : Emission) (k : ℕ). overlay (s .out) k (x .bytes)) c (h .at ∙ sym (zero-add (length (e .bytes))))
           ∙ ap (λ (l : List ℕ). overlay l (0 + length (e .bytes)) (added (e .stop) (within 5 53 (length (e .bytes))) .bytes)) (h .out)
@@ -268,7 +269,7 @@ ends-message found e most s h =
     put (some r) b = append-nil (e .bytes)
 
     go : (t : Option Refusal) (b : Bool)
-        → closeAnswer (added t b .stop) (length (e .bytes) + 1) (length found)
+        → answerIn (added t b .stop) (length (e .bytes) + 1) (length found)
         ≡ answerIn (resume (e .bytes) t (check b 2 then sent (247 ∷ [])) .stop)
         (length (resume (e .bytes) t (check b 2 then sent (247 ∷ [])) .bytes)) (length found)
     go none true = ap (λ (k : ℕ). fitted (leb k (length found)) k) (sym (length-append (e .bytes) (247 ∷ [])))
@@ -278,13 +279,14 @@ ends-message found e most s h =
 -- Closed as fields it answers its own length.
 pub ends-fields : (found : List ℕ) (e : Emission) (most : ℕ) (s : State) → Holds found e most s
     → wholeFields (s .writing) (length found) ≡ answer e (length found)
-unfolding wholeFields closedFields answer
+unfolding wholeFields closedFields
 ends-fields found e most s h =
-    ap₂ (λ (t : Option Refusal) (k : ℕ). closeAnswer (resume [] t (sent []) .stop) k (length found))
+    ap₂ (λ (t : Option Refusal) (k : ℕ). answerIn (resume [] t (sent []) .stop) k (length found))
     (ap (λ (v : Writing). v .stop) (kept-sound (s .writing) (h .kept)) ∙ h .stop) (h .at)
     ∙ go (e .stop)
+    ∙ sym (answer-by e (length found))
   where
-    go : (t : Option Refusal) → closeAnswer (resume [] t (sent []) .stop) (length (e .bytes)) (length found) ≡ answerIn t (length (e .bytes)) (length found)
+    go : (t : Option Refusal) → answerIn (resume [] t (sent []) .stop) (length (e .bytes)) (length found) ≡ answerIn t (length (e .bytes)) (length found)
     go none = refl
     go (some r) = refl
 

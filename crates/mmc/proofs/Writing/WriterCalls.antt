@@ -15,9 +15,9 @@ use Rattle.codes.specs.declared.time_code.Checked.the-variants.{Accepted, Refus
 use Rattle.universal.specs.declared.error.SysexError.{SysexError}
 use Rattle.mmc.specs.Length.{within}
 use Rattle.mmc.specs.Named.{Extent, stopOf, extentOf}
-use Rattle.mmc.specs.Write.{Writing, orFailed, openedCommands, openedResponses, begun, opensAt, ready, admitted, itemsAfter, writingPast, writingAfter, closedMessage, closedFields, closeAnswer, wholeMessage, wholeFields}
+use Rattle.mmc.specs.Write.{Writing, orFailed, openedCommands, openedResponses, begun, opensAt, ready, admitted, itemsAfter, writingPast, writingAfter, closedMessage, closedFields, wholeMessage, wholeFields}
 use Rattle.universal.specs.Refusals.{Refusal, refusal, tooSmall, Answer, gives, refused}
-use Rattle.universal.specs.Emission.{Emission, sent, refusing, check, resume, _then_, fitted, reached}
+use Rattle.universal.specs.Emission.{Emission, sent, refusing, check, resume, _then_, fitted, reached, answerIn}
 use Rattle.universal.specs.Message.{opening, header, hasSubId2, closing}
 use Rattle.universal.specs.Overlay.{overlay}
 use Rattle.universal.specs.declared.message.MaybeSubId2.the-variants.{NoSubId2}
@@ -205,7 +205,7 @@ module _ (w : Writing) where
       → (a ≡ wholeMessage w (length out)) × (left ≡ overlay out (w .at) (closedMessage w .bytes))
   unfolding wholeMessage
   ends-closed a out left q m p l room = (
-    p ∙ go (leb (w .at + 1) (length out)) refl ∙ ap (λ (x : Emission). closeAnswer (x .stop) (w .at + 1) (length out)) (sym q),
+    p ∙ go (leb (w .at + 1) (length out)) refl ∙ ap (λ (x : Emission). answerIn (x .stop) (w .at + 1) (length out)) (sym q),
     l ∙ ap (λ (x : Emission). overlay out (w .at) (x .bytes)) (sym q),
   )
     where

@@ -56,9 +56,7 @@ same-length : tie.Need-same-length
 same-length c = search needs
 
 returns-4 : tie.Need-returns-4
-returns-4 c =
-    let past = c .before .before .before .before in
-    (search needs, put-usual _ _ _ _ (past .before .before .before .before .before .before .pre .1) (past .before .before .before .is-in-range .ensures (not-false _ (past .before .before .if2 .left)) .top) (usual-of _ (past .before .before .before .is-in-range .ensures (not-false _ (past .before .before .if2 .left))) (past .before .is-kept .ensures (not-false _ (past .if3 .left)))) (c .before .before .put-locate-bytes .ensures))
+returns-4 c = (search needs, put-usual _ _ _ _ (c .before .before .before .before .before .before .before .before .before .before .pre .1) (c .before .before .before .before .before .before .before .is-in-range .ensures (not-false _ (c .before .before .before .before .before .before .if2 .left)) .top) (usual-of _ (c .before .before .before .before .before .before .before .is-in-range .ensures (not-false _ (c .before .before .before .before .before .before .if2 .left))) (c .before .before .before .before .before .is-kept .ensures (not-false _ (c .before .before .before .before .if3 .left)))) (c .before .before .put-locate-bytes .ensures))
 
 pub put-locate-spec : {M : Type 1} → statement M
 put-locate-spec =

@@ -37,9 +37,7 @@ same-length : tie.Need-same-length
 same-length c = search needs
 
 returns-6 : tie.Need-returns-6
-returns-6 c =
-    let past = c .before .before .before .before in
-    (search needs, put-four _ _ _ _ _ _ _ _ (word-move-sent _ (past .before .before .before .before .before .before .pre .1) (past .before .before .before .before .if1 .left) (omega (arith, past .before .before .before .if2 .left)) (past .before .before .if3 .left) (omega (arith, past .before .if4 .left)) (past .if5 .left)) (c .before .before .put-four .ensures))
+returns-6 c = (search needs, put-four _ _ _ _ _ _ _ _ (word-move-sent _ (c .before .before .before .before .before .before .before .before .before .before .pre .1) (c .before .before .before .before .before .before .before .before .if1 .left) (omega (arith, c .before .before .before .before .before .before .before .if2 .left)) (c .before .before .before .before .before .before .if3 .left) (omega (arith, c .before .before .before .before .before .if4 .left)) (c .before .before .before .before .if5 .left)) (c .before .before .put-four .ensures))
 
 pub put-move-spec : {M : Type 1} → statement M
 put-move-spec = tie.close (tie.spec cast-destination cast-source returns returns-2 returns-3 returns-4 returns-5 put-four-requires add-result same-length returns-6)

@@ -27,9 +27,7 @@ same-length : tie.Need-same-length
 same-length c = search needs
 
 returns-4 : tie.Need-returns-4
-returns-4 c =
-    let past = c .before .before .before .before in
-    (search needs, put-four _ _ _ _ _ _ _ _ (field-sent _ (past .before .before .before .before .pre .1) (past .before .before .if1 .left) (past .before .if2 .left) (past .if3 .left)) (c .before .before .put-four .ensures))
+returns-4 c = (search needs, put-four _ _ _ _ _ _ _ _ (field-sent _ (c .before .before .before .before .before .before .before .before .pre .1) (c .before .before .before .before .before .before .if1 .left) (c .before .before .before .before .before .if2 .left) (c .before .before .before .before .if3 .left)) (c .before .before .put-four .ensures))
 
 pub put-register-spec : {M : Type 1} → statement M
 put-register-spec = tie.close (tie.spec cast-register returns returns-2 returns-3 put-four-requires add-result same-length returns-4)

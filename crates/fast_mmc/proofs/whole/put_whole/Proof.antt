@@ -21,9 +21,7 @@ same-length : tie.Need-same-length
 same-length c = search needs
 
 returns : tie.Need-returns
-returns c =
-    let past = c .before .before .before .before in
-    (search needs, put-name _ _ _ _ _ (omega (arith, past .if1 .taken)) (low-sent _ (past .if1 .taken)) (c .before .before .put .ensures))
+returns c = (search needs, put-name _ _ _ _ _ (omega (arith, c .before .before .before .before .if1 .taken)) (low-sent _ (c .before .before .before .before .if1 .taken)) (c .before .before .put .ensures))
 
 put-locate-requires : tie.Need-put-locate-requires
 put-locate-requires c κs = search needs

@@ -2,7 +2,7 @@
 use mathlib.Core.Path.{sym, _∙_, ap}
 use mir.Syntax.{w32}
 use mir.ValLaws.{toZ-ofZ}
-use Rattle.labels.proofs.Laws.{day-positive, passed-mod}
+use Rattle.labels.proofs.Laws.{day-positive, passed-mod, sum-fits}
 use Rattle.fast_mtc.specs.Label.{labelNumber}
 use Rattle.fast_mtc.proofs.LabelShortWays.{drop-count-below, drop-added, added}
 use borrow.Author.Needs.{needs}

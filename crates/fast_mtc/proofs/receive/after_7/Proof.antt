@@ -26,9 +26,7 @@ element-write-r-3 : tie.Need-element-write-r-3
 element-write-r-3 c = search needs
 
 go-forward-requires : tie.Need-go-forward-requires
-go-forward-requires c κs =
-    let past = c .before .before .before .before .before in
-    (search needs, kept-7 (past .args .r .now) (c .before .before .before .has-words .ensures) (past .pre) .0)
+go-forward-requires c κs = (search needs, kept-7 (c .before .before .before .before .before .args .r .now) (c .before .before .before .has-words .ensures) (c .before .before .before .before .before .pre) .0)
 
 returns-2 : tie.Need-returns-2
 returns-2 c =
@@ -39,9 +37,7 @@ element-write-r-4 : tie.Need-element-write-r-4
 element-write-r-4 c = search needs
 
 go-nowhere-requires : tie.Need-go-nowhere-requires
-go-nowhere-requires c κs =
-    let past = c .before .before .before .before .before in
-    (search needs, kept-7 (past .args .r .now) (c .before .before .before .has-words .ensures) (past .pre) .1)
+go-nowhere-requires c κs = (search needs, kept-7 (c .before .before .before .before .before .args .r .now) (c .before .before .before .has-words .ensures) (c .before .before .before .before .before .pre) .1)
 
 returns-3 : tie.Need-returns-3
 returns-3 c = begun-7-apart _ _ _ _ (c .before .before .before .before .has-words .ensures) (c .before .before .before .before .before .before .pre) (c .before .before .before .if1 .left) (c .before .before .if2 .left) (c .go-nowhere .ensures)

@@ -11,25 +11,19 @@ element-copy-out-order : tie.Need-element-copy-out-order
 element-copy-out-order c = search needs
 
 go-forward-requires : tie.Need-go-forward-requires
-go-forward-requires c κs =
-    let past = c .before .before .before .before .before in
-    (search needs, kept-none (past .args .r .now) (c .before .before .before .has-words .ensures) (past .pre))
+go-forward-requires c κs = (search needs, kept-none (c .before .before .before .before .before .args .r .now) (c .before .before .before .has-words .ensures) (c .before .before .before .before .before .pre))
 
 returns : tie.Need-returns
 returns c = first-of-all _ _ _ _ _ (c .before .before .before .before .before .before .pre) (way-forward _ (c .before .before .if1 .taken)) (c .go-forward .ensures)
 
 go-reverse-requires : tie.Need-go-reverse-requires
-go-reverse-requires c κs =
-    let past = c .before .before .before .before in
-    (search needs, kept-none (past .before .before .args .r .now) (past .has-words .ensures) (past .before .before .pre))
+go-reverse-requires c κs = (search needs, kept-none (c .before .before .before .before .before .before .args .r .now) (c .before .before .before .before .has-words .ensures) (c .before .before .before .before .before .before .pre))
 
 returns-2 : tie.Need-returns-2
 returns-2 c = first-of-all _ _ _ _ _ (c .before .before .before .before .before .before .before .pre) (way-reverse _ (c .before .before .if2 .taken)) (c .go-reverse .ensures)
 
 go-nowhere-requires : tie.Need-go-nowhere-requires
-go-nowhere-requires c κs =
-    let past = c .before .before .before .before in
-    (search needs, kept-none (past .before .before .args .r .now) (past .has-words .ensures) (past .before .before .pre))
+go-nowhere-requires c κs = (search needs, kept-none (c .before .before .before .before .before .before .args .r .now) (c .before .before .before .before .has-words .ensures) (c .before .before .before .before .before .before .pre))
 
 returns-3 : tie.Need-returns-3
 returns-3 c = first-of-all _ _ _ _ _ (c .before .before .before .before .before .before .before .pre) (way-none _ (c .before .before .before .before .before .before .before .pre) (c .before .before .before .if1 .left) (c .before .before .if2 .left)) (c .go-nowhere .ensures)

@@ -20,9 +20,7 @@ add-if2 : tie.Need-add-if2
 add-if2 c = search needs
 
 go-reverse-requires : tie.Need-go-reverse-requires
-go-reverse-requires c κs =
-    let past = c .before .before .before .before in
-    (search needs, kept-forward (past .before .before .args .r .now) (past .has-words .ensures) (c .before .before .if1 .taken))
+go-reverse-requires c κs = (search needs, kept-forward (c .before .before .before .before .before .before .args .r .now) (c .before .before .before .before .has-words .ensures) (c .before .before .if1 .taken))
 
 returns : tie.Need-returns
 returns c =
@@ -30,9 +28,7 @@ returns c =
     forward-turned _ _ _ _ (past .has-words .ensures) (c .before .before .before .if1 .taken) ((past .before .before .pre) .1 .0) (c .before .before .if2 .taken) (c .go-reverse .ensures)
 
 go-forward-requires : tie.Need-go-forward-requires
-go-forward-requires c κs =
-    let past = c .before .before .before .before in
-    (search needs, kept-forward (past .before .before .args .r .now) (past .has-words .ensures) (c .before .before .if1 .taken))
+go-forward-requires c κs = (search needs, kept-forward (c .before .before .before .before .before .before .args .r .now) (c .before .before .before .before .has-words .ensures) (c .before .before .if1 .taken))
 
 returns-2 : tie.Need-returns-2
 returns-2 c =
@@ -49,9 +45,7 @@ add-if3 : tie.Need-add-if3
 add-if3 c = search needs
 
 go-forward-requires-2 : tie.Need-go-forward-requires-2
-go-forward-requires-2 c κs =
-    let past = c .before .before .before .before in
-    (search needs, kept-reverse (past .before .before .args .r .now) (past .has-words .ensures) (c .before .before .if1 .left) ((past .before .before .pre) .0))
+go-forward-requires-2 c κs = (search needs, kept-reverse (c .before .before .before .before .before .before .args .r .now) (c .before .before .before .before .has-words .ensures) (c .before .before .if1 .left) ((c .before .before .before .before .before .before .pre) .0))
 
 returns-3 : tie.Need-returns-3
 returns-3 c =
@@ -59,9 +53,7 @@ returns-3 c =
     reverse-turned _ _ _ _ (past .has-words .ensures) (c .before .before .before .if1 .left) ((past .before .before .pre) .0) ((past .before .before .pre) .1 .1) (c .before .before .if3 .taken) (c .go-forward2 .ensures)
 
 go-reverse-requires-2 : tie.Need-go-reverse-requires-2
-go-reverse-requires-2 c κs =
-    let past = c .before .before .before .before in
-    (search needs, kept-reverse (past .before .before .args .r .now) (past .has-words .ensures) (c .before .before .if1 .left) ((past .before .before .pre) .0))
+go-reverse-requires-2 c κs = (search needs, kept-reverse (c .before .before .before .before .before .before .args .r .now) (c .before .before .before .before .has-words .ensures) (c .before .before .if1 .left) ((c .before .before .before .before .before .before .pre) .0))
 
 returns-4 : tie.Need-returns-4
 returns-4 c =

@@ -14,9 +14,7 @@ add-if1 : tie.Need-add-if1
 add-if1 c = search needs
 
 go-reverse-requires : tie.Need-go-reverse-requires
-go-reverse-requires c κs =
-    let past = c .before .before .before .before .before in
-    (search needs, kept-reverse-out (past .args .r .now) (c .before .before .before .has-words .ensures) ((past .pre) .0) ((past .pre) .1))
+go-reverse-requires c κs = (search needs, kept-reverse-out (c .before .before .before .before .before .args .r .now) (c .before .before .before .has-words .ensures) ((c .before .before .before .before .before .pre) .0) ((c .before .before .before .before .before .pre) .1))
 
 returns : tie.Need-returns
 returns c =
@@ -30,9 +28,7 @@ add-if2 : tie.Need-add-if2
 add-if2 c = search needs
 
 go-forward-requires : tie.Need-go-forward-requires
-go-forward-requires c κs =
-    let past = c .before .before .before .before in
-    (search needs, kept-unlocked (past .before .before .args .r .now) (past .has-words .ensures) (kept-reverse-out (past .before .before .args .r .now) (past .has-words .ensures) ((past .before .before .pre) .0) ((past .before .before .pre) .1)))
+go-forward-requires c κs = (search needs, kept-unlocked (c .before .before .before .before .before .before .args .r .now) (c .before .before .before .before .has-words .ensures) (kept-reverse-out (c .before .before .before .before .before .before .args .r .now) (c .before .before .before .before .has-words .ensures) ((c .before .before .before .before .before .before .pre) .0) ((c .before .before .before .before .before .before .pre) .1)))
 
 returns-2 : tie.Need-returns-2
 returns-2 c =
@@ -40,9 +36,7 @@ returns-2 c =
     out-reverse-turned _ _ _ _ (past .has-words .ensures) ((past .before .before .pre) .0) ((past .before .before .pre) .1) (c .before .before .before .if1 .left) (c .before .before .if2 .taken) (c .go-forward .ensures)
 
 go-reverse-requires-2 : tie.Need-go-reverse-requires-2
-go-reverse-requires-2 c κs =
-    let past = c .before .before .before .before in
-    (search needs, kept-unlocked (past .before .before .args .r .now) (past .has-words .ensures) (kept-reverse-out (past .before .before .args .r .now) (past .has-words .ensures) ((past .before .before .pre) .0) ((past .before .before .pre) .1)))
+go-reverse-requires-2 c κs = (search needs, kept-unlocked (c .before .before .before .before .before .before .args .r .now) (c .before .before .before .before .has-words .ensures) (kept-reverse-out (c .before .before .before .before .before .before .args .r .now) (c .before .before .before .before .has-words .ensures) ((c .before .before .before .before .before .before .pre) .0) ((c .before .before .before .before .before .before .pre) .1)))
 
 returns-3 : tie.Need-returns-3
 returns-3 c =

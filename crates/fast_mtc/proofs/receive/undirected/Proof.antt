@@ -26,9 +26,7 @@ add-if3 : tie.Need-add-if3
 add-if3 c = search needs
 
 go-forward-requires : tie.Need-go-forward-requires
-go-forward-requires c κs =
-    let past = c .before .before .before .before .before in
-    (search needs, (kept-undirected (past .before .before .args .r .now) (past .has-words .ensures) ((past .before .before .pre) .0) (below-40 _ ((past .before .before .pre) .1) (c .before .before .before .if1 .left) (c .before .before .if2 .left))))
+go-forward-requires c κs = (search needs, (kept-undirected (c .before .before .before .before .before .before .before .args .r .now) (c .before .before .before .before .before .has-words .ensures) ((c .before .before .before .before .before .before .before .pre) .0) (below-40 _ ((c .before .before .before .before .before .before .before .pre) .1) (c .before .before .before .if1 .left) (c .before .before .if2 .left))))
 
 returns-3 : tie.Need-returns-3
 returns-3 c =
@@ -39,9 +37,7 @@ add-if4 : tie.Need-add-if4
 add-if4 c = search needs
 
 go-reverse-requires : tie.Need-go-reverse-requires
-go-reverse-requires c κs =
-    let past = c .before .before .before .before in
-    (search needs, (kept-undirected (past .before .before .before .before .args .r .now) (past .before .before .has-words .ensures) ((past .before .before .before .before .pre) .0) (below-40 _ ((past .before .before .before .before .pre) .1) (past .if1 .left) (c .before .before .before .if2 .left))))
+go-reverse-requires c κs = (search needs, (kept-undirected (c .before .before .before .before .before .before .before .before .args .r .now) (c .before .before .before .before .before .before .has-words .ensures) ((c .before .before .before .before .before .before .before .before .pre) .0) (below-40 _ ((c .before .before .before .before .before .before .before .before .pre) .1) (c .before .before .before .before .if1 .left) (c .before .before .before .if2 .left))))
 
 returns-4 : tie.Need-returns-4
 returns-4 c =
@@ -52,9 +48,7 @@ element-write-r : tie.Need-element-write-r
 element-write-r c = search needs
 
 go-nowhere-requires : tie.Need-go-nowhere-requires
-go-nowhere-requires c κs =
-    let past = c .before .before .before .before in
-    (search needs, kept-unlocked (past .before .before .before .before .args .r .now) (past .before .before .has-words .ensures) (kept-undirected (past .before .before .before .before .args .r .now) (past .before .before .has-words .ensures) ((past .before .before .before .before .pre) .0) (below-40 _ ((past .before .before .before .before .pre) .1) (past .if1 .left) (c .before .before .before .if2 .left))))
+go-nowhere-requires c κs = (search needs, kept-unlocked (c .before .before .before .before .before .before .before .before .args .r .now) (c .before .before .before .before .before .before .has-words .ensures) (kept-undirected (c .before .before .before .before .before .before .before .before .args .r .now) (c .before .before .before .before .before .before .has-words .ensures) ((c .before .before .before .before .before .before .before .before .pre) .0) (below-40 _ ((c .before .before .before .before .before .before .before .before .pre) .1) (c .before .before .before .before .if1 .left) (c .before .before .before .if2 .left))))
 
 returns-5 : tie.Need-returns-5
 returns-5 c = second-apart _ _ _ _ (c .before .before .before .before .before .before .before .has-words .ensures) ((c .before .before .before .before .before .before .before .before .before .pre) .0) (below-40 _ ((c .before .before .before .before .before .before .before .before .before .pre) .1) (c .before .before .before .before .before .if1 .left) (c .before .before .before .before .if2 .left)) (c .before .before .before .if3 .left) (c .before .before .if4 .left) (c .go-nowhere .ensures)

@@ -62,11 +62,10 @@ same-length c = search needs
 
 returns-4 : tie.Need-returns-4
 returns-4 c =
-    let past = c .before .before .before .before .before in
-    bits-written _ _ (past .before .before .before .before .before .if1 .left) _ _ _ (search needs)
-    (sym (past .before .before .before .all-nibbles .ensures) ∙ not-false _ (past .before .before .if2 .left))
-    (past .before .if3 .left)
-    (past .time-code .ensures)
+    bits-written _ _ (c .before .before .before .before .before .before .before .before .before .before .if1 .left) _ _ _ (search needs)
+    (sym (c .before .before .before .before .before .before .before .before .all-nibbles .ensures) ∙ not-false _ (c .before .before .before .before .before .before .before .if2 .left))
+    (c .before .before .before .before .before .before .if3 .left)
+    (c .before .before .before .before .before .time-code .ensures)
     (c .before .before .write .ensures)
 
 pub write-spec : {M : Type 1} → statement M
