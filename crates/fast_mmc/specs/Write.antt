@@ -2,7 +2,8 @@
 use Prim.Native.Nat.{ℕ, _+_, _*_, _/_, _%_}
 use mathlib.Core.Bool.{cond}
 use lib.Dec.{eqb}
-use Rattle.fast_mmc.specs.Refusal.{errorOf, flatStop}
+use Rattle.fast_mmc.specs.Refusal.{flatStop}
+use Rattle.universal.specs.Refusals.{errorOf}
 use Rattle.mmc.specs.Write.{Writing, writingOf}
 use Rattle.codes.specs.declared.time_code.Checked.{Checked}
 use Rattle.codes.specs.declared.time_code.Checked.the-variants.{Accepted, Refused}
