@@ -13,6 +13,7 @@ use crate::mmc::*;
 use crate::mtc::*;
 use crate::transport::*;
 use crate::universal::*;
+use crate::words;
 
 const RATES: [TimeCodeType; 4] = [
     TimeCodeType::Fps24,
@@ -1019,8 +1020,8 @@ fn a_number_that_is_no_word_is_refused() {
     ];
     for number in numbers {
         let mut out = [0xAA; 20];
-        let answer = ffi::write_words(&mut out, 0x7F, [1, number, 1].into_iter());
-        if number == ffi::NO_WORD {
+        let answer = words::write_words(&mut out, 0x7F, [1, number, 1].into_iter());
+        if number == words::NO_WORD {
             assert_eq!(answer, None);
             continue;
         }
@@ -1048,7 +1049,7 @@ fn what_is_written_reads_back_as_the_same_word() {
         let Ok(n) = write_commands(&mut out, 0, core::slice::from_ref(command)) else {
             continue;
         };
-        let read = ffi::next_word(&out[4..n - 1], 0).next;
+        let read = words::next_word(&out[4..n - 1], 0).next;
         let blank = matches!(command, MmcCommand::LocateTarget(code) if code.blank);
         // A blank label goes out as zeros.
         let kept = if blank { !0 ^ 0xFFFF_FFFF << 8 } else { !0 };
