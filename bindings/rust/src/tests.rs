@@ -457,13 +457,32 @@ fn universal() {
 }
 
 #[test]
+fn the_version_is_the_archives() {
+    let [major, minor, patch] = [
+        env!("CARGO_PKG_VERSION_MAJOR"),
+        env!("CARGO_PKG_VERSION_MINOR"),
+        env!("CARGO_PKG_VERSION_PATCH"),
+    ]
+    .map(|part| part.parse::<u32>().unwrap());
+    assert_eq!(ffi::VERSION, major * 10_000 + minor * 100 + patch);
+    assert_eq!(ffi::fimbrast_version(), ffi::VERSION);
+}
+
+#[test]
 fn refusals() {
-    for number in 1..=10 {
+    for number in 1..=255 {
         let refusal = SysexError::of(number, 7);
         assert_eq!(refusal.number(), number);
         assert_eq!(SysexError::check(number), Err(SysexError::of(number, 0)));
         assert!(!refusal.to_string().is_empty());
+        // Each refusal of the library has its name here, and no other number has one.
+        let named = refusal != SysexError::Unknown(number);
+        assert_eq!(named, ffi::REFUSALS.contains(&number));
     }
+    assert_eq!(
+        SysexError::Unknown(200).to_string(),
+        "refusal 200, which this crate has no name for"
+    );
     assert_eq!(SysexError::check(0), Ok(()));
     let small = SysexError::BufferTooSmall { needed: 14 };
     assert_eq!(
