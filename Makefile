@@ -9,6 +9,13 @@ COMPARE = compare/target/release/compare
 C_FLAGS = -std=c11 -Wall -Wextra -Wpedantic -Werror -O2
 ARCHIVE = target/staticlib/libfimbrast.a
 
+# What the archive is made of: fimbrast and the crates that its line in crates.txt names. The folders stand here too, for a file that
+# went away.
+ARCHIVE_CRATES := $(addprefix crates/,fimbrast $(shell sed -n 's/^fimbrast://p' crates.txt))
+ARCHIVE_SOURCES := crates.txt $(shell find $(wildcard $(ARCHIVE_CRATES:=/src) $(ARCHIVE_CRATES:=/specs) $(ARCHIVE_CRATES:=/proofs)))
+# FIMBRAST_LIB names another folder that has an archive; then none is built for the Rust parts.
+LINKED = $(if $(FIMBRAST_LIB),,$(ARCHIVE))
+
 # The files that bindings/make_bindings makes from the Rattle source and the version in bindings/rust/Cargo.toml.
 MADE = bindings/c/fimbrast.h bindings/rust/src/ffi.rs crates/fimbrast/src/version.rt crates/fimbrast/specs/Version.antt
 MAKE_BINDINGS = --offline --quiet --manifest-path bindings/make_bindings/Cargo.toml
@@ -51,11 +58,16 @@ words:
 	@examples/check
 
 # target/staticlib/libfimbrast.a, for C and Rust to link.
-library:
-	@rt staticlib fimbrast | tail -n 1
+library: $(ARCHIVE)
+	@echo "$(ARCHIVE) is made of the sources as they are"
+
+$(ARCHIVE): $(ARCHIVE_SOURCES)
+	@mkdir -p target && { rt staticlib fimbrast > target/staticlib.log 2>&1 || \
+	  { tail -n 20 target/staticlib.log >&2; echo "$(ARCHIVE) could not be made" >&2; exit 1; }; }
+	@touch $(ARCHIVE)
 
 # The example and the header's layout, compiled without a warning, print what they should.
-c-example:
+c-example: $(ARCHIVE)
 	@mkdir -p target/c
 	@for p in example layout; do \
 	  $(CC) $(C_FLAGS) bindings/c/$$p.c -Ibindings/c $(ARCHIVE) -o target/c/$$p && \
@@ -75,22 +87,19 @@ write-bindings:
 	@for d in bindings/rust bench compare; do $(CARGO) update --offline --quiet --package fimbrast --manifest-path $$d/Cargo.toml; done
 
 # The tests of the Rust crate over the library.
-bindings:
+bindings: $(LINKED)
 	@cd bindings/rust && $(CARGO) test --offline --quiet
 
 # Old against new, each group once.
-compare: $(ARCHIVE)
+compare: $(LINKED)
 	@$(CARGO) build --release --offline --quiet --manifest-path compare/Cargo.toml
 	@$(COMPARE)
 
 # The same with new seeds for an hour.
-compare-long: $(ARCHIVE)
+compare-long: $(LINKED)
 	@$(CARGO) build --release --offline --quiet --manifest-path compare/Cargo.toml
 	@$(COMPARE) --long 60
 
 # Old against new by time and by instructions; docs/BENCHMARKS.md says what the tables mean.
-bench: $(ARCHIVE)
+bench: $(LINKED)
 	@bench/run
-
-$(ARCHIVE):
-	@$(MAKE) --no-print-directory library
