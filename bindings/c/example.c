@@ -60,6 +60,7 @@ int main(void)
 {
     uint8_t out[16];
 
+    printf("version: %s\n", fimbrast_version() == FIMBRAST_VERSION ? "the header's" : "another");
     const fimbrast_written small = write_string(NULL, 0);
     printf("no room: refusal %u, %zu bytes needed\n", (unsigned)small.refusal, small.length);
 

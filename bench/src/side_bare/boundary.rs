@@ -2,25 +2,24 @@
 
 use std::hint::black_box;
 
-use super::ffi::{
+use fimbrast::ffi::{
     fimbrast_add_frames, fimbrast_close_message, fimbrast_feed, fimbrast_from_frame_count,
     fimbrast_mmc_kind, fimbrast_next_byte, fimbrast_next_field, fimbrast_next_word,
     fimbrast_open_commands, fimbrast_open_responses, fimbrast_put_field, fimbrast_put_other,
     fimbrast_put_word, fimbrast_put_write, fimbrast_reader_full_message, fimbrast_receive,
     fimbrast_to_frame_count, fimbrast_write_words,
 };
-pub use super::ffi::{fimbrast_generator_forward, fimbrast_generator_reverse, fimbrast_reader_new};
-pub use super::ffi::{Code, Event, Field, Generator, Part, Reader, ShortCode, Time};
-pub use super::ffi::{Universal, Written};
+pub use fimbrast::ffi::{
+    fimbrast_generator_forward, fimbrast_generator_reverse, fimbrast_reader_new,
+};
+pub use fimbrast::ffi::{Code, Event, Field, Generator, Part, Reader, ShortCode, Time};
+pub use fimbrast::ffi::{Universal, Written};
+pub use fimbrast::mtc::{MtcTime, TimeCodeType};
 
-/// The lowest byte of `next_word`'s number at the end: the refusal 9.
-const END: u8 = 128 + 9;
-/// The kind of a message of commands.
-const COMMANDS: u8 = 0;
-/// The kind of a response.
-const RESPONSES: u8 = 128;
-/// The refusal of a read at the end.
-const AT_END: u8 = 9;
+use fimbrast::ffi::{COMMANDS, REFUSED_END, RESPONSES};
+
+/// The lowest byte of `next_word`'s number at the end.
+const END: u8 = 128 + REFUSED_END;
 /// An event's number from here on has a report.
 pub const REPORT: u64 = 512;
 
@@ -50,17 +49,17 @@ pub fn next_byte(generator: &mut Generator) -> Option<u8> {
 }
 
 #[inline(never)]
-pub fn to_frame_count(time: &Time) -> u32 {
+pub fn to_frame_count(time: &MtcTime) -> u32 {
     fimbrast_to_frame_count(time)
 }
 
 #[inline(never)]
-pub fn from_frame_count(count: u32, rate: u8) -> Time {
+pub fn from_frame_count(count: u32, rate: u8) -> MtcTime {
     fimbrast_from_frame_count(count, rate)
 }
 
 #[inline(never)]
-pub fn add_frames(time: Time, delta: i32) -> Time {
+pub fn add_frames(time: MtcTime, delta: i32) -> MtcTime {
     fimbrast_add_frames(time, delta)
 }
 
@@ -129,7 +128,7 @@ pub fn read_fields(header: &Universal, data: &[u8]) -> usize {
     loop {
         // SAFETY: as above.
         let answer = unsafe { fimbrast_next_field(bytes, length, place) };
-        if answer.refusal == AT_END {
+        if answer.refusal == REFUSED_END {
             return items;
         }
         black_box(&answer.field);

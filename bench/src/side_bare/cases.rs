@@ -2,20 +2,16 @@
 
 use std::hint::black_box;
 
-use super::boundary::{self, Code, Field, Part, Reader, ShortCode, Time, Universal, Written};
+use fimbrast::ffi::{LOCATE_FIELD, LOCATE_TARGET, MOVE, OTHER_FIELD, PLAY, SHORT, TIME_CODE};
+
+use super::boundary::{
+    self, Code, Field, MtcTime, Part, Reader, ShortCode, Time, TimeCodeType, Universal, Written,
+};
 use crate::case::Case;
 use crate::inputs::{
     self, BODIES, BODY, DROP_FRAME, FPS_24, FPS_25, GP0, LIST, LOCATE_PLAY, OTHER, PREFIXED,
     RESPONSE, ROOM, ROUND,
 };
-
-const PLAY: u64 = 1;
-const LOCATE_FIELD: u8 = 10;
-const LOCATE_TARGET: u8 = 11;
-const MOVE: u8 = 12;
-const TIME_CODE: u8 = 0;
-const SHORT: u8 = 1;
-const OTHER_FIELD: u8 = 2;
 
 /// The header of a message of commands, for all devices.
 pub const COMMANDS: Universal = Universal {
@@ -86,8 +82,19 @@ fn label(rate: u8, [hours, minutes, seconds, frames]: [u8; 4]) -> Time {
     }
 }
 
+/// The same as the calls on labels take it.
+fn typed(rate: u8, [hours, minutes, seconds, frames]: [u8; 4]) -> MtcTime {
+    MtcTime {
+        hours,
+        minutes,
+        seconds,
+        frames,
+        rate: TimeCodeType::from_bits(rate),
+    }
+}
+
 /// A number that tells a label.
-fn number(time: Time) -> u64 {
+fn number(time: MtcTime) -> u64 {
     u64::from(time.frames) + u64::from(time.seconds) * 32 + u64::from(time.hours) * 4096
 }
 
@@ -145,7 +152,7 @@ fn next_byte(name: &'static str, mut generator: boundary::Generator) -> Case {
 }
 
 fn to_frame_count(name: &'static str, rate: u8) -> Case {
-    let labels = Box::new(inputs::labels(rate).map(|counts| label(rate, counts)));
+    let labels = Box::new(inputs::labels(rate).map(|counts| typed(rate, counts)));
     Case::new(name, move |turn| {
         let time = black_box(&labels[turn % ROUND]);
         u64::from(black_box(boundary::to_frame_count(time)))
@@ -162,7 +169,7 @@ fn from_frame_count(name: &'static str, rate: u8) -> Case {
 }
 
 fn add_frames(name: &'static str, rate: u8) -> Case {
-    let labels = Box::new(inputs::labels(rate).map(|counts| label(rate, counts)));
+    let labels = Box::new(inputs::labels(rate).map(|counts| typed(rate, counts)));
     let deltas = inputs::deltas(rate);
     Case::new(name, move |turn| {
         let time = black_box(labels[turn % ROUND]);
@@ -187,7 +194,7 @@ fn writing<const N: usize>(name: &'static str, list: [u64; N]) -> Case {
 }
 
 fn write() -> Case {
-    writing("write", [u64::from_le_bytes(LOCATE), PLAY])
+    writing("write", [u64::from_le_bytes(LOCATE), u64::from(PLAY)])
 }
 
 fn write_blank() -> Case {
@@ -200,7 +207,7 @@ fn write_mixed() -> Case {
     let words = [
         u64::from_le_bytes([MOVE, 0x08, 0x01, 0, 0, 0, 0, 0]),
         u64::from_le_bytes([LOCATE_FIELD, 0x08, 0, 0, 0, 0, 0, 0]),
-        PLAY,
+        u64::from(PLAY),
     ];
     let mut out = [0; ROOM];
     Case::new("write_mixed", move |_| {

@@ -2,4 +2,3 @@
 
 pub mod boundary;
 pub mod cases;
-mod ffi;

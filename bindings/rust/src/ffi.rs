@@ -1,263 +1,559 @@
-//! The library's records and calls, as `fimbrast.h` declares them. The rest of the crate has no unsafe code.
+//! The library's records and calls, as `fimbrast.h` declares them. `make write-bindings` makes this file from the Rattle source.
 //!
 //! A call on values, or on a record behind a reference, is declared safe: it is total, keeps nothing, and any record may be given to
-//! it. What comes back is proved: a `bool` is 0 or 1, and a rate 0 to 3. So labels come as the crate's own types. A call on lent
-//! bytes has a wrapper here that takes a slice.
-
-use core::mem::MaybeUninit;
+//! it. What comes back is proved: a `bool` is 0 or 1, and a rate 0 to 3. So the calls on labels take and give the crate's own type.
+//! A call on lent bytes has one beside it that takes slices; the library stays inside them and keeps none.
 
 use crate::mtc::MtcTime;
 
-/// An answer that is no refusal: another kind of message, or a message for another device.
-pub(crate) const NOT_THIS: u8 = 255;
-/// The kinds of a machine control message.
-pub(crate) const COMMANDS: u8 = 0;
-pub(crate) const RESPONSES: u8 = 128;
-pub(crate) const FORWARD: u8 = 0;
-pub(crate) const REVERSE: u8 = 1;
+/// The version of the library that this is made for.
+pub const VERSION: u32 = 200;
 
-pub(crate) const STOP: u8 = 0;
-pub(crate) const PLAY: u8 = 1;
-pub(crate) const DEFERRED_PLAY: u8 = 2;
-pub(crate) const FAST_FORWARD: u8 = 3;
-pub(crate) const REWIND: u8 = 4;
-pub(crate) const RECORD_STROBE: u8 = 5;
-pub(crate) const RECORD_EXIT: u8 = 6;
-pub(crate) const PAUSE: u8 = 7;
-pub(crate) const RESET: u8 = 8;
-pub(crate) const WRITE: u8 = 9;
-pub(crate) const LOCATE_FIELD: u8 = 10;
-pub(crate) const LOCATE_TARGET: u8 = 11;
-pub(crate) const MOVE: u8 = 12;
-pub(crate) const OTHER_COMMAND: u8 = 13;
-/// A refusal's number stands above this one.
-pub(crate) const REFUSED: u8 = 128;
-/// The refusal at the end of a string.
-pub(crate) const END: u8 = REFUSED + 9;
-/// The refusal of a string that is cut short.
-pub(crate) const CUT: u8 = REFUSED + 2;
+/// The archive must be of this version: where it is not, the linker misses this call.
+#[used]
+static NEEDED_VERSION: extern "C" fn() -> u32 = fimbrast_version_0_2_0;
 
-pub(crate) const TIME_CODE: u8 = 0;
-pub(crate) const SHORT: u8 = 1;
-pub(crate) const OTHER_FIELD: u8 = 2;
+pub const NOT_THIS: u8 = 255;
+pub const NONE: u8 = 255;
+pub const FORWARD: u8 = 0;
+pub const REVERSE: u8 = 1;
+pub const COMMANDS: u8 = 0;
+pub const RESPONSES: u8 = 128;
+pub const STOP: u8 = 0;
+pub const PLAY: u8 = 1;
+pub const DEFERRED_PLAY: u8 = 2;
+pub const FAST_FORWARD: u8 = 3;
+pub const REWIND: u8 = 4;
+pub const RECORD_STROBE: u8 = 5;
+pub const RECORD_EXIT: u8 = 6;
+pub const PAUSE: u8 = 7;
+pub const RESET: u8 = 8;
+pub const WRITE: u8 = 9;
+pub const LOCATE_FIELD: u8 = 10;
+pub const LOCATE_TARGET: u8 = 11;
+pub const MOVE: u8 = 12;
+pub const OTHER_COMMAND: u8 = 13;
+pub const TIME_CODE: u8 = 0;
+pub const SHORT: u8 = 1;
+pub const OTHER_FIELD: u8 = 2;
 
-/// The most words of one message: each command has a byte or more, and a message 48.
-const WORDS: usize = 48;
+/// 1: a byte above 7FH in a written name or data.
+pub const REFUSED_DATA_BYTE: u8 = 1;
+/// 2: a length that the format does not allow.
+pub const REFUSED_LENGTH: u8 = 2;
+/// 3: a value outside the range of its field.
+pub const REFUSED_OUT_OF_RANGE: u8 = 3;
+/// 4: the buffer is shorter than the whole output.
+pub const REFUSED_BUFFER_TOO_SMALL: u8 = 4;
+/// 5: a device above 127.
+pub const REFUSED_DEVICE: u8 = 5;
+/// 6: a start and length that are not inside the lent source.
+pub const REFUSED_SOURCE: u8 = 6;
+/// 7: a Locate target that is blank or not valid.
+pub const REFUSED_TARGET: u8 = 7;
+/// 8: the generator is stopped.
+pub const REFUSED_STOPPED: u8 = 8;
+/// 9: the reading place is at or past the end.
+pub const REFUSED_END: u8 = 9;
+/// 10: 256 items were already accepted in this writing.
+pub const REFUSED_ITEM_LIMIT: u8 = 10;
+/// The number of every refusal.
+pub const REFUSALS: [u8; 10] = [1, 2, 3, 4, 5, 6, 7, 8, 9, 10];
 
-/// No command's word.
-pub(crate) const NO_WORD: u64 = u64::MAX;
-
-/// A writer: its position, items and refusal in one number.
-pub(crate) type Writer = u64;
-
-/// Declares records with the layout of C.
-macro_rules! records {
-    ($($(#[$note:meta])* $name:ident { $($field:ident: $type:ty),* $(,)? })*) => {
-        $(
-            $(#[$note])*
-            #[derive(Debug, Clone, Copy, PartialEq, Eq)]
-            #[repr(C)]
-            pub(crate) struct $name {
-                $(pub(crate) $field: $type,)*
-            }
-        )*
-    };
+/// A label. Rates: 0 is 24, 1 is 25, 2 is 30 drop-frame, 3 is 30 frames per second. Only the two low bits of a rate are read.
+#[derive(Debug, Clone, Copy, PartialEq, Eq, Default)]
+#[repr(C)]
+pub struct Time {
+    pub hours: u8,
+    pub minutes: u8,
+    pub seconds: u8,
+    pub frames: u8,
+    pub rate: u8,
 }
 
-records! {
-    #[derive(Default)]
-    Time { hours: u8, minutes: u8, seconds: u8, frames: u8, rate: u8 }
-    #[derive(Default)]
-    MaybeTime { present: bool, time: Time }
-    QuarterFrame { piece: u8, value: u8 }
-    EightBytes { bytes: [u8; 8] }
-    Generator { time: Time, direction: u8, last: u8, running: bool }
-    Next { refusal: u8, byte: u8 }
-    Reader { words: [u32; 15] }
-    ReaderFields {
-        nibbles: [u8; 8],
-        count: u8,
-        first: u8,
-        last: u8,
-        direction: u8,
-        locked: bool,
-        running: bool,
-        previous: MaybeTime,
-        time: MaybeTime,
-    }
-    #[cfg(test)]
-    Sequence { raw: Time, current: Time, direction: u8, discontinuity: bool }
-    #[cfg(test)]
-    MaybeSequence { present: bool, sequence: Sequence }
-    Fed { reports: usize, discontinuities: usize, last: u64 }
-    Universal { real_time: bool, device_id: u8, sub_id1: u8, has_sub_id2: bool, sub_id2: u8 }
-    Written { refusal: u8, length: usize }
-    FullMessage { answer: u8, device_id: u8, time: Time }
-    UserBits { device_id: u8, groups: [u8; 8], flags: u8 }
-    ReadUserBits { answer: u8, bits: UserBits }
-    FourBytes { bytes: [u8; 4] }
-    #[cfg(test)]
-    MmcMessage { answer: u8, responses: bool, device_id: u8 }
-    Status { estimated: bool, invalid: bool, video_field1: bool, no_time_code: bool }
-    #[derive(Default)]
-    Code { time: Time, color_frame: bool, blank: bool, negative: bool, status: bool, last: u8 }
-    #[derive(Default)]
-    ShortCode { frames: u8, negative: bool, status: bool, last: u8 }
-    FiveBytes { bytes: [u8; 5] }
-    TwoBytes { bytes: [u8; 2] }
-    CodeBytes { refusal: u8, code: FiveBytes }
-    ShortCodeBytes { refusal: u8, code: TwoBytes }
-    #[derive(Default)]
-    Part { start: usize, length: usize }
-    #[derive(Default)]
-    Command { kind: u8, first: u8, second: u8, code: Code, name: Part, data: Part }
-    #[cfg(test)]
-    NextCommand { refusal: u8, command: Command, place: usize }
-    NextWord { word: u64, place: usize }
-    #[derive(Default)]
-    Field { kind: u8, field: u8, code: Code, short_code: ShortCode, name: Part, data: Part }
-    NextField { refusal: u8, field: Field, place: usize }
-    Applied { generator: Generator, answer: u8 }
-    Run { generator: Generator, commands: usize, refused: usize, stop: u8 }
+/// A generator. Direction 0 is forward, any other reverse. A last piece above 7 is none.
+#[derive(Debug, Clone, Copy, PartialEq, Eq, Default)]
+#[repr(C)]
+pub struct Generator {
+    pub time: Time,
+    pub direction: u8,
+    pub last: u8,
+    pub running: bool,
 }
 
-impl NextWord {
-    /// The case of a command, or `REFUSED` and a refusal's number.
-    #[inline]
-    pub(crate) const fn case(self) -> u8 {
-        self.word as u8
-    }
-
-    /// The data, up to the place to read on from.
-    pub(crate) fn data(self, body: &[u8]) -> Option<&[u8]> {
-        let length = usize::from(self.byte(1));
-        body.get(self.place.checked_sub(length)?..self.place)
-    }
-
-    /// A byte above the case, the lowest first.
-    #[inline]
-    pub(crate) const fn byte(self, n: u32) -> u8 {
-        (self.word >> (8 + 8 * n)) as u8
-    }
+/// A time code. The last byte is the status byte where `status` is true, else subframes.
+#[derive(Debug, Clone, Copy, PartialEq, Eq, Default)]
+#[repr(C)]
+pub struct Code {
+    pub time: Time,
+    pub color_frame: bool,
+    pub blank: bool,
+    pub negative: bool,
+    pub status: bool,
+    pub last: u8,
 }
 
-/// What was read at a place of a body; only [`next_word`] makes one.
-#[derive(Clone, Copy)]
-pub(crate) struct Item<'a> {
-    body: &'a [u8],
-    place: usize,
-    pub(crate) next: NextWord,
+/// A part of lent bytes.
+#[derive(Debug, Clone, Copy, PartialEq, Eq, Default)]
+#[repr(C)]
+pub struct Part {
+    pub start: usize,
+    pub length: usize,
 }
 
-impl<'a> Item<'a> {
-    /// The name and the data of another command: the name begins at the place that was read, the data ends at the next one.
-    #[inline]
-    pub(crate) fn other(self) -> Option<(&'a [u8], &'a [u8])> {
-        if self.next.case() != OTHER_COMMAND {
-            return None;
-        }
-        let name = self.place..self.place + usize::from(self.next.byte(0));
-        let data = self.next.place - usize::from(self.next.byte(1))..self.next.place;
-        // SAFETY: both parts of an item that was found lie in the body: the name from the place on, the data up to the next place
-        // (`found-inside` of crates/mmc/proofs/StringLaws.antt), and the bytes here are their lengths or less.
-        Some(unsafe { (self.body.get_unchecked(name), self.body.get_unchecked(data)) })
-    }
+/// One command. The kinds 0 to 13 are the cases of `MmcCommand` in their order; a kind above 13 is taken as 13. What a kind does not
+/// use is 0 in an answer, and is not read in an argument.
+#[derive(Debug, Clone, Copy, PartialEq, Eq, Default)]
+#[repr(C)]
+pub struct Command {
+    pub kind: u8,
+    pub first: u8,
+    pub second: u8,
+    pub code: Code,
+    pub name: Part,
+    pub data: Part,
 }
 
-impl Part {
-    /// The first `length` bytes of a source.
-    pub(crate) const fn whole(length: usize) -> Self {
-        Self { start: 0, length }
-    }
-
-    /// The bytes of the part, which are none where it does not lie inside.
-    pub(crate) fn of(self, bytes: &[u8]) -> &[u8] {
-        bytes
-            .get(self.start..)
-            .and_then(|rest| rest.get(..self.length))
-            .unwrap_or(&[])
-    }
+/// The generator after a command. Answer 0 is done, 255 for another device, any other number a refusal: 5 or 7.
+#[derive(Debug, Clone, Copy, PartialEq, Eq, Default)]
+#[repr(C)]
+pub struct Applied {
+    pub generator: Generator,
+    pub answer: u8,
 }
+
+/// The flags of a time code's status byte.
+#[derive(Debug, Clone, Copy, PartialEq, Eq, Default)]
+#[repr(C)]
+pub struct Status {
+    pub estimated: bool,
+    pub invalid: bool,
+    pub video_field1: bool,
+    pub no_time_code: bool,
+}
+
+/// The bytes of a time code.
+#[derive(Debug, Clone, Copy, PartialEq, Eq, Default)]
+#[repr(C)]
+pub struct FiveBytes {
+    pub bytes: [u8; 5],
+}
+
+/// A written time code. The bytes are zeros where the refusal is not 0.
+#[derive(Debug, Clone, Copy, PartialEq, Eq, Default)]
+#[repr(C)]
+pub struct CodeBytes {
+    pub refusal: u8,
+    pub code: FiveBytes,
+}
+
+/// The bytes of a short time code.
+#[derive(Debug, Clone, Copy, PartialEq, Eq, Default)]
+#[repr(C)]
+pub struct TwoBytes {
+    pub bytes: [u8; 2],
+}
+
+/// A short time code. The last byte is the status byte where `status` is true, else subframes.
+#[derive(Debug, Clone, Copy, PartialEq, Eq, Default)]
+#[repr(C)]
+pub struct ShortCode {
+    pub frames: u8,
+    pub negative: bool,
+    pub status: bool,
+    pub last: u8,
+}
+
+/// A written short time code. The bytes are zeros where the refusal is not 0.
+#[derive(Debug, Clone, Copy, PartialEq, Eq, Default)]
+#[repr(C)]
+pub struct ShortCodeBytes {
+    pub refusal: u8,
+    pub code: TwoBytes,
+}
+
+/// A report as one number; 0 is no report. From the lowest bit: 1, the direction, the discontinuity. Its labels stay in the reader;
+/// `fimbrast_report_parts` takes both together.
+pub type Report = u64;
+
+/// Of a list of data bytes: how many sequences it reported, how many of those with a discontinuity, and the last report, whose labels
+/// stand in the reader.
+#[derive(Debug, Clone, Copy, PartialEq, Eq, Default)]
+#[repr(C)]
+pub struct Fed {
+    pub reports: usize,
+    pub discontinuities: usize,
+    pub last: Report,
+}
+
+/// A reader in fifteen words: eight nibbles, the order, the first piece, the lock, and a mark and a word each for the previous and the
+/// current label. Any words are a reader in its ranges; `fimbrast_reader_parts` says which.
+#[derive(Debug, Clone, Copy, PartialEq, Eq, Default)]
+#[repr(C)]
+pub struct Reader {
+    pub words: [u32; 15],
+}
+
+/// A data byte, or a refusal and 0.
+#[derive(Debug, Clone, Copy, PartialEq, Eq, Default)]
+#[repr(C)]
+pub struct Next {
+    pub refusal: u8,
+    pub byte: u8,
+}
+
+/// The split parts of a Universal message but its data.
+#[derive(Debug, Clone, Copy, PartialEq, Eq, Default)]
+#[repr(C)]
+pub struct Universal {
+    pub real_time: bool,
+    pub device_id: u8,
+    pub sub_id1: u8,
+    pub has_sub_id2: bool,
+    pub sub_id2: u8,
+}
+
+/// What a writing answers: refusal 0 and the length; 4 and the needed length; any other refusal and 0.
+#[derive(Debug, Clone, Copy, PartialEq, Eq, Default)]
+#[repr(C)]
+pub struct Written {
+    pub refusal: u8,
+    pub length: usize,
+}
+
+/// A full message as it was read. Answer 0 is a message, 255 another kind, any other number a refusal. Without a message all else is
+/// 0.
+#[derive(Debug, Clone, Copy, PartialEq, Eq, Default)]
+#[repr(C)]
+pub struct FullMessage {
+    pub answer: u8,
+    pub device_id: u8,
+    pub time: Time,
+}
+
+/// Binary Groups 1 to 8, four bits each, and the two flag bits.
+#[derive(Debug, Clone, Copy, PartialEq, Eq, Default)]
+#[repr(C)]
+pub struct UserBits {
+    pub device_id: u8,
+    pub groups: [u8; 8],
+    pub flags: u8,
+}
+
+/// User bits as they were read; the answer is as in a full message.
+#[derive(Debug, Clone, Copy, PartialEq, Eq, Default)]
+#[repr(C)]
+pub struct ReadUserBits {
+    pub answer: u8,
+    pub bits: UserBits,
+}
+
+/// The groups as four bytes.
+#[derive(Debug, Clone, Copy, PartialEq, Eq, Default)]
+#[repr(C)]
+pub struct FourBytes {
+    pub bytes: [u8; 4],
+}
+
+/// A message of commands or of responses; the answer is as in a full message.
+#[derive(Debug, Clone, Copy, PartialEq, Eq, Default)]
+#[repr(C)]
+pub struct MmcMessage {
+    pub answer: u8,
+    pub responses: bool,
+    pub device_id: u8,
+}
+
+/// The generator after all commands of a string, how many were read, how many of those were refused, and the refusal that ended the
+/// reading: 9 at the end, 2 where the string is cut short.
+#[derive(Debug, Clone, Copy, PartialEq, Eq, Default)]
+#[repr(C)]
+pub struct Run {
+    pub generator: Generator,
+    pub commands: usize,
+    pub refused: usize,
+    pub stop: u8,
+}
+
+/// What a data byte gives, as one number, which comes back in a register: the piece in the lowest byte, the boundary in bit 8, and from
+/// bit 9 on the report of the sequence that it ends.
+pub type Event = u64;
+
+/// A time, where `present` is true. Where it is false the time is all zeros in an answer, and is not read in an argument.
+#[derive(Debug, Clone, Copy, PartialEq, Eq, Default)]
+#[repr(C)]
+pub struct MaybeTime {
+    pub present: bool,
+    pub time: Time,
+}
+
+/// A reader field by field. A last piece above 7 is none; direction 0 is forward, 1 reverse, any other none. An answer has 255 for
+/// none.
+#[derive(Debug, Clone, Copy, PartialEq, Eq, Default)]
+#[repr(C)]
+pub struct ReaderFields {
+    pub nibbles: [u8; 8],
+    pub count: u8,
+    pub first: u8,
+    pub last: u8,
+    pub direction: u8,
+    pub locked: bool,
+    pub running: bool,
+    pub previous: MaybeTime,
+    pub time: MaybeTime,
+}
+
+/// The end of a full sequence: the label as it was assembled, the current one, the direction, and whether the assembled label does not
+/// follow the one before it.
+#[derive(Debug, Clone, Copy, PartialEq, Eq, Default)]
+#[repr(C)]
+pub struct Sequence {
+    pub raw: Time,
+    pub current: Time,
+    pub direction: u8,
+    pub discontinuity: bool,
+}
+
+/// A report, where `present` is true. Where it is false the sequence is all zeros.
+#[derive(Debug, Clone, Copy, PartialEq, Eq, Default)]
+#[repr(C)]
+pub struct MaybeSequence {
+    pub present: bool,
+    pub sequence: Sequence,
+}
+
+/// Refusal 0 and the command, with the place to read on from; 2 where the string is cut short, with the end as its place; 9 at or past
+/// the end.
+#[derive(Debug, Clone, Copy, PartialEq, Eq, Default)]
+#[repr(C)]
+pub struct NextCommand {
+    pub refusal: u8,
+    pub command: Command,
+    pub place: usize,
+}
+
+/// A command or a refusal as one number, which comes back in registers, and the place to read on from. The number's lowest byte is the
+/// kind of the command, 0 to 13, or 128 and the refusal's number. The bytes above it are, the lowest first:
+///   10 Locate, register   the register
+///   11 Locate, target     hours, minutes, seconds, frames, the last byte, and two bytes of marks: bits 0 and 1 are the rate, 3 the
+///                         blank, 9 the colour frame, 10 whether the last byte is a status, 11 the sign
+///   12 Move               the destination and the source
+///    9 Write              0 and the length of the data
+///   13 any other          the lengths of the name and of the data
+/// A name begins at the place that was read, and data ends at the place to read on from. A Locate, a Move and a name alone are written
+/// by the same word.
+#[derive(Debug, Clone, Copy, PartialEq, Eq, Default)]
+#[repr(C)]
+pub struct NextWord {
+    pub word: u64,
+    pub place: usize,
+}
+
+/// One information field. The kinds 0 to 2 are the cases of `InfoField` in their order; a kind above 2 is taken as 2. What a kind does
+/// not use is 0 in an answer, and is not read in an argument.
+#[derive(Debug, Clone, Copy, PartialEq, Eq, Default)]
+#[repr(C)]
+pub struct Field {
+    pub kind: u8,
+    pub field: u8,
+    pub code: Code,
+    pub short_code: ShortCode,
+    pub name: Part,
+    pub data: Part,
+}
+
+/// Refusal 0 and the field, with the place to read on from; 2 and 9 as for a command.
+#[derive(Debug, Clone, Copy, PartialEq, Eq, Default)]
+#[repr(C)]
+pub struct NextField {
+    pub refusal: u8,
+    pub field: Field,
+    pub place: usize,
+}
+
+/// A quarter frame's piece and value.
+#[derive(Debug, Clone, Copy, PartialEq, Eq, Default)]
+#[repr(C)]
+pub struct QuarterFrame {
+    pub piece: u8,
+    pub value: u8,
+}
+
+/// The data bytes of pieces 0 to 7.
+#[derive(Debug, Clone, Copy, PartialEq, Eq, Default)]
+#[repr(C)]
+pub struct EightBytes {
+    pub bytes: [u8; 8],
+}
+
+/// A writer as one number: the position in the lowest four bytes, the items accepted in the next two, and in the byte above them the
+/// first refusal, which it repeats. A refusal above 10 is taken as 10.
+pub type Writer = u64;
 
 unsafe extern "C" {
-    pub(crate) safe fn fimbrast_frames_per_second(rate: u8) -> u8;
-    pub(crate) safe fn fimbrast_time_new(time: MtcTime) -> u8;
-    pub(crate) safe fn fimbrast_is_valid(time: MtcTime) -> bool;
-    pub(crate) safe fn fimbrast_next_valid(time: MtcTime) -> MtcTime;
-    pub(crate) safe fn fimbrast_to_frame_count(time: &MtcTime) -> u32;
-    pub(crate) safe fn fimbrast_from_frame_count(count: u32, rate: u8) -> MtcTime;
-    pub(crate) safe fn fimbrast_add_frames(time: MtcTime, delta: i32) -> MtcTime;
-
-    pub(crate) safe fn fimbrast_quarter_frame_read(byte: u8) -> QuarterFrame;
-    pub(crate) safe fn fimbrast_quarter_frame_byte(frame: QuarterFrame) -> u8;
-    pub(crate) safe fn fimbrast_pieces(time: Time) -> EightBytes;
-
-    pub(crate) safe fn fimbrast_generator_forward(time: Time) -> Generator;
-    pub(crate) safe fn fimbrast_generator_reverse(time: Time) -> Generator;
-    pub(crate) safe fn fimbrast_next_byte(generator: &mut Generator) -> Next;
-    pub(crate) safe fn fimbrast_set_running(generator: Generator, running: bool) -> Generator;
-    pub(crate) safe fn fimbrast_set_forward(generator: Generator) -> Generator;
-    pub(crate) safe fn fimbrast_set_reverse(generator: Generator) -> Generator;
-    pub(crate) safe fn fimbrast_locate(generator: Generator, time: Time) -> Generator;
-    pub(crate) safe fn fimbrast_generator_time(generator: Generator) -> Time;
-
-    pub(crate) safe fn fimbrast_reader_new() -> Reader;
-    pub(crate) safe fn fimbrast_receive(reader: &mut Reader, byte: u8) -> u64;
-    fn fimbrast_feed(reader: &mut Reader, bytes: *const u8, length: usize) -> Fed;
-    #[cfg(test)]
-    pub(crate) safe fn fimbrast_report_parts(reader: Reader, report: u64) -> MaybeSequence;
-    pub(crate) safe fn fimbrast_reader_full_message(reader: &mut Reader, time: Time);
-    pub(crate) safe fn fimbrast_is_locked(reader: Reader) -> bool;
-    pub(crate) safe fn fimbrast_is_running(reader: Reader) -> bool;
-    pub(crate) safe fn fimbrast_reader_direction(reader: Reader) -> u8;
-    pub(crate) safe fn fimbrast_reader_time(reader: Reader) -> MaybeTime;
-    pub(crate) safe fn fimbrast_reader_parts(reader: Reader) -> ReaderFields;
-
-    pub(crate) safe fn fimbrast_addressed(device_id: u8, own: u8) -> bool;
-    pub(crate) safe fn fimbrast_has_sub_id2(real_time: bool, sub_id1: u8) -> bool;
-    fn fimbrast_universal_write(
+    /// `apply`: one command of a message for `device_id`, to the generator of the device `own`.
+    pub safe fn fimbrast_apply(
+        generator: Generator,
+        device_id: u8,
+        own: u8,
+        command: Command,
+    ) -> Applied;
+    /// `short_name`: a field's name plus 20H, or 0 for one that has no short name.
+    pub safe fn fimbrast_short_name(field: u8) -> u8;
+    /// `full_name`: back, or 0 for what is no short name.
+    pub safe fn fimbrast_full_name(short_name: u8) -> u8;
+    /// `TimeCodeStatus::from_byte`: the flags of a status byte.
+    pub safe fn fimbrast_status_read(byte: u8) -> Status;
+    /// `TimeCodeStatus::to_byte`: the status byte of flags.
+    pub safe fn fimbrast_status_byte(status: Status) -> u8;
+    /// `StandardTimeCode::from_bytes`: each count is masked to its width.
+    pub safe fn fimbrast_code_read(bytes: FiveBytes) -> Code;
+    /// `StandardTimeCode::to_bytes`: refuses subframes above 99 and a time that is not valid.
+    pub safe fn fimbrast_code_write(code: Code) -> CodeBytes;
+    /// `ShortTimeCode::from_bytes`: the frames are masked to 5 bits.
+    pub safe fn fimbrast_short_code_read(bytes: TwoBytes) -> ShortCode;
+    /// `ShortTimeCode::to_bytes`: refuses frames above 29 and subframes above 99.
+    pub safe fn fimbrast_short_code_write(code: ShortCode) -> ShortCodeBytes;
+    /// `StandardTimeCode::short`: its frames, sign and last byte.
+    pub safe fn fimbrast_code_short(code: Code) -> ShortCode;
+    /// `StandardTimeCode::with_short`: the code with the frames, sign and last byte of a short one.
+    pub safe fn fimbrast_code_with_short(code: Code, short_code: ShortCode) -> Code;
+    /// `StandardTimeCode::to_subframes_form`: a status becomes subframes 00.
+    pub safe fn fimbrast_to_subframes_form(code: Code) -> Code;
+    /// `StandardTimeCode::to_status_form`: subframes become a status with this video field, marked as no time code.
+    pub safe fn fimbrast_to_status_form(code: Code, video_field1: bool) -> Code;
+    /// `MtcReader::receive` for each of the bytes, which must not overlap the reader.
+    pub fn fimbrast_feed(reader: &mut Reader, bytes: *const u8, bytes_length: usize) -> Fed;
+    /// `MtcGenerator::new`, forward: a running generator, whose first sequence encodes the time.
+    pub safe fn fimbrast_generator_forward(time: Time) -> Generator;
+    /// The same in reverse.
+    pub safe fn fimbrast_generator_reverse(time: Time) -> Generator;
+    /// `MtcGenerator::next_byte`: the next data byte, or refusal 8 and byte 0 while stopped.
+    pub safe fn fimbrast_next_byte(generator: &mut Generator) -> Next;
+    /// `MtcGenerator::set_running`: runs or stops it.
+    pub safe fn fimbrast_set_running(generator: Generator, running: bool) -> Generator;
+    /// `MtcGenerator::set_direction`, forward. The next piece is the one beside the last in that direction.
+    pub safe fn fimbrast_set_forward(generator: Generator) -> Generator;
+    /// The same in reverse.
+    pub safe fn fimbrast_set_reverse(generator: Generator) -> Generator;
+    /// `MtcGenerator::locate`: moves to the time. The next piece is the first of the direction.
+    pub safe fn fimbrast_locate(generator: Generator, time: Time) -> Generator;
+    /// `MtcGenerator::time`: what the current or next sequence encodes.
+    pub safe fn fimbrast_generator_time(generator: Generator) -> Time;
+    /// `addressed`: a message for `device_id` is for the device `own`.
+    pub safe fn fimbrast_addressed(device_id: u8, own: u8) -> bool;
+    /// `has_sub_id2`: messages of this family carry a Sub-ID#2.
+    pub safe fn fimbrast_has_sub_id2(real_time: bool, sub_id1: u8) -> bool;
+    /// `Universal::write`: the whole message, F0H to F7H.
+    pub fn fimbrast_universal_write(
         header: Universal,
         data: *const u8,
         data_length: usize,
         out: *mut u8,
         out_length: usize,
     ) -> Written;
-    fn fimbrast_full_message_read(header: Universal, data: *const u8, length: usize)
-        -> FullMessage;
-    fn fimbrast_full_message_write(
+    /// `FullMessage::from_universal`: the full message of these parts.
+    pub fn fimbrast_full_message_read(
+        header: Universal,
+        data: *const u8,
+        data_length: usize,
+    ) -> FullMessage;
+    /// `FullMessage::write`: the whole full message, F0H to F7H.
+    pub fn fimbrast_full_message_write(
         device_id: u8,
         time: Time,
         out: *mut u8,
         out_length: usize,
     ) -> Written;
-    fn fimbrast_user_bits_read(header: Universal, data: *const u8, length: usize) -> ReadUserBits;
-    fn fimbrast_user_bits_write(bits: UserBits, out: *mut u8, out_length: usize) -> Written;
-    pub(crate) safe fn fimbrast_user_bits_bytes(bits: UserBits) -> FourBytes;
-    fn fimbrast_mmc_kind(real_time: bool, sub_id1: u8, data: *const u8, length: usize) -> u8;
-    #[cfg(test)]
-    fn fimbrast_mmc_message_read(header: Universal, data: *const u8, length: usize) -> MmcMessage;
-
-    pub(crate) safe fn fimbrast_short_name(field: u8) -> u8;
-    pub(crate) safe fn fimbrast_full_name(short_name: u8) -> u8;
-    pub(crate) safe fn fimbrast_status_read(byte: u8) -> Status;
-    pub(crate) safe fn fimbrast_status_byte(status: Status) -> u8;
-    pub(crate) safe fn fimbrast_code_read(bytes: FiveBytes) -> Code;
-    pub(crate) safe fn fimbrast_code_write(code: Code) -> CodeBytes;
-    pub(crate) safe fn fimbrast_short_code_read(bytes: TwoBytes) -> ShortCode;
-    pub(crate) safe fn fimbrast_short_code_write(code: ShortCode) -> ShortCodeBytes;
-    pub(crate) safe fn fimbrast_code_short(code: Code) -> ShortCode;
-    pub(crate) safe fn fimbrast_code_with_short(code: Code, short_code: ShortCode) -> Code;
-    pub(crate) safe fn fimbrast_to_subframes_form(code: Code) -> Code;
-    pub(crate) safe fn fimbrast_to_status_form(code: Code, video_field1: bool) -> Code;
-
-    fn fimbrast_next_word(body: *const u8, length: usize, place: usize) -> NextWord;
-    fn fimbrast_next_field(body: *const u8, length: usize, place: usize) -> NextField;
-
-    fn fimbrast_open_commands(out: *mut u8, out_length: usize, device_id: u8) -> Writer;
-    fn fimbrast_open_responses(out: *mut u8, out_length: usize, device_id: u8) -> Writer;
-    pub(crate) safe fn fimbrast_open_fields() -> Writer;
-    #[cfg(test)]
-    fn fimbrast_put_command(
+    /// `UserBits::from_universal`: the user bits of these parts.
+    pub fn fimbrast_user_bits_read(
+        header: Universal,
+        data: *const u8,
+        data_length: usize,
+    ) -> ReadUserBits;
+    /// `UserBits::write`: the whole user bits message, F0H to F7H.
+    pub fn fimbrast_user_bits_write(bits: UserBits, out: *mut u8, out_length: usize) -> Written;
+    /// `UserBits::to_bytes`: the groups as `hhhhgggg ffffeeee ddddcccc bbbbaaaa`.
+    pub safe fn fimbrast_user_bits_bytes(bits: UserBits) -> FourBytes;
+    /// `MmcMessage::from_universal`: the machine control message of these parts.
+    pub fn fimbrast_mmc_message_read(
+        header: Universal,
+        data: *const u8,
+        data_length: usize,
+    ) -> MmcMessage;
+    /// The same as one number, for a caller that has the device, which decides nothing: 0 commands, 128 responses, 255 another kind, any
+    /// other number a refusal.
+    pub fn fimbrast_mmc_kind(
+        real_time: bool,
+        sub_id1: u8,
+        data: *const u8,
+        data_length: usize,
+    ) -> u8;
+    /// `obey`: a message's data, read from the front to its end, each command applied as it is read.
+    pub fn fimbrast_obey(
+        generator: Generator,
+        device_id: u8,
+        own: u8,
+        body: *const u8,
+        body_length: usize,
+    ) -> Run;
+    /// `MtcReader::new`: not locked, and stopped.
+    pub safe fn fimbrast_reader_new() -> Reader;
+    /// `MtcReader::receive`: takes one data byte.
+    pub safe fn fimbrast_receive(reader: &mut Reader, byte: u8) -> Event;
+    /// `MtcReader::full_message`, with the message's time: the reader is then stopped at it.
+    pub safe fn fimbrast_reader_full_message(reader: &mut Reader, time: Time);
+    /// `MtcReader::is_locked`: true after a full sequence, until a broken order or a turn.
+    pub safe fn fimbrast_is_locked(reader: Reader) -> bool;
+    /// `MtcReader::is_running`: true after a data byte, false after a full message.
+    pub safe fn fimbrast_is_running(reader: Reader) -> bool;
+    /// `MtcReader::direction`: 0 forward, 1 reverse, 255 none.
+    pub safe fn fimbrast_reader_direction(reader: Reader) -> u8;
+    /// `MtcReader::time`: the current time of the last full sequence, or the time of a full message after it.
+    pub safe fn fimbrast_reader_time(reader: Reader) -> MaybeTime;
+    /// The reader field by field.
+    pub safe fn fimbrast_reader_parts(reader: Reader) -> ReaderFields;
+    /// The report of a number with the labels of the reader that it left, before the reader gets anything more. It is none where the
+    /// number's lowest bit is 0.
+    pub safe fn fimbrast_report_parts(reader: Reader, report: Report) -> MaybeSequence;
+    /// The next of `Commands`: the command at a place of the string.
+    pub fn fimbrast_next_command(body: *const u8, body_length: usize, place: usize) -> NextCommand;
+    /// The same as one number: its record says how it is made.
+    pub fn fimbrast_next_word(body: *const u8, body_length: usize, place: usize) -> NextWord;
+    /// The next of `InfoFields`: the field at a place of the string.
+    pub fn fimbrast_next_field(body: *const u8, body_length: usize, place: usize) -> NextField;
+    /// The frames of a counting second: 24, 25 or 30.
+    pub safe fn fimbrast_frames_per_second(rate: u8) -> u8;
+    /// `MtcTime::new`: 0, or 3 for a label that is not valid.
+    pub safe fn fimbrast_time_new(time: MtcTime) -> u8;
+    /// `MtcTime::is_valid`: each count is in its range, and drop-frame does not skip the number.
+    pub safe fn fimbrast_is_valid(time: MtcTime) -> bool;
+    /// `MtcTime::next_valid`: frame 02 for a number that drop-frame skips, else the label itself.
+    pub safe fn fimbrast_next_valid(time: MtcTime) -> MtcTime;
+    /// `MtcTime::to_frame_count`: the frames from 00:00:00:00 to the label.
+    pub safe fn fimbrast_to_frame_count(time: &MtcTime) -> u32;
+    /// `MtcTime::from_frame_count`: the label of a count, round midnight.
+    pub safe fn fimbrast_from_frame_count(count: u32, rate: u8) -> MtcTime;
+    /// `MtcTime::add_frames`: the label so many frames later, or earlier, round midnight.
+    pub safe fn fimbrast_add_frames(time: MtcTime, delta: i32) -> MtcTime;
+    /// `QuarterFrame::from_byte`: the piece and value of a data byte.
+    pub safe fn fimbrast_quarter_frame_read(byte: u8) -> QuarterFrame;
+    /// `QuarterFrame::to_byte`: the data byte of a piece and value.
+    pub safe fn fimbrast_quarter_frame_byte(frame: QuarterFrame) -> u8;
+    /// `QuarterFrame::pieces`: the data bytes of pieces 0 to 7.
+    pub safe fn fimbrast_pieces(time: MtcTime) -> EightBytes;
+    /// The version as one number: 10,000 for each whole version, 100 for each minor one, and the patch.
+    pub safe fn fimbrast_version() -> u32;
+    /// The same under a name that has the version. A program refers to it, so that an archive of another version does not link.
+    pub safe fn fimbrast_version_0_2_0() -> u32;
+    /// `write_commands` opens: F0H, 7FH, the device, 06H.
+    pub fn fimbrast_open_commands(out: *mut u8, out_length: usize, device_id: u8) -> Writer;
+    /// `write_responses` opens: F0H, 7FH, the device, 07H.
+    pub fn fimbrast_open_responses(out: *mut u8, out_length: usize, device_id: u8) -> Writer;
+    /// `write_info_fields` opens; nothing goes out of it.
+    pub safe fn fimbrast_open_fields() -> Writer;
+    /// Any command by its record; its name and data are parts of the source.
+    pub fn fimbrast_put_command(
         writer: Writer,
         out: *mut u8,
         out_length: usize,
@@ -265,15 +561,19 @@ unsafe extern "C" {
         source_length: usize,
         command: Command,
     ) -> Writer;
-    fn fimbrast_put_word(writer: Writer, out: *mut u8, out_length: usize, word: u64) -> Writer;
-    fn fimbrast_put_write(
+    /// One command by its word, as `fimbrast_next_word` gives it. A number that is no word of a name alone, of a Locate or of a Move is
+    /// refused with 3, and nothing goes out of it.
+    pub fn fimbrast_put_word(writer: Writer, out: *mut u8, out_length: usize, word: u64) -> Writer;
+    /// A Write of these fields.
+    pub fn fimbrast_put_write(
         writer: Writer,
         out: *mut u8,
         out_length: usize,
         data: *const u8,
         data_length: usize,
     ) -> Writer;
-    fn fimbrast_put_other(
+    /// Another command, whose name and then its data, of these lengths, stand at the front of the source.
+    pub fn fimbrast_put_other(
         writer: Writer,
         out: *mut u8,
         out_length: usize,
@@ -282,7 +582,8 @@ unsafe extern "C" {
         name: usize,
         data: usize,
     ) -> Writer;
-    fn fimbrast_put_field(
+    /// Any field by its record; its name and data are parts of the source.
+    pub fn fimbrast_put_field(
         writer: Writer,
         out: *mut u8,
         out_length: usize,
@@ -290,41 +591,33 @@ unsafe extern "C" {
         source_length: usize,
         field: Field,
     ) -> Writer;
-    fn fimbrast_write_words(
+    /// `write_commands` and `write_responses` close: F7H.
+    pub fn fimbrast_close_message(writer: Writer, out: *mut u8, out_length: usize) -> Written;
+    /// `write_info_fields` closes; nothing goes out of it.
+    pub fn fimbrast_close_fields(writer: Writer, out: *const u8, out_length: usize) -> Written;
+    /// `write_commands` in one call: opened, given a command for each word, closed. A word is what `fimbrast_next_word` gives for a name
+    /// alone (the kinds 0 to 8), a Locate (10 and 11) or a Move (12), with all bits of each byte. Any other number, one of a Write or of
+    /// another command too, is refused with 3, and nothing goes out of it.
+    pub fn fimbrast_write_words(
         out: *mut u8,
         out_length: usize,
         device_id: u8,
         words: *const u64,
-        length: usize,
+        words_length: usize,
     ) -> Written;
-    fn fimbrast_close_message(writer: Writer, out: *mut u8, out_length: usize) -> Written;
-    fn fimbrast_close_fields(writer: Writer, out: *const u8, out_length: usize) -> Written;
-
-    pub(crate) safe fn fimbrast_apply(
-        generator: Generator,
-        device_id: u8,
-        own: u8,
-        command: Command,
-    ) -> Applied;
-    fn fimbrast_obey(
-        generator: Generator,
-        device_id: u8,
-        own: u8,
-        body: *const u8,
-        length: usize,
-    ) -> Run;
 }
 
-// In each call below the pointers and lengths are those of live slices, the one that is written is borrowed alone, and the
-// library stays inside them and keeps none.
-
-pub(crate) fn feed(reader: &mut Reader, bytes: &[u8]) -> Fed {
-    // SAFETY: `bytes` is a live slice, and `reader` is borrowed alone.
+/// `MtcReader::receive` for each of the bytes, which must not overlap the reader.
+#[inline]
+pub fn feed(reader: &mut Reader, bytes: &[u8]) -> Fed {
+    // SAFETY: each pointer and length are those of a live slice, and what is written is borrowed alone.
     unsafe { fimbrast_feed(reader, bytes.as_ptr(), bytes.len()) }
 }
 
-pub(crate) fn universal_write(header: Universal, data: &[u8], out: &mut [u8]) -> Written {
-    // SAFETY: `data` and `out` are live slices, and `out` is borrowed alone.
+/// `Universal::write`: the whole message, F0H to F7H.
+#[inline]
+pub fn universal_write(header: Universal, data: &[u8], out: &mut [u8]) -> Written {
+    // SAFETY: each pointer and length are those of a live slice, and what is written is borrowed alone.
     unsafe {
         fimbrast_universal_write(
             header,
@@ -336,71 +629,95 @@ pub(crate) fn universal_write(header: Universal, data: &[u8], out: &mut [u8]) ->
     }
 }
 
-pub(crate) fn full_message_read(header: Universal, data: &[u8]) -> FullMessage {
-    // SAFETY: `data` is a live slice.
+/// `FullMessage::from_universal`: the full message of these parts.
+#[inline]
+pub fn full_message_read(header: Universal, data: &[u8]) -> FullMessage {
+    // SAFETY: each pointer and length are those of a live slice, and what is written is borrowed alone.
     unsafe { fimbrast_full_message_read(header, data.as_ptr(), data.len()) }
 }
 
-pub(crate) fn full_message_write(device_id: u8, time: Time, out: &mut [u8]) -> Written {
-    // SAFETY: `out` is a live slice, borrowed alone.
+/// `FullMessage::write`: the whole full message, F0H to F7H.
+#[inline]
+pub fn full_message_write(device_id: u8, time: Time, out: &mut [u8]) -> Written {
+    // SAFETY: each pointer and length are those of a live slice, and what is written is borrowed alone.
     unsafe { fimbrast_full_message_write(device_id, time, out.as_mut_ptr(), out.len()) }
 }
 
-pub(crate) fn user_bits_read(header: Universal, data: &[u8]) -> ReadUserBits {
-    // SAFETY: `data` is a live slice.
+/// `UserBits::from_universal`: the user bits of these parts.
+#[inline]
+pub fn user_bits_read(header: Universal, data: &[u8]) -> ReadUserBits {
+    // SAFETY: each pointer and length are those of a live slice, and what is written is borrowed alone.
     unsafe { fimbrast_user_bits_read(header, data.as_ptr(), data.len()) }
 }
 
-pub(crate) fn user_bits_write(bits: UserBits, out: &mut [u8]) -> Written {
-    // SAFETY: `out` is a live slice, borrowed alone.
+/// `UserBits::write`: the whole user bits message, F0H to F7H.
+#[inline]
+pub fn user_bits_write(bits: UserBits, out: &mut [u8]) -> Written {
+    // SAFETY: each pointer and length are those of a live slice, and what is written is borrowed alone.
     unsafe { fimbrast_user_bits_write(bits, out.as_mut_ptr(), out.len()) }
 }
 
-/// Commands, responses, another kind, or a refusal's number.
+/// `MmcMessage::from_universal`: the machine control message of these parts.
 #[inline]
-pub(crate) fn mmc_kind(real_time: bool, sub_id1: u8, data: &[u8]) -> u8 {
-    // SAFETY: `data` is a live slice.
-    unsafe { fimbrast_mmc_kind(real_time, sub_id1, data.as_ptr(), data.len()) }
-}
-
-#[cfg(test)]
-pub(crate) fn mmc_message_read(header: Universal, data: &[u8]) -> MmcMessage {
-    // SAFETY: `data` is a live slice.
+pub fn mmc_message_read(header: Universal, data: &[u8]) -> MmcMessage {
+    // SAFETY: each pointer and length are those of a live slice, and what is written is borrowed alone.
     unsafe { fimbrast_mmc_message_read(header, data.as_ptr(), data.len()) }
 }
 
-/// The command at a place of `body`.
+/// The same as one number, for a caller that has the device, which decides nothing: 0 commands, 128 responses, 255 another kind, any
+/// other number a refusal.
 #[inline]
-pub(crate) fn next_word(body: &[u8], place: usize) -> Item<'_> {
-    // SAFETY: `body` is a live slice.
-    let next = unsafe { fimbrast_next_word(body.as_ptr(), body.len(), place) };
-    Item { body, place, next }
+pub fn mmc_kind(real_time: bool, sub_id1: u8, data: &[u8]) -> u8 {
+    // SAFETY: each pointer and length are those of a live slice, and what is written is borrowed alone.
+    unsafe { fimbrast_mmc_kind(real_time, sub_id1, data.as_ptr(), data.len()) }
 }
 
-/// The information field at the front of `body`.
-pub(crate) fn next_field(body: &[u8]) -> NextField {
-    // SAFETY: `body` is a live slice.
-    unsafe { fimbrast_next_field(body.as_ptr(), body.len(), 0) }
+/// `obey`: a message's data, read from the front to its end, each command applied as it is read.
+#[inline]
+pub fn obey(generator: Generator, device_id: u8, own: u8, body: &[u8]) -> Run {
+    // SAFETY: each pointer and length are those of a live slice, and what is written is borrowed alone.
+    unsafe { fimbrast_obey(generator, device_id, own, body.as_ptr(), body.len()) }
 }
 
-pub(crate) fn open_commands(out: &mut [u8], device_id: u8) -> Writer {
-    // SAFETY: `out` is a live slice, borrowed alone.
+/// The next of `Commands`: the command at a place of the string.
+#[inline]
+pub fn next_command(body: &[u8], place: usize) -> NextCommand {
+    // SAFETY: each pointer and length are those of a live slice, and what is written is borrowed alone.
+    unsafe { fimbrast_next_command(body.as_ptr(), body.len(), place) }
+}
+
+/// The same as one number: its record says how it is made.
+#[inline]
+pub fn next_word(body: &[u8], place: usize) -> NextWord {
+    // SAFETY: each pointer and length are those of a live slice, and what is written is borrowed alone.
+    unsafe { fimbrast_next_word(body.as_ptr(), body.len(), place) }
+}
+
+/// The next of `InfoFields`: the field at a place of the string.
+#[inline]
+pub fn next_field(body: &[u8], place: usize) -> NextField {
+    // SAFETY: each pointer and length are those of a live slice, and what is written is borrowed alone.
+    unsafe { fimbrast_next_field(body.as_ptr(), body.len(), place) }
+}
+
+/// `write_commands` opens: F0H, 7FH, the device, 06H.
+#[inline]
+pub fn open_commands(out: &mut [u8], device_id: u8) -> Writer {
+    // SAFETY: each pointer and length are those of a live slice, and what is written is borrowed alone.
     unsafe { fimbrast_open_commands(out.as_mut_ptr(), out.len(), device_id) }
 }
 
-pub(crate) fn open_responses(out: &mut [u8], device_id: u8) -> Writer {
-    // SAFETY: `out` is a live slice, borrowed alone.
+/// `write_responses` opens: F0H, 7FH, the device, 07H.
+#[inline]
+pub fn open_responses(out: &mut [u8], device_id: u8) -> Writer {
+    // SAFETY: each pointer and length are those of a live slice, and what is written is borrowed alone.
     unsafe { fimbrast_open_responses(out.as_mut_ptr(), out.len(), device_id) }
 }
 
-#[cfg(test)]
-pub(crate) fn put_command(
-    writer: Writer,
-    out: &mut [u8],
-    source: &[u8],
-    command: Command,
-) -> Writer {
-    // SAFETY: `out` and `source` are live slices, and `out` is borrowed alone.
+/// Any command by its record; its name and data are parts of the source.
+#[inline]
+pub fn put_command(writer: Writer, out: &mut [u8], source: &[u8], command: Command) -> Writer {
+    // SAFETY: each pointer and length are those of a live slice, and what is written is borrowed alone.
     unsafe {
         fimbrast_put_command(
             writer,
@@ -413,15 +730,18 @@ pub(crate) fn put_command(
     }
 }
 
+/// One command by its word, as `fimbrast_next_word` gives it. A number that is no word of a name alone, of a Locate or of a Move is
+/// refused with 3, and nothing goes out of it.
 #[inline]
-pub(crate) fn put_word(writer: Writer, out: &mut [u8], word: u64) -> Writer {
-    // SAFETY: `out` is a live slice, borrowed alone.
+pub fn put_word(writer: Writer, out: &mut [u8], word: u64) -> Writer {
+    // SAFETY: each pointer and length are those of a live slice, and what is written is borrowed alone.
     unsafe { fimbrast_put_word(writer, out.as_mut_ptr(), out.len(), word) }
 }
 
+/// A Write of these fields.
 #[inline]
-pub(crate) fn put_write(writer: Writer, out: &mut [u8], data: &[u8]) -> Writer {
-    // SAFETY: `out` and `data` are live slices, and `out` is borrowed alone.
+pub fn put_write(writer: Writer, out: &mut [u8], data: &[u8]) -> Writer {
+    // SAFETY: each pointer and length are those of a live slice, and what is written is borrowed alone.
     unsafe {
         fimbrast_put_write(
             writer,
@@ -433,16 +753,16 @@ pub(crate) fn put_write(writer: Writer, out: &mut [u8], data: &[u8]) -> Writer {
     }
 }
 
-/// Another command, whose name and then its data stand at the front of the source.
+/// Another command, whose name and then its data, of these lengths, stand at the front of the source.
 #[inline]
-pub(crate) fn put_other(
+pub fn put_other(
     writer: Writer,
     out: &mut [u8],
     source: &[u8],
     name: usize,
     data: usize,
 ) -> Writer {
-    // SAFETY: `out` and `source` are live slices, and `out` is borrowed alone.
+    // SAFETY: each pointer and length are those of a live slice, and what is written is borrowed alone.
     unsafe {
         fimbrast_put_other(
             writer,
@@ -456,8 +776,10 @@ pub(crate) fn put_other(
     }
 }
 
-pub(crate) fn put_field(writer: Writer, out: &mut [u8], source: &[u8], field: Field) -> Writer {
-    // SAFETY: `out` and `source` are live slices, and `out` is borrowed alone.
+/// Any field by its record; its name and data are parts of the source.
+#[inline]
+pub fn put_field(writer: Writer, out: &mut [u8], source: &[u8], field: Field) -> Writer {
+    // SAFETY: each pointer and length are those of a live slice, and what is written is borrowed alone.
     unsafe {
         fimbrast_put_field(
             writer,
@@ -470,49 +792,33 @@ pub(crate) fn put_field(writer: Writer, out: &mut [u8], source: &[u8], field: Fi
     }
 }
 
-/// A whole message of the commands that have these words; `None`, and nothing done, where one is [`NO_WORD`] or there are more
-/// than 48.
+/// `write_commands` and `write_responses` close: F7H.
 #[inline]
-pub(crate) fn write_words<I>(out: &mut [u8], device_id: u8, words: I) -> Option<Written>
-where
-    I: ExactSizeIterator<Item = u64>,
-{
-    let length = words.len();
-    if length > WORDS {
-        return None;
-    }
-    let mut room = [const { MaybeUninit::<u64>::uninit() }; WORDS];
-    let mut filled = 0;
-    for word in words {
-        if word == NO_WORD {
-            return None;
-        }
-        room.get_mut(filled)?.write(word);
-        filled += 1;
-    }
-    // SAFETY: `out` is a live slice, borrowed alone, and the first `filled` words of `room` were written.
-    Some(unsafe {
+pub fn close_message(writer: Writer, out: &mut [u8]) -> Written {
+    // SAFETY: each pointer and length are those of a live slice, and what is written is borrowed alone.
+    unsafe { fimbrast_close_message(writer, out.as_mut_ptr(), out.len()) }
+}
+
+/// `write_info_fields` closes; nothing goes out of it.
+#[inline]
+pub fn close_fields(writer: Writer, out: &[u8]) -> Written {
+    // SAFETY: each pointer and length are those of a live slice, and what is written is borrowed alone.
+    unsafe { fimbrast_close_fields(writer, out.as_ptr(), out.len()) }
+}
+
+/// `write_commands` in one call: opened, given a command for each word, closed. A word is what `fimbrast_next_word` gives for a name
+/// alone (the kinds 0 to 8), a Locate (10 and 11) or a Move (12), with all bits of each byte. Any other number, one of a Write or of
+/// another command too, is refused with 3, and nothing goes out of it.
+#[inline]
+pub fn write_words(out: &mut [u8], device_id: u8, words: &[u64]) -> Written {
+    // SAFETY: each pointer and length are those of a live slice, and what is written is borrowed alone.
+    unsafe {
         fimbrast_write_words(
             out.as_mut_ptr(),
             out.len(),
             device_id,
-            room.as_ptr().cast(),
-            filled,
+            words.as_ptr(),
+            words.len(),
         )
-    })
-}
-
-pub(crate) fn close_message(writer: Writer, out: &mut [u8]) -> Written {
-    // SAFETY: `out` is a live slice, borrowed alone.
-    unsafe { fimbrast_close_message(writer, out.as_mut_ptr(), out.len()) }
-}
-
-pub(crate) fn close_fields(writer: Writer, out: &[u8]) -> Written {
-    // SAFETY: `out` is a live slice.
-    unsafe { fimbrast_close_fields(writer, out.as_ptr(), out.len()) }
-}
-
-pub(crate) fn obey(generator: Generator, device_id: u8, own: u8, body: &[u8]) -> Run {
-    // SAFETY: `body` is a live slice.
-    unsafe { fimbrast_obey(generator, device_id, own, body.as_ptr(), body.len()) }
+    }
 }

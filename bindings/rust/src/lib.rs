@@ -39,8 +39,12 @@
 #[cfg(test)]
 extern crate std;
 
+// The library as it is: no part of the interface, and public only for the benchmarks, which measure it.
+#[doc(hidden)]
+#[allow(missing_docs, unsafe_code)]
+pub mod ffi;
 #[allow(unsafe_code)]
-mod ffi;
+mod words;
 
 pub mod mmc;
 pub mod mtc;

@@ -15,6 +15,7 @@ use core::fmt;
 use crate::ffi;
 use crate::mtc::MtcTime;
 use crate::universal::{written, SysexError, Universal};
+use crate::words;
 
 /// The largest command or response string of one message, in bytes (p. 1).
 pub const MAX_STRING: usize = 48;
@@ -235,7 +236,7 @@ impl StandardTimeCode {
     fn usual_word(&self) -> u64 {
         match (self.each_mark(), self.final_byte) {
             (0, FinalByte::Subframes(last)) => self.with_last(last),
-            _ => ffi::NO_WORD,
+            _ => words::NO_WORD,
         }
     }
 
@@ -482,7 +483,7 @@ impl<'a> MmcCommand<'a> {
                 destination: next.byte(0),
                 source: next.byte(1),
             },
-            refusal => return Err(Some(SysexError::of(refusal & !ffi::REFUSED, 0))),
+            refusal => return Err(Some(SysexError::of(refusal & !words::REFUSED, 0))),
         })
     }
 
@@ -493,7 +494,7 @@ impl<'a> MmcCommand<'a> {
         match (self.kind(), self) {
             (kind @ ffi::STOP..=ffi::RESET, _) => u64::from(kind),
             (_, Self::LocateTarget(target)) => target.usual_word(),
-            _ => ffi::NO_WORD,
+            _ => words::NO_WORD,
         }
     }
 
@@ -501,7 +502,7 @@ impl<'a> MmcCommand<'a> {
     pub(crate) fn word(&self) -> u64 {
         let kind = u64::from(self.kind());
         match *self {
-            Self::Write(_) | Self::Other { .. } => ffi::NO_WORD,
+            Self::Write(_) | Self::Other { .. } => words::NO_WORD,
             Self::LocateField { register } => kind | u64::from(register) << 8,
             Self::LocateTarget(ref target) => target.word(),
             Self::Move {
@@ -705,7 +706,7 @@ impl<'a> Iterator for Commands<'a> {
         if place >= self.bytes.len() {
             return None;
         }
-        let item = ffi::next_word(self.bytes, place);
+        let item = words::next_word(self.bytes, place);
         let next = item.next;
         self.place = next.place;
         if next.word <= u64::from(ffi::RESET) {
@@ -715,8 +716,8 @@ impl<'a> Iterator for Commands<'a> {
             return Some(Ok(MmcCommand::Other { name, data }));
         }
         let read = match next.case() {
-            ffi::CUT => return Some(Err(SysexError::Length)),
-            ffi::END => return None,
+            words::CUT => return Some(Err(SysexError::Length)),
+            words::END => return None,
             ffi::LOCATE_TARGET => Ok(MmcCommand::LocateTarget(StandardTimeCode::of_word(next))),
             _ => MmcCommand::of(next, self.bytes),
         };
@@ -762,7 +763,7 @@ impl<'a> Iterator for InfoFields<'a> {
 
     fn next(&mut self) -> Option<Self::Item> {
         let body = self.bytes;
-        let answer = ffi::next_field(body);
+        let answer = ffi::next_field(body, 0);
         self.bytes = body.get(answer.place..).unwrap_or(&[]);
         match SysexError::check(answer.refusal) {
             Ok(()) => Some(Ok(InfoField::of(answer.field, body))),
@@ -848,7 +849,7 @@ pub fn write_commands(
     device_id: u8,
     commands: &[MmcCommand<'_>],
 ) -> Result<usize, SysexError> {
-    match ffi::write_words(out, device_id, commands.iter().map(MmcCommand::usual_word)) {
+    match words::write_words(out, device_id, commands.iter().map(MmcCommand::usual_word)) {
         Some(answer) => written(answer),
         None => write_unusual(out, device_id, commands),
     }
@@ -861,7 +862,7 @@ fn write_unusual(
     device_id: u8,
     commands: &[MmcCommand<'_>],
 ) -> Result<usize, SysexError> {
-    match ffi::write_words(out, device_id, commands.iter().map(MmcCommand::word)) {
+    match words::write_words(out, device_id, commands.iter().map(MmcCommand::word)) {
         Some(answer) => written(answer),
         None => write_one_by_one(out, device_id, commands),
     }

@@ -222,7 +222,7 @@ impl QuarterFrame {
     /// # Ok::<(), fimbrast::universal::SysexError>(())
     /// ```
     pub fn pieces(time: &MtcTime) -> [u8; 8] {
-        ffi::fimbrast_pieces(time.flat()).bytes
+        ffi::fimbrast_pieces(*time).bytes
     }
 }
 

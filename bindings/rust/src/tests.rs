@@ -13,6 +13,7 @@ use crate::mmc::*;
 use crate::mtc::*;
 use crate::transport::*;
 use crate::universal::*;
+use crate::words;
 
 const RATES: [TimeCodeType; 4] = [
     TimeCodeType::Fps24,
@@ -456,13 +457,32 @@ fn universal() {
 }
 
 #[test]
+fn the_version_is_the_archives() {
+    let [major, minor, patch] = [
+        env!("CARGO_PKG_VERSION_MAJOR"),
+        env!("CARGO_PKG_VERSION_MINOR"),
+        env!("CARGO_PKG_VERSION_PATCH"),
+    ]
+    .map(|part| part.parse::<u32>().unwrap());
+    assert_eq!(ffi::VERSION, major * 10_000 + minor * 100 + patch);
+    assert_eq!(ffi::fimbrast_version(), ffi::VERSION);
+}
+
+#[test]
 fn refusals() {
-    for number in 1..=10 {
+    for number in 1..=255 {
         let refusal = SysexError::of(number, 7);
         assert_eq!(refusal.number(), number);
         assert_eq!(SysexError::check(number), Err(SysexError::of(number, 0)));
         assert!(!refusal.to_string().is_empty());
+        // Each refusal of the library has its name here, and no other number has one.
+        let named = refusal != SysexError::Unknown(number);
+        assert_eq!(named, ffi::REFUSALS.contains(&number));
     }
+    assert_eq!(
+        SysexError::Unknown(200).to_string(),
+        "refusal 200, which this crate has no name for"
+    );
     assert_eq!(SysexError::check(0), Ok(()));
     let small = SysexError::BufferTooSmall { needed: 14 };
     assert_eq!(
@@ -1019,8 +1039,8 @@ fn a_number_that_is_no_word_is_refused() {
     ];
     for number in numbers {
         let mut out = [0xAA; 20];
-        let answer = ffi::write_words(&mut out, 0x7F, [1, number, 1].into_iter());
-        if number == ffi::NO_WORD {
+        let answer = words::write_words(&mut out, 0x7F, [1, number, 1].into_iter());
+        if number == words::NO_WORD {
             assert_eq!(answer, None);
             continue;
         }
@@ -1048,7 +1068,7 @@ fn what_is_written_reads_back_as_the_same_word() {
         let Ok(n) = write_commands(&mut out, 0, core::slice::from_ref(command)) else {
             continue;
         };
-        let read = ffi::next_word(&out[4..n - 1], 0).next;
+        let read = words::next_word(&out[4..n - 1], 0).next;
         let blank = matches!(command, MmcCommand::LocateTarget(code) if code.blank);
         // A blank label goes out as zeros.
         let kept = if blank { !0 ^ 0xFFFF_FFFF << 8 } else { !0 };

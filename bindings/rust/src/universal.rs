@@ -13,8 +13,9 @@ use crate::ffi;
 /// The device ID that addresses all devices (p. 35).
 pub const ALL_DEVICES: u8 = 0x7F;
 
-/// Why a reading or a writing was turned back.
+/// Why a reading or a writing was turned back. A later version may have more of them.
 #[derive(Debug, Clone, Copy, PartialEq, Eq, Hash)]
+#[non_exhaustive]
 pub enum SysexError {
     /// 1: a byte above 7FH in a name or in data to be written.
     DataByte,
@@ -39,10 +40,12 @@ pub enum SysexError {
     End,
     /// 10: 256 items were already accepted in this writing.
     ItemLimit,
+    /// A number that this version of the crate has no name for.
+    Unknown(u8),
 }
 
 impl SysexError {
-    /// The number of the refusal, 1 to 10.
+    /// The number of the refusal.
     ///
     /// ```
     /// use fimbrast::universal::SysexError;
@@ -52,33 +55,35 @@ impl SysexError {
     /// ```
     pub const fn number(self) -> u8 {
         match self {
-            Self::DataByte => 1,
-            Self::Length => 2,
-            Self::OutOfRange => 3,
-            Self::BufferTooSmall { .. } => 4,
-            Self::Device => 5,
-            Self::Source => 6,
-            Self::Target => 7,
-            Self::Stopped => 8,
-            Self::End => 9,
-            Self::ItemLimit => 10,
+            Self::DataByte => ffi::REFUSED_DATA_BYTE,
+            Self::Length => ffi::REFUSED_LENGTH,
+            Self::OutOfRange => ffi::REFUSED_OUT_OF_RANGE,
+            Self::BufferTooSmall { .. } => ffi::REFUSED_BUFFER_TOO_SMALL,
+            Self::Device => ffi::REFUSED_DEVICE,
+            Self::Source => ffi::REFUSED_SOURCE,
+            Self::Target => ffi::REFUSED_TARGET,
+            Self::Stopped => ffi::REFUSED_STOPPED,
+            Self::End => ffi::REFUSED_END,
+            Self::ItemLimit => ffi::REFUSED_ITEM_LIMIT,
+            Self::Unknown(number) => number,
         }
     }
 
-    /// The refusal of a number that is not 0, with the needed length for 4. A number above 10 is taken as 10.
+    /// The refusal of a number that is not 0, with the needed length for 4.
     #[inline]
     pub(crate) const fn of(number: u8, needed: usize) -> Self {
         match number {
-            1 => Self::DataByte,
-            2 => Self::Length,
-            3 => Self::OutOfRange,
-            4 => Self::BufferTooSmall { needed },
-            5 => Self::Device,
-            6 => Self::Source,
-            7 => Self::Target,
-            8 => Self::Stopped,
-            9 => Self::End,
-            _ => Self::ItemLimit,
+            ffi::REFUSED_DATA_BYTE => Self::DataByte,
+            ffi::REFUSED_LENGTH => Self::Length,
+            ffi::REFUSED_OUT_OF_RANGE => Self::OutOfRange,
+            ffi::REFUSED_BUFFER_TOO_SMALL => Self::BufferTooSmall { needed },
+            ffi::REFUSED_DEVICE => Self::Device,
+            ffi::REFUSED_SOURCE => Self::Source,
+            ffi::REFUSED_TARGET => Self::Target,
+            ffi::REFUSED_STOPPED => Self::Stopped,
+            ffi::REFUSED_END => Self::End,
+            ffi::REFUSED_ITEM_LIMIT => Self::ItemLimit,
+            number => Self::Unknown(number),
         }
     }
 
@@ -107,6 +112,9 @@ impl fmt::Display for SysexError {
             Self::Stopped => f.write_str("the generator is stopped"),
             Self::End => f.write_str("the place is at or past the end"),
             Self::ItemLimit => f.write_str("256 items were already accepted"),
+            Self::Unknown(number) => {
+                write!(f, "refusal {number}, which this crate has no name for")
+            }
         }
     }
 }

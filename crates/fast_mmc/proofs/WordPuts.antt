@@ -12,7 +12,7 @@ use lib.Seq.{drop-cons}
 use Rattle.mmc.specs.declared.command.MmcCommand.{MmcCommand}
 use Rattle.fast_mmc.specs.declared.numbers.WrittenNumbers.{WrittenNumbers}
 use Rattle.mmc.specs.Item.{commandItem}
-use Rattle.fast_mmc.specs.Numbers.{neededOf, writtenNumbers}
+use Rattle.fast_mmc.specs.Numbers.{writtenNumbers}
 use Rattle.fast_mmc.specs.Word.{plainCommand, byteAt, wordItem}
 use Rattle.fast_mmc.specs.Contracts.{openWriting, PutWhole, went-nothing, went-whole, PutOne, stayed, went-out}
 use Rattle.fast_mmc.specs.Refusal.{flatStop}
@@ -264,13 +264,13 @@ module _ (at : ℕ) (near : at ≤ 40000) (out : List ℕ) where
 
   -- 2 outside 5 to 52.
   pub ends-short : at < 5 → ClosesWith (record { writing = openWriting at 0; out = out }) (length out) (record { refusal = 2; length = 0 }) out
-  unfolding writtenNumbers neededOf
+  unfolding writtenNumbers
   ends-short h =
       ends-as (refusing 2) (refused (refusal 2)) out (close-empty (openWriting at 0) (going-sound at 0 (omega arith) near) h) refl
       (sym (overlay-none out at))
 
   pub ends-long : 5 ≤ at → 52 < at → ClosesWith (record { writing = openWriting at 0; out = out }) (length out) (record { refusal = 2; length = 0 }) out
-  unfolding writtenNumbers neededOf
+  unfolding writtenNumbers
   ends-long l h =
       ends-as (refusing 2) (refused (refusal 2)) out (close-long (openWriting at 0) (going-sound at 0 (omega arith) near) l h) refl
       (sym (overlay-none out at))
@@ -288,7 +288,7 @@ module _ (at : ℕ) (near : at ≤ 40000) (out : List ℕ) where
 
   pub ends-full : (left : List ℕ) → 5 ≤ at → at ≤ 52 → length left ≤ at → left ≡ overlay out at (247 ∷ [])
       → ClosesWith (record { writing = openWriting at 0; out = out }) (length out) (record { refusal = 4; length = at + 1 }) left
-  unfolding writtenNumbers neededOf
+  unfolding writtenNumbers
   ends-full left l h room p =
       ends-as (sent (247 ∷ [])) (refused (tooSmall (at + 1))) left (close-sent (openWriting at 0) (going-sound at 0 (omega arith) near) l (omega arith))
       (rw (lt-leb (at + 1) (length out) (omega (arith, same-room left p)))) p
@@ -332,7 +332,7 @@ barred-words r out (x ∷ ws) =
     ap (λ (s : State). afterWords (s .writing) (s .out) ws) (barred-item r out (wordItem x)) ∙ barred-words r out ws
 
 barred-ends : (out : List ℕ) → ClosesWith (record { writing = barred (refusal 5); out = out }) (length out) (record { refusal = 5; length = 0 }) out
-unfolding writtenNumbers neededOf
+unfolding writtenNumbers
 barred-ends out =
     let c = close-repeats (barred (refusal 5)) (refusal 5) (barred-sound (refusal 5)) in (
       ap writtenNumbers

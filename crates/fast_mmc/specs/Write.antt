@@ -4,11 +4,12 @@ use mathlib.Core.Bool.{cond}
 use mathlib.Core.List.{List}
 use lib.Dec.{eqb}
 use lib.ListN.{length}
-use Rattle.fast_mmc.specs.Refusal.{errorOf, flatStop}
+use Rattle.fast_mmc.specs.Refusal.{flatStop}
 use Rattle.mmc.specs.Item.{commandItem}
 use Rattle.mmc.specs.Part.{part}
 use Rattle.mmc.specs.Write.{Writing, writingOf, writingAfter}
 use Rattle.universal.specs.Emission.{Emission}
+use Rattle.universal.specs.Refusals.{errorOf}
 use Rattle.codes.specs.declared.time_code.Checked.{Checked}
 use Rattle.codes.specs.declared.time_code.Checked.the-variants.{Accepted, Refused}
 use Rattle.mmc.specs.declared.command.MmcCommand.the-variants.{Write, Other}

@@ -7,7 +7,7 @@ ghost use mathlib.Core.Path.{_≡_};
 ghost use Rattle.transport.specs.Transport.{applied, appliedOf, answerOf};
 ghost use Rattle.fast_mmc.specs.Apply.{flatReply, flatApplied};
 
-// Answer 0 is done, 255 for another device, any other number a refusal.
+// The generator after a command. Answer 0 is done, 255 for another device, any other number a refusal: 5 or 7.
 #[repr(C)]
 pub struct FlatApplied {
     pub generator: FlatGenerator,

@@ -16,6 +16,7 @@ ghost use Rattle.codes.specs.TimeCode.{finalValue, standardBytesOf, shortBytesO
 ghost use Rattle.fast_mtc.specs.Refusal.{refusalIn};
 ghost use Rattle.fast_mmc.specs.Code.{statusOf, flatStatus, finalOf, isStatus, codeOf, flatCode, noCode, shortOf, flatShort, noShort, flatName};
 
+// The flags of a time code's status byte.
 #[repr(C)]
 pub struct FlatStatus {
     pub estimated: bool,
@@ -24,7 +25,7 @@ pub struct FlatStatus {
     pub no_time_code: bool,
 }
 
-// The last byte is the status byte where `status`, else subframes.
+// A time code. The last byte is the status byte where `status` is true, else subframes.
 #[repr(C)]
 pub struct FlatCode {
     pub time: FlatTime,
@@ -35,6 +36,7 @@ pub struct FlatCode {
     pub last: u8,
 }
 
+// A short time code. The last byte is the status byte where `status` is true, else subframes.
 #[repr(C)]
 pub struct FlatShort {
     pub frames: u8,
@@ -43,23 +45,26 @@ pub struct FlatShort {
     pub last: u8,
 }
 
+// The bytes of a time code.
 #[repr(C)]
 pub struct FiveBytes {
     pub bytes: [u8; 5],
 }
 
+// The bytes of a short time code.
 #[repr(C)]
 pub struct TwoBytes {
     pub bytes: [u8; 2],
 }
 
-// The bytes are zeros where the refusal is not 0.
+// A written time code. The bytes are zeros where the refusal is not 0.
 #[repr(C)]
 pub struct FlatCodeBytes {
     pub refusal: u8,
     pub code: FiveBytes,
 }
 
+// A written short time code. The bytes are zeros where the refusal is not 0.
 #[repr(C)]
 pub struct FlatShortBytes {
     pub refusal: u8,

@@ -26,7 +26,8 @@ pub struct FlatUniversal {
     pub sub_id2: u8,
 }
 
-// Answer 0 is a message, 255 another kind, any other number a refusal. Without a message all else is 0.
+// A full message as it was read. Answer 0 is a message, 255 another kind, any other number a refusal. Without a message all else is
+// 0.
 #[repr(C)]
 pub struct FlatFullMessage {
     pub answer: u8,
@@ -34,6 +35,7 @@ pub struct FlatFullMessage {
     pub time: FlatTime,
 }
 
+// Binary Groups 1 to 8, four bits each, and the two flag bits.
 #[repr(C)]
 pub struct FlatUserBits {
     pub device_id: u8,
@@ -41,19 +43,20 @@ pub struct FlatUserBits {
     pub flags: u8,
 }
 
-// As in a full message.
+// User bits as they were read; the answer is as in a full message.
 #[repr(C)]
 pub struct FlatReadUserBits {
     pub answer: u8,
     pub bits: FlatUserBits,
 }
 
+// The groups as four bytes.
 #[repr(C)]
 pub struct FourBytes {
     pub bytes: [u8; 4],
 }
 
-// As in a full message.
+// A message of commands or of responses; the answer is as in a full message.
 #[repr(C)]
 pub struct FlatMmcMessage {
     pub answer: u8,

@@ -27,7 +27,8 @@ pub struct FlatPart {
     pub length: usize,
 }
 
-// The cases 0 to 13 are those of `MmcCommand` in their order; a kind above 13 is taken as 13. What a case does not use is 0.
+// One command. The kinds 0 to 13 are the cases of `MmcCommand` in their order; a kind above 13 is taken as 13. What a kind does not
+// use is 0 in an answer, and is not read in an argument.
 #[repr(C)]
 pub struct FlatCommand {
     pub kind: u8,
@@ -38,7 +39,8 @@ pub struct FlatCommand {
     pub data: FlatPart,
 }
 
-// A refusal, or 0 and the command, and the place to read on from.
+// Refusal 0 and the command, with the place to read on from; 2 where the string is cut short, with the end as its place; 9 at or past
+// the end.
 #[repr(C)]
 pub struct FlatNextCommand {
     pub refusal: u8,
@@ -46,7 +48,8 @@ pub struct FlatNextCommand {
     pub place: usize,
 }
 
-// The cases 0 to 2 are those of `InfoField` in their order; a kind above 2 is taken as 2.
+// One information field. The kinds 0 to 2 are the cases of `InfoField` in their order; a kind above 2 is taken as 2. What a kind does
+// not use is 0 in an answer, and is not read in an argument.
 #[repr(C)]
 pub struct FlatField {
     pub kind: u8,
@@ -57,6 +60,7 @@ pub struct FlatField {
     pub data: FlatPart,
 }
 
+// Refusal 0 and the field, with the place to read on from; 2 and 9 as for a command.
 #[repr(C)]
 pub struct FlatNextField {
     pub refusal: u8,

@@ -1,14 +1,14 @@
 // Writing a string: opened, given its items one at a time, and closed.
-use crate::refusal::error;
 use crate::refusal::flat_stop;
 use mmc::Checked;
 use mmc::Writer;
+use universal::SysexError;
 ghost use mathlib.Core.Path.{_≡_};
 ghost use Rattle.mmc.specs.Write.{writingOf};
 ghost use Rattle.fast_mmc.specs.Write.{checkedAt, writerOf, flatWriter};
 
-// A writer as one number: the position in the lowest four bytes, the items accepted in the next two, and the first refusal above
-// them. A refusal above 10 is taken as 10.
+// A writer as one number: the position in the lowest four bytes, the items accepted in the next two, and in the byte above them the
+// first refusal, which it repeats. A refusal above 10 is taken as 10.
 pub type FlatWriter = u64;
 
 pub fn checked_at(refusal: u8, needed: usize) -> Checked
@@ -17,7 +17,7 @@ pub fn checked_at(refusal: u8, needed: usize) -> Checked
     if refusal == 0 {
         return Checked::Accepted;
     }
-    Checked::Refused(error(refusal, needed))
+    Checked::Refused(SysexError::of_number(refusal, needed))
 }
 
 pub fn writer_of(w: FlatWriter) -> Writer

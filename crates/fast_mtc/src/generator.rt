@@ -25,7 +25,7 @@ const LAST: usize = 6;
 
 const RUNNING: usize = 7;
 
-// Direction 0 is forward, any other reverse. A last piece above 7 is none.
+// A generator. Direction 0 is forward, any other reverse. A last piece above 7 is none.
 #[repr(C)]
 pub struct FlatGenerator {
     pub time: FlatTime,

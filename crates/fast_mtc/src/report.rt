@@ -34,6 +34,8 @@ ghost use Rattle.fast_mtc.specs.Time.{flatTime};
 ghost use Rattle.fast_mtc.specs.Reader.{bitOf, nibblesIn, readerIn, flatReport, flatEvent, labelOr, reportIn, flatMaybeSequence};
 ghost use Rattle.fast_mtc.specs.Contracts.{SequenceEnded, SteadyLabel, steady};
 
+// The end of a full sequence: the label as it was assembled, the current one, the direction, and whether the assembled label does not
+// follow the one before it.
 #[repr(C)]
 pub struct FlatSequence {
     pub raw: FlatTime,
@@ -42,7 +44,7 @@ pub struct FlatSequence {
     pub discontinuity: bool,
 }
 
-// A report, where `present`; elsewhere all zeros.
+// A report, where `present` is true. Where it is false the sequence is all zeros.
 #[repr(C)]
 pub struct FlatMaybeSequence {
     pub present: bool,

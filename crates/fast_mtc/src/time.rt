@@ -8,7 +8,7 @@ ghost use Rattle.labels.specs.Time.{newTimeOf};
 ghost use Rattle.fast_mtc.specs.Refusal.{refusalIn};
 ghost use Rattle.fast_mtc.specs.Time.{timeOf, timeAt, timeNumbered, flatTime, noTime, frameOf, flatFrame};
 
-// A label. Of the rate only the two low bits are read.
+// A label. Rates: 0 is 24, 1 is 25, 2 is 30 drop-frame, 3 is 30 frames per second. Only the two low bits of a rate are read.
 #[repr(C)]
 pub struct FlatTime {
     pub hours: u8,

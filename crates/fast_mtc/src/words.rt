@@ -19,20 +19,22 @@ ghost use Rattle.mtc.specs.Reader.{fresh, afterFullMessage};
 ghost use Rattle.fast_mtc.specs.Reader.{wayIn, lastIn, countIn, firstIn, flatWay, flatMaybeTime, nibblesIn, labelIn, timeIn, readerIn, readerFields};
 ghost use Rattle.fast_mtc.specs.Contracts.{StoppedOrder};
 
-// A time, where `present`; elsewhere all zeros.
+// A time, where `present` is true. Where it is false the time is all zeros in an answer, and is not read in an argument.
 #[repr(C)]
 pub struct FlatMaybeTime {
     pub present: bool,
     pub time: FlatTime,
 }
 
-// Eight nibbles, the order, the first piece, the lock, and a mark and a word each for the previous and the current label.
+// A reader in fifteen words: eight nibbles, the order, the first piece, the lock, and a mark and a word each for the previous and the
+// current label. Any words are a reader in its ranges; `fimbrast_reader_parts` says which.
 #[repr(C)]
 pub struct FlatReader {
     pub words: [u32; 15],
 }
 
-// The same field by field. A last piece above 7 is none; direction 0 is forward, 1 reverse, any other none.
+// A reader field by field. A last piece above 7 is none; direction 0 is forward, 1 reverse, any other none. An answer has 255 for
+// none.
 #[repr(C)]
 pub struct FlatReaderFields {
     pub nibbles: [u8; 8],

@@ -1,16 +1,18 @@
 // A list of quarter frames given to a reader.
+use crate::reader::FlatReport;
 use fast_mtc::receive::receive;
 ghost use mathlib.Core.Path.{_≡_};
 ghost use Prim.Native.Nat.{_<_};
 ghost use Rattle.fast_mtc.specs.Reader.{readerIn};
 ghost use Rattle.fimbrast.specs.Feed.{flatCounted, fed, flatFed};
 
-// The reports of the data bytes, those with a discontinuity, and the last one, as a number. Its labels stand in the reader.
+// Of a list of data bytes: how many sequences it reported, how many of those with a discontinuity, and the last report, whose labels
+// stand in the reader.
 #[repr(C)]
 pub struct FlatFed {
     pub reports: usize,
     pub discontinuities: usize,
-    pub last: u64,
+    pub last: FlatReport,
 }
 
 // A byte reported this.
@@ -28,7 +30,7 @@ fn counted(f: FlatFed, report: u64) -> FlatFed
     }
 }
 
-// `MtcReader::receive` for each of the bytes, on the record's words.
+// `MtcReader::receive` for each of the bytes, which must not overlap the reader.
 #[no_mangle]
 pub extern "C" fn fimbrast_feed(reader: &mut [u32; 15], bytes: &[u8]) -> FlatFed
     ensures { λ r. ⌜ (r ≡ flatFed (fed (readerIn (now (reader .entry))) (now (bytes .entry)))) × (readerIn (now (reader .exit)) ≡ fed (readerIn (now (reader .entry))) (now (bytes .entry)) .reader) ⌝ }

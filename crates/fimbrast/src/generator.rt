@@ -14,7 +14,7 @@ ghost use Rattle.mtc.specs.Generator.{nextByte, afterNextByte, started, withRun
 ghost use Rattle.fast_mtc.specs.Time.{timeOf, flatTime};
 ghost use Rattle.fast_mtc.specs.Generator.{generatorOf, flatGenerator, generatorIn, flatByte};
 
-// `MtcGenerator::new`, for each direction: no number can stand for none.
+// `MtcGenerator::new`, forward: a running generator, whose first sequence encodes the time.
 #[no_mangle]
 pub extern "C" fn fimbrast_generator_forward(time: FlatTime) -> FlatGenerator
     ensures { λ r. ⌜ r ≡ flatGenerator (started (timeOf time) Direction.Forward) ⌝ }
@@ -22,6 +22,7 @@ pub extern "C" fn fimbrast_generator_forward(time: FlatTime) -> FlatGenerator
     flat_generator(MtcGenerator::new(time_of(time), Direction::Forward))
 }
 
+// The same in reverse.
 #[no_mangle]
 pub extern "C" fn fimbrast_generator_reverse(time: FlatTime) -> FlatGenerator
     ensures { λ r. ⌜ r ≡ flatGenerator (started (timeOf time) Direction.Reverse) ⌝ }
@@ -29,7 +30,7 @@ pub extern "C" fn fimbrast_generator_reverse(time: FlatTime) -> FlatGenerator
     flat_generator(MtcGenerator::new(time_of(time), Direction::Reverse))
 }
 
-// `MtcGenerator::next_byte`, on the record's bytes.
+// `MtcGenerator::next_byte`: the next data byte, or refusal 8 and byte 0 while stopped.
 #[no_mangle]
 pub extern "C" fn fimbrast_next_byte(generator: &mut [u8; 8]) -> FlatByte
     ensures { λ r. ⌜ (r ≡ flatByte (nextByte (generatorIn (now (generator .entry))))) × (generatorIn (now (generator .exit)) ≡ afterNextByte (generatorIn (now (generator .entry)))) ⌝ }
@@ -37,7 +38,7 @@ pub extern "C" fn fimbrast_next_byte(generator: &mut [u8; 8]) -> FlatByte
     next_byte(generator)
 }
 
-// `MtcGenerator::set_running`.
+// `MtcGenerator::set_running`: runs or stops it.
 #[no_mangle]
 pub extern "C" fn fimbrast_set_running(generator: FlatGenerator, running: bool) -> FlatGenerator
     ensures { λ r. ⌜ r ≡ flatGenerator (withRunning (generatorOf generator) running) ⌝ }
@@ -45,7 +46,7 @@ pub extern "C" fn fimbrast_set_running(generator: FlatGenerator, running: bool) 
     flat_generator(generator_of(generator).set_running(running))
 }
 
-// `MtcGenerator::set_direction`, for each direction.
+// `MtcGenerator::set_direction`, forward. The next piece is the one beside the last in that direction.
 #[no_mangle]
 pub extern "C" fn fimbrast_set_forward(generator: FlatGenerator) -> FlatGenerator
     ensures { λ r. ⌜ r ≡ flatGenerator (withDirection (generatorOf generator) Direction.Forward) ⌝ }
@@ -53,6 +54,7 @@ pub extern "C" fn fimbrast_set_forward(generator: FlatGenerator) -> FlatGenerato
     flat_generator(generator_of(generator).set_direction(Direction::Forward))
 }
 
+// The same in reverse.
 #[no_mangle]
 pub extern "C" fn fimbrast_set_reverse(generator: FlatGenerator) -> FlatGenerator
     ensures { λ r. ⌜ r ≡ flatGenerator (withDirection (generatorOf generator) Direction.Reverse) ⌝ }
@@ -60,7 +62,7 @@ pub extern "C" fn fimbrast_set_reverse(generator: FlatGenerator) -> FlatGenerato
     flat_generator(generator_of(generator).set_direction(Direction::Reverse))
 }
 
-// `MtcGenerator::locate`.
+// `MtcGenerator::locate`: moves to the time. The next piece is the first of the direction.
 #[no_mangle]
 pub extern "C" fn fimbrast_locate(generator: FlatGenerator, time: FlatTime) -> FlatGenerator
     ensures { λ r. ⌜ r ≡ flatGenerator (located (generatorOf generator) (timeOf time)) ⌝ }
@@ -68,7 +70,7 @@ pub extern "C" fn fimbrast_locate(generator: FlatGenerator, time: FlatTime) -> F
     flat_generator(generator_of(generator).locate(time_of(time)))
 }
 
-// `MtcGenerator::time`.
+// `MtcGenerator::time`: what the current or next sequence encodes.
 #[no_mangle]
 pub extern "C" fn fimbrast_generator_time(generator: FlatGenerator) -> FlatTime
     ensures { λ r. ⌜ r ≡ flatTime (generatorOf generator .time) ⌝ }

@@ -8,4 +8,5 @@ pub mod obey;
 pub mod reader;
 pub mod string;
 pub mod time;
+pub mod version;
 pub mod write;

@@ -33,7 +33,7 @@ ghost use Rattle.mmc.specs.Message.{messageFrom};
 ghost use Rattle.fast_mtc.specs.Time.{timeOf};
 ghost use Rattle.fast_mmc.specs.Message.{universalOf, userBitsOf, flatFullMessage, flatUserBits, flatMmcMessage, mmcKind};
 
-// `addressed`.
+// `addressed`: a message for `device_id` is for the device `own`.
 #[no_mangle]
 pub extern "C" fn fimbrast_addressed(device_id: u8, own: u8) -> bool
     ensures { λ r. ⌜ r ≡ isAddressed «device_id» own ⌝ }
@@ -41,7 +41,7 @@ pub extern "C" fn fimbrast_addressed(device_id: u8, own: u8) -> bool
     universal::addressed(device_id, own)
 }
 
-// `has_sub_id2`.
+// `has_sub_id2`: messages of this family carry a Sub-ID#2.
 #[no_mangle]
 pub extern "C" fn fimbrast_has_sub_id2(real_time: bool, sub_id1: u8) -> bool
     ensures { λ r. ⌜ r ≡ hasSubId2 «real_time» «sub_id1» ⌝ }
@@ -49,7 +49,7 @@ pub extern "C" fn fimbrast_has_sub_id2(real_time: bool, sub_id1: u8) -> bool
     universal::has_sub_id2(real_time, sub_id1)
 }
 
-// `Universal::write`.
+// `Universal::write`: the whole message, F0H to F7H.
 #[no_mangle]
 pub extern "C" fn fimbrast_universal_write(
     header: FlatUniversal,
@@ -62,7 +62,7 @@ pub extern "C" fn fimbrast_universal_write(
     written_numbers(universal_of(header).write(data, out))
 }
 
-// `FullMessage::from_universal`.
+// `FullMessage::from_universal`: the full message of these parts.
 #[no_mangle]
 pub extern "C" fn fimbrast_full_message_read(header: FlatUniversal, data: &[u8]) -> FlatFullMessage
     ensures { λ r. ⌜ r ≡ flatFullMessage (fullMessageFrom (universalOf header) (now («data» .entry))) ⌝ }
@@ -70,7 +70,7 @@ pub extern "C" fn fimbrast_full_message_read(header: FlatUniversal, data: &[u8])
     flat_full_message(FullMessage::from_universal(universal_of(header), data))
 }
 
-// `FullMessage::write`.
+// `FullMessage::write`: the whole full message, F0H to F7H.
 #[no_mangle]
 pub extern "C" fn fimbrast_full_message_write(
     device_id: u8,
@@ -87,7 +87,7 @@ pub extern "C" fn fimbrast_full_message_write(
     written_numbers(message.write(out))
 }
 
-// `UserBits::from_universal`.
+// `UserBits::from_universal`: the user bits of these parts.
 #[no_mangle]
 pub extern "C" fn fimbrast_user_bits_read(header: FlatUniversal, data: &[u8]) -> FlatReadUserBits
     ensures { λ r. ⌜ r ≡ flatUserBits (userBitsFrom (universalOf header) (now («data» .entry))) ⌝ }
@@ -95,7 +95,7 @@ pub extern "C" fn fimbrast_user_bits_read(header: FlatUniversal, data: &[u8]) ->
     flat_user_bits(UserBits::from_universal(universal_of(header), data))
 }
 
-// `UserBits::write`.
+// `UserBits::write`: the whole user bits message, F0H to F7H.
 #[no_mangle]
 pub extern "C" fn fimbrast_user_bits_write(bits: FlatUserBits, out: &mut [u8]) -> WrittenNumbers
     ensures { λ r. ⌜ r ≡ writtenNumbers (answer (userBitsWritten (userBitsOf bits)) (length (now (out .entry)))) ⌝ }
@@ -104,7 +104,7 @@ pub extern "C" fn fimbrast_user_bits_write(bits: FlatUserBits, out: &mut [u8]) -
     written_numbers(bits_of(bits).write(out))
 }
 
-// `UserBits::to_bytes`.
+// `UserBits::to_bytes`: the groups as `hhhhgggg ffffeeee ddddcccc bbbbaaaa`.
 #[no_mangle]
 pub extern "C" fn fimbrast_user_bits_bytes(bits: FlatUserBits) -> FourBytes
     ensures { λ r. ⌜ r .bytes ≡ groupBytes (userBitsOf bits .groups) ⌝ }
@@ -113,7 +113,7 @@ pub extern "C" fn fimbrast_user_bits_bytes(bits: FlatUserBits) -> FourBytes
     FourBytes { bytes }
 }
 
-// `MmcMessage::from_universal`.
+// `MmcMessage::from_universal`: the machine control message of these parts.
 #[no_mangle]
 pub extern "C" fn fimbrast_mmc_message_read(header: FlatUniversal, data: &[u8]) -> FlatMmcMessage
     ensures { λ r. ⌜ r ≡ flatMmcMessage (messageFrom (universalOf header) (now («data» .entry))) ⌝ }
@@ -121,7 +121,8 @@ pub extern "C" fn fimbrast_mmc_message_read(header: FlatUniversal, data: &[u8]) 
     flat_mmc_message(MmcMessage::from_universal(universal_of(header), data))
 }
 
-// The same without the device, which decides nothing, as one number.
+// The same as one number, for a caller that has the device, which decides nothing: 0 commands, 128 responses, 255 another kind, any
+// other number a refusal.
 #[no_mangle]
 pub extern "C" fn fimbrast_mmc_kind(real_time: bool, sub_id1: u8, data: &[u8]) -> u8
     ensures { λ r. ⌜ r ≡ mmcKind (messageFrom (header «real_time» 0 «sub_id1» NoSubId2) (now («data» .entry))) ⌝ }

@@ -1,4 +1,4 @@
-// A message's data, read from the front to its end, each command applied as it is read.
+// The transport, given a whole string.
 use fast_mtc::generator::FlatGenerator;
 use fast_mtc::generator::flat_generator;
 use fast_mtc::generator::generator_of;
@@ -10,7 +10,8 @@ ghost use Rattle.transport.specs.Obey.{obeyedOf};
 ghost use Rattle.fast_mtc.specs.Generator.{generatorOf};
 ghost use Rattle.fimbrast.specs.Obey.{flatSummary, flatRun};
 
-// The answers to a string's commands: how many, how many of them refusals, and the refusal that ended the reading.
+// The generator after all commands of a string, how many were read, how many of those were refused, and the refusal that ended the
+// reading: 9 at the end, 2 where the string is cut short.
 #[repr(C)]
 pub struct FlatRun {
     pub generator: FlatGenerator,
@@ -33,7 +34,7 @@ fn flat_run(run: Obeyed) -> FlatRun
     }
 }
 
-// A message's data, read and applied.
+// `obey`: a message's data, read from the front to its end, each command applied as it is read.
 #[no_mangle]
 pub extern "C" fn fimbrast_obey(
     generator: FlatGenerator,

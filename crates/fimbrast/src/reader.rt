@@ -22,7 +22,15 @@ ghost use Rattle.mtc.specs.Reader.{fresh, afterByte, eventOf, afterFullMessage}
 ghost use Rattle.fast_mtc.specs.Time.{timeOf};
 ghost use Rattle.fast_mtc.specs.Reader.{flatWay, flatMaybeTime, readerIn, readerFields, flatEvent, reportIn, flatMaybeSequence};
 
-// `MtcReader::new`.
+// A report as one number; 0 is no report. From the lowest bit: 1, the direction, the discontinuity. Its labels stay in the reader;
+// `fimbrast_report_parts` takes both together.
+pub type FlatReport = u64;
+
+// What a data byte gives, as one number, which comes back in a register: the piece in the lowest byte, the boundary in bit 8, and from
+// bit 9 on the report of the sequence that it ends.
+pub type FlatEvent = u64;
+
+// `MtcReader::new`: not locked, and stopped.
 #[no_mangle]
 pub extern "C" fn fimbrast_reader_new() -> FlatReader
     ensures { λ r. ⌜ readerIn (r .words) ≡ fresh ⌝ }
@@ -30,15 +38,15 @@ pub extern "C" fn fimbrast_reader_new() -> FlatReader
     FlatReader { words: fresh() }
 }
 
-// `MtcReader::receive`, on the record's words. The event comes as one number.
+// `MtcReader::receive`: takes one data byte.
 #[no_mangle]
-pub extern "C" fn fimbrast_receive(reader: &mut [u32; 15], byte: u8) -> u64
+pub extern "C" fn fimbrast_receive(reader: &mut [u32; 15], byte: u8) -> FlatEvent
     ensures { λ r. ⌜ (r ≡ flatEvent (eventOf (readerIn (now (reader .entry))) byte)) × (readerIn (now (reader .exit)) ≡ afterByte (readerIn (now (reader .entry))) byte) ⌝ }
 {
     receive(reader, byte)
 }
 
-// `MtcReader::full_message`, with the message's time.
+// `MtcReader::full_message`, with the message's time: the reader is then stopped at it.
 #[no_mangle]
 pub extern "C" fn fimbrast_reader_full_message(reader: &mut [u32; 15], time: FlatTime)
     ensures { λ _. ⌜ readerIn (now (reader .exit)) ≡ afterFullMessage (readerIn (now (reader .entry))) (timeOf time) ⌝ }
@@ -46,7 +54,7 @@ pub extern "C" fn fimbrast_reader_full_message(reader: &mut [u32; 15], time: Fla
     full_message(reader, time_of(time));
 }
 
-// `MtcReader::is_locked`.
+// `MtcReader::is_locked`: true after a full sequence, until a broken order or a turn.
 #[no_mangle]
 pub extern "C" fn fimbrast_is_locked(reader: FlatReader) -> bool
     ensures { λ r. ⌜ r ≡ readerIn (reader .words) .locked ⌝ }
@@ -55,7 +63,7 @@ pub extern "C" fn fimbrast_is_locked(reader: FlatReader) -> bool
     is_locked(words)
 }
 
-// `MtcReader::is_running`.
+// `MtcReader::is_running`: true after a data byte, false after a full message.
 #[no_mangle]
 pub extern "C" fn fimbrast_is_running(reader: FlatReader) -> bool
     ensures { λ r. ⌜ r ≡ readerIn (reader .words) .running ⌝ }
@@ -73,7 +81,7 @@ pub extern "C" fn fimbrast_reader_direction(reader: FlatReader) -> u8
     flat_way(direction(words))
 }
 
-// `MtcReader::time`.
+// `MtcReader::time`: the current time of the last full sequence, or the time of a full message after it.
 #[no_mangle]
 pub extern "C" fn fimbrast_reader_time(reader: FlatReader) -> FlatMaybeTime
     ensures { λ r. ⌜ r ≡ flatMaybeTime (readerIn (reader .words) .time) ⌝ }
@@ -91,9 +99,10 @@ pub extern "C" fn fimbrast_reader_parts(reader: FlatReader) -> FlatReaderFields
     reader_fields(reader_in(words))
 }
 
-// The report of a number, an event's from bit 9 on, with the labels of the reader that it left. It is none where its lowest bit is 0.
+// The report of a number with the labels of the reader that it left, before the reader gets anything more. It is none where the
+// number's lowest bit is 0.
 #[no_mangle]
-pub extern "C" fn fimbrast_report_parts(reader: FlatReader, report: u64) -> FlatMaybeSequence
+pub extern "C" fn fimbrast_report_parts(reader: FlatReader, report: FlatReport) -> FlatMaybeSequence
     ensures { λ r. ⌜ r ≡ flatMaybeSequence (reportIn (readerIn (reader .words)) report) ⌝ }
 {
     let words = reader.words;

@@ -18,7 +18,7 @@ pub extern "C" fn fimbrast_next_command(body: &[u8], place: usize) -> FlatNextCo
     flat_next_command(mmc::next_command(body, place))
 }
 
-// The same as one number.
+// The same as one number: its record says how it is made.
 #[no_mangle]
 pub extern "C" fn fimbrast_next_word(body: &[u8], place: usize) -> NextWord
     ensures { λ r. ⌜ r ≡ nextWord (nextCommand (now (body .entry)) place) ⌝ }

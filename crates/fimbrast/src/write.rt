@@ -1,4 +1,4 @@
-// Writing a string: opened, given its items one at a time, and closed.
+// Writing a string: opened, given its items one at a time, and closed, with one buffer throughout, left alone between the calls.
 use fast_mmc::WrittenNumbers;
 use fast_mmc::string::FlatCommand;
 use fast_mmc::string::FlatField;
@@ -37,7 +37,7 @@ pub extern "C" fn fimbrast_open_responses(out: &mut [u8], device_id: u8) -> Flat
     flat_writer(mmc::open_responses(out, device_id))
 }
 
-// `write_info_fields` opens.
+// `write_info_fields` opens; nothing goes out of it.
 #[no_mangle]
 pub extern "C" fn fimbrast_open_fields() -> FlatWriter
     ensures { λ r. ⌜ r ≡ flatWriter openedFields ⌝ }
@@ -45,7 +45,7 @@ pub extern "C" fn fimbrast_open_fields() -> FlatWriter
     flat_writer(mmc::open_fields())
 }
 
-// One command; its parts lie in the lent source.
+// Any command by its record; its name and data are parts of the source.
 #[no_mangle]
 pub extern "C" fn fimbrast_put_command(
     writer: FlatWriter,
@@ -80,7 +80,7 @@ pub extern "C" fn fimbrast_put_write(writer: FlatWriter, out: &mut [u8], data: &
     fast_mmc::put_write(writer, out, data)
 }
 
-// Another command, whose name and then its data stand at the front of the lent source.
+// Another command, whose name and then its data, of these lengths, stand at the front of the source.
 #[no_mangle]
 pub extern "C" fn fimbrast_put_other(
     writer: FlatWriter,
@@ -95,7 +95,7 @@ pub extern "C" fn fimbrast_put_other(
     fast_mmc::put_other(writer, out, source, name, data)
 }
 
-// One field; its parts lie in the lent source.
+// Any field by its record; its name and data are parts of the source.
 #[no_mangle]
 pub extern "C" fn fimbrast_put_field(
     writer: FlatWriter,
@@ -111,7 +111,7 @@ pub extern "C" fn fimbrast_put_field(
     flat_writer(back)
 }
 
-// `write_commands` and `write_responses` close.
+// `write_commands` and `write_responses` close: F7H.
 #[no_mangle]
 pub extern "C" fn fimbrast_close_message(writer: FlatWriter, out: &mut [u8]) -> WrittenNumbers
     ensures { λ r. ⌜ r ≡ writtenNumbers (wholeMessage (writingAt writer) (length (now (out .entry)))) ⌝ }
@@ -120,7 +120,7 @@ pub extern "C" fn fimbrast_close_message(writer: FlatWriter, out: &mut [u8]) -> 
     written_numbers(writer_of(writer).close_message(out))
 }
 
-// `write_info_fields` closes.
+// `write_info_fields` closes; nothing goes out of it.
 #[no_mangle]
 pub extern "C" fn fimbrast_close_fields(writer: FlatWriter, out: &[u8]) -> WrittenNumbers
     ensures { λ r. ⌜ r ≡ writtenNumbers (wholeFields (writingAt writer) (length (now (out .entry)))) ⌝ }
@@ -128,8 +128,9 @@ pub extern "C" fn fimbrast_close_fields(writer: FlatWriter, out: &[u8]) -> Writt
     written_numbers(writer_of(writer).close_fields(out))
 }
 
-// `write_commands` in one call, for commands that are words, as `fimbrast_next_word` gives them. A number that is no word of a name
-// alone, of a Locate or of a Move is refused with 3, and nothing goes out of it.
+// `write_commands` in one call: opened, given a command for each word, closed. A word is what `fimbrast_next_word` gives for a name
+// alone (the kinds 0 to 8), a Locate (10 and 11) or a Move (12), with all bits of each byte. Any other number, one of a Write or of
+// another command too, is refused with 3, and nothing goes out of it.
 #[no_mangle]
 pub extern "C" fn fimbrast_write_words(
     out: &mut [u8],

@@ -1,6 +1,7 @@
-// The refusals of document 01, one case each. specs/Refusals.antt gives each its number.
+// The refusals of document 01, one case each, and the one place where a refusal becomes numbers and back. The definitions stand in
+// specs/Refusals.antt. The header for C has the names, numbers and words of the cases from here.
 ghost use mathlib.Core.Path.{_≡_};
-ghost use Rattle.universal.specs.Refusals.{refusalOf};
+ghost use Rattle.universal.specs.Refusals.{refusalOf, neededOf, errorOf};
 
 // Why a reading or a writing was turned back.
 pub enum SysexError {
@@ -42,6 +43,42 @@ impl SysexError {
             SysexError::Stopped => 8,
             SysexError::End => 9,
             SysexError::ItemLimit => 10,
+        }
+    }
+
+    // The length that is needed, which only refusal 4 gives.
+    pub fn needed(self) -> usize
+        ensures { λ r. ⌜ r ≡ neededOf (refusalOf self) ⌝ }
+    {
+        match self {
+            SysexError::DataByte => 0,
+            SysexError::Length => 0,
+            SysexError::OutOfRange => 0,
+            SysexError::BufferTooSmall { needed } => needed,
+            SysexError::Device => 0,
+            SysexError::Source => 0,
+            SysexError::Target => 0,
+            SysexError::Stopped => 0,
+            SysexError::End => 0,
+            SysexError::ItemLimit => 0,
+        }
+    }
+
+    // The refusal of a number, with the needed length for 4; one above 10 is taken as 10.
+    pub fn of_number(number: u8, needed: usize) -> SysexError
+        ensures { λ r. ⌜ r ≡ errorOf number needed ⌝ }
+    {
+        match number {
+            1 => SysexError::DataByte,
+            2 => SysexError::Length,
+            3 => SysexError::OutOfRange,
+            4 => SysexError::BufferTooSmall { needed },
+            5 => SysexError::Device,
+            6 => SysexError::Source,
+            7 => SysexError::Target,
+            8 => SysexError::Stopped,
+            9 => SysexError::End,
+            _ => SysexError::ItemLimit,
         }
     }
 }

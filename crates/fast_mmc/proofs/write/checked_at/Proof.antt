@@ -9,12 +9,12 @@ returns : tie.Need-returns
 unfolding checkedAt
 returns c = rw (eq-eqb _ _ (c .if1 .taken))
 
-error-requires : tie.Need-error-requires
-error-requires c κs = search needs
+of-number-requires : tie.Need-of-number-requires
+of-number-requires c κs = search needs
 
 returns-2 : tie.Need-returns-2
 unfolding checkedAt
-returns-2 c = rw (ne-eqb _ _ (c .before .if1 .left), c .error .ensures)
+returns-2 c = rw (ne-eqb _ _ (c .before .if1 .left), c .of-number .ensures)
 
 pub checked-at-spec : {M : Type 1} → statement M
-checked-at-spec = tie.close (tie.spec returns error-requires returns-2)
+checked-at-spec = tie.close (tie.spec returns of-number-requires returns-2)

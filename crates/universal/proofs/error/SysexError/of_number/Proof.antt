@@ -1,8 +1,8 @@
--- `fast_mmc::refusal::error` meets its contract. Assumes nothing.
+-- `universal::error::SysexError::of_number` meets its contract. Assumes nothing.
 use borrow.Author.Tests.{ne-eqb}
-use Rattle.fast_mmc.specs.Refusal.{errorOf}
-use Rattle.fast_mmc.proofs.refusal.error.Statement.{statement}
-use Rattle.fast_mmc.proofs.refusal.error.Tie as tie
+use Rattle.universal.specs.Refusals.{errorOf}
+use Rattle.universal.proofs.error.SysexError.of_number.Statement.{statement}
+use Rattle.universal.proofs.error.SysexError.of_number.Tie as tie
 
 returns : tie.Need-returns
 unfolding errorOf
@@ -44,8 +44,8 @@ returns-10 : tie.Need-returns-10
 unfolding errorOf
 returns-10 c = rw (ne-eqb _ _ (c .match .rest .0 .0 .0 .0 .0 .0 .0 .0 .1), ne-eqb _ _ (c .match .rest .0 .0 .0 .0 .0 .0 .0 .1), ne-eqb _ _ (c .match .rest .0 .0 .0 .0 .0 .0 .1), ne-eqb _ _ (c .match .rest .0 .0 .0 .0 .0 .1), ne-eqb _ _ (c .match .rest .0 .0 .0 .0 .1), ne-eqb _ _ (c .match .rest .0 .0 .0 .1), ne-eqb _ _ (c .match .rest .0 .0 .1), ne-eqb _ _ (c .match .rest .0 .1), ne-eqb _ _ (c .match .rest .1))
 
-pub error-spec : {M : Type 1} → statement M
-error-spec =
+pub of-number-spec : {M : Type 1} → statement M
+of-number-spec =
     tie.close
     (tie.spec
     returns
