@@ -12,7 +12,9 @@ use lib.Dec.{leb}
 use borrow.Author.Tests.{le-leb, lt-leb, leb-true}
 use lib.ListN.{length, take, drop, getD, set, length-set, length-append, List·getD-append}
 use lib.Seq.{length-sets, sets-eq, set-out, getD-set-same, getD-set-other}
-use Rattle.universal.specs.Refusals.{Refusal, refusal, tooSmall, gives, refused}
+use Rattle.universal.specs.declared.error.SysexError.{SysexError}
+use Rattle.universal.specs.declared.error.SysexError.the-variants.{DataByte, Length, OutOfRange, BufferTooSmall, Device, Source, Target, Stopped, End, ItemLimit}
+use Rattle.universal.specs.Refusals.{Refusal, refusal, tooSmall, gives, refused, refusalOf, neededOf, errorOf}
 use Rattle.universal.specs.Overlay.{overlay}
 use Rattle.universal.specs.Emission.{Emission, sent, refusing, check, resume, _then_, answerIn, answer, reached, reachedIn, fitted}
 use Rattle.universal.specs.Midi1.{hasSubId2, subId2Given, subId2Bytes, classId, inside, universalBytes, InLayout, Allowed}
@@ -128,6 +130,20 @@ then-accepted d e h = go (d .stop) h
     go : (s : Option Refusal) → resume (d .bytes) s e .stop ≡ none → (s ≡ none) × (e .stop ≡ none)
     go none p = (refl, p)
     go (some r) p = absurd (none-some r p)
+
+-- A refusal is told by its number and the needed length.
+pub error-back : (e : SysexError) → errorOf (refusalOf e .number) (neededOf (refusalOf e)) ≡ e
+unfolding errorOf
+error-back DataByte = refl
+error-back Length = refl
+error-back OutOfRange = refl
+error-back (BufferTooSmall needed) = refl
+error-back Device = refl
+error-back Source = refl
+error-back Target = refl
+error-back Stopped = refl
+error-back End = refl
+error-back ItemLimit = refl
 
 -- The answer by the refusal and the length.
 pub answer-by : (e : Emission) (room : ℕ) → answer e room ≡ answerIn (e .stop) (length (e .bytes)) room
