@@ -59,7 +59,12 @@ uint32_t fimbrast_version(void);
 /* The same under a name that has the version. A program refers to it, so that an archive of another version does not link. */
 uint32_t fimbrast_version_0_2_0(void);
 
-/* The archive must be of this version: where it is not, the linker misses this call. */
+/* The archive must be of this version: where it is not, the linker misses this call. Kept where sections are collected, too. */
+#if defined(__has_attribute)
+#if __has_attribute(retain)
+__attribute__((retain))
+#endif
+#endif
 __attribute__((used)) static uint32_t (*const fimbrast_needed_version)(void) = fimbrast_version_0_2_0;
 
 /* ---- Labels, and the quarter frames of a label */
