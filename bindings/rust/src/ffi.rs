@@ -224,8 +224,8 @@ pub struct Written {
     pub length: usize,
 }
 
-/// A full message as it was read. Answer 0 is a message, 255 another kind, any other number a refusal. Without a message all else is
-/// 0.
+/// A full message as it was read. Answer 0 is a message, 255 another kind, any other number a refusal.
+/// Without a message all else is 0.
 #[derive(Debug, Clone, Copy, PartialEq, Eq, Default)]
 #[repr(C)]
 pub struct FullMessage {
@@ -290,8 +290,8 @@ pub struct MaybeTime {
     pub time: Time,
 }
 
-/// A reader field by field. A last piece above 7 is none; direction 0 is forward, 1 reverse, any other none. An answer has 255 for
-/// none.
+/// A reader field by field. A last piece above 7 is none; direction 0 is forward, 1 reverse, any other none.
+/// An answer has 255 for none.
 #[derive(Debug, Clone, Copy, PartialEq, Eq, Default)]
 #[repr(C)]
 pub struct ReaderFields {
@@ -325,8 +325,8 @@ pub struct MaybeSequence {
     pub sequence: Sequence,
 }
 
-/// Refusal 0 and the command, with the place to read on from; 2 where the string is cut short, with the end as its place; 9 at or past
-/// the end.
+/// Refusal 0 and the command, with the place to read on from; 2 where the string is cut short, with the end as its place;
+/// 9 at or past the end.
 #[derive(Debug, Clone, Copy, PartialEq, Eq, Default)]
 #[repr(C)]
 pub struct NextCommand {
@@ -337,11 +337,11 @@ pub struct NextCommand {
 
 /// A command or a refusal as one number, which comes back in registers, and the place to read on from. The number's lowest byte is the
 /// kind of the command, 0 to 13, or 128 and the refusal's number. The bytes above it are, the lowest first:
+///    9 Write              0 and the length of the data
 ///   10 Locate, register   the register
 ///   11 Locate, target     hours, minutes, seconds, frames, the last byte, and two bytes of marks: bits 0 and 1 are the rate, 3 the
 ///                         blank, 9 the colour frame, 10 whether the last byte is a status, 11 the sign
 ///   12 Move               the destination and the source
-///    9 Write              0 and the length of the data
 ///   13 any other          the lengths of the name and of the data
 /// A name begins at the place that was read, and data ends at the place to read on from. A Locate, a Move and a name alone are written
 /// by the same word.
@@ -446,7 +446,7 @@ unsafe extern "C" {
     ) -> Applied;
     /// `short_name`: a field's name plus 20H, or 0 for one that has no short name.
     pub safe fn fimbrast_short_name(field: u8) -> u8;
-    /// `full_name`: back, or 0 for what is no short name.
+    /// `full_name`: the field of a short name, or 0 for what is none.
     pub safe fn fimbrast_full_name(short_name: u8) -> u8;
     /// `TimeCodeStatus::from_byte`: the flags of a status byte.
     pub safe fn fimbrast_status_read(byte: u8) -> Status;
