@@ -17,7 +17,8 @@ ARCHIVE_SOURCES := crates.txt $(shell find $(wildcard $(ARCHIVE_CRATES:=/src) $(
 LINKED = $(if $(FIMBRAST_LIB),,$(ARCHIVE))
 
 # The files that bindings/make_bindings makes from the Rattle source and the version in bindings/rust/Cargo.toml.
-MADE = bindings/c/fimbrast.h bindings/rust/src/ffi.rs crates/fimbrast/src/version.rt crates/fimbrast/specs/Version.antt
+MADE = bindings/c/fimbrast.h bindings/c/layout.c bindings/c/layout.out bindings/rust/src/ffi.rs crates/fimbrast/src/version.rt \
+  crates/fimbrast/specs/Version.antt
 MAKE_BINDINGS = --offline --quiet --manifest-path bindings/make_bindings/Cargo.toml
 
 PART ?= mtc

@@ -59,7 +59,12 @@ uint32_t fimbrast_version(void);
 /* The same under a name that has the version. A program refers to it, so that an archive of another version does not link. */
 uint32_t fimbrast_version_0_2_0(void);
 
-/* The archive must be of this version: where it is not, the linker misses this call. */
+/* The archive must be of this version: where it is not, the linker misses this call. Kept where sections are collected, too. */
+#if defined(__has_attribute)
+#if __has_attribute(retain)
+__attribute__((retain))
+#endif
+#endif
 __attribute__((used)) static uint32_t (*const fimbrast_needed_version)(void) = fimbrast_version_0_2_0;
 
 /* ---- Labels, and the quarter frames of a label */
@@ -156,8 +161,8 @@ typedef struct {
     fimbrast_time time;
 } fimbrast_maybe_time;
 
-/* A reader field by field. A last piece above 7 is none; direction 0 is forward, 1 reverse, any other none. An answer has 255 for
- * none. */
+/* A reader field by field. A last piece above 7 is none; direction 0 is forward, 1 reverse, any other none.
+ * An answer has 255 for none. */
 typedef struct {
     uint8_t nibbles[8];
     uint8_t count;
@@ -248,8 +253,8 @@ typedef struct {
     size_t length;
 } fimbrast_written;
 
-/* A full message as it was read. Answer 0 is a message, 255 another kind, any other number a refusal. Without a message all else is
- * 0. */
+/* A full message as it was read. Answer 0 is a message, 255 another kind, any other number a refusal.
+ * Without a message all else is 0. */
 typedef struct {
     uint8_t answer;
     uint8_t device_id;
@@ -356,7 +361,7 @@ typedef struct {
 
 /* `short_name`: a field's name plus 20H, or 0 for one that has no short name. */
 uint8_t fimbrast_short_name(uint8_t field);
-/* `full_name`: back, or 0 for what is no short name. */
+/* `full_name`: the field of a short name, or 0 for what is none. */
 uint8_t fimbrast_full_name(uint8_t short_name);
 /* `TimeCodeStatus::from_byte`: the flags of a status byte. */
 fimbrast_status fimbrast_status_read(uint8_t byte);
@@ -423,8 +428,8 @@ typedef struct {
     fimbrast_part data;
 } fimbrast_command;
 
-/* Refusal 0 and the command, with the place to read on from; 2 where the string is cut short, with the end as its place; 9 at or past
- * the end. */
+/* Refusal 0 and the command, with the place to read on from; 2 where the string is cut short, with the end as its place;
+ * 9 at or past the end. */
 typedef struct {
     uint8_t refusal;
     fimbrast_command command;
@@ -433,11 +438,11 @@ typedef struct {
 
 /* A command or a refusal as one number, which comes back in registers, and the place to read on from. The number's lowest byte is the
  * kind of the command, 0 to 13, or 128 and the refusal's number. The bytes above it are, the lowest first:
+ *    9 Write              0 and the length of the data
  *   10 Locate, register   the register
  *   11 Locate, target     hours, minutes, seconds, frames, the last byte, and two bytes of marks: bits 0 and 1 are the rate, 3 the
  *                         blank, 9 the colour frame, 10 whether the last byte is a status, 11 the sign
  *   12 Move               the destination and the source
- *    9 Write              0 and the length of the data
  *   13 any other          the lengths of the name and of the data
  * A name begins at the place that was read, and data ends at the place to read on from. A Locate, a Move and a name alone are written
  * by the same word. */

@@ -119,6 +119,19 @@ impl Library {
         }
     }
 
+    /// The name of every type that a call needs, in the order of the calls, those inside a record before it.
+    pub fn types(&self) -> Result<Vec<String>, String> {
+        let mut all = Vec::new();
+        for call in self.calls() {
+            for name in self.used_by(call)? {
+                if !all.contains(&name) {
+                    all.push(name);
+                }
+            }
+        }
+        Ok(all)
+    }
+
     /// The names that a call's types need, those inside a record before it.
     pub fn used_by(&self, call: &Call) -> Result<Vec<String>, String> {
         let mut used = Vec::new();

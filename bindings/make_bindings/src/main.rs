@@ -2,9 +2,10 @@
 //!
 //! It reads the exported calls of `crates/fimbrast/src`, the records and numbers that they pass, the refusals of
 //! `crates/universal/src/error.rt` and the version in `bindings/rust/Cargo.toml`, all under ROOT. Under OUT it writes the header,
-//! the Rust declarations, and the Rattle files that have the version. What it does not understand it refuses, and writes nothing.
+//! the Rust declarations, where the fields of the records lie, and the Rattle files that have the version. What it does not understand it refuses, and writes nothing.
 
 mod header;
+mod layout;
 mod library;
 mod parse;
 mod passed;
@@ -22,6 +23,7 @@ use version::Version;
 
 const HEADER: &str = include_str!("../templates/fimbrast.h");
 const RUST: &str = include_str!("../templates/ffi.rs");
+const LAYOUT: &str = include_str!("../templates/layout.c");
 
 fn main() -> ExitCode {
     let given: Vec<String> = env::args().skip(1).collect();
@@ -54,6 +56,8 @@ fn made(root: &Path) -> Result<Vec<(&'static str, String)>, String> {
             "bindings/rust/src/ffi.rs",
             rust::made(RUST, HEADER, &library, &refusals, &version)?,
         ),
+        ("bindings/c/layout.c", layout::program(LAYOUT, &library)?),
+        ("bindings/c/layout.out", layout::expected(&library)?),
         (version::CODE, version.code()),
         (version::DEFINITION, version.definition()),
     ])

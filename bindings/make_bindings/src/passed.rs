@@ -103,21 +103,27 @@ impl Library {
                 Some((_, size)) => Ok((size, size)),
                 None => match self.declared(name)? {
                     Declared::Alias(alias) => self.layout(&alias.kind),
-                    Declared::Record(record) => self.of_fields(&record.fields),
+                    Declared::Record(record) => {
+                        let (_, size, align) = self.places(&record.fields)?;
+                        Ok((size, align))
+                    }
                 },
             },
             _ => Err("a reference has no place in a record".into()),
         }
     }
 
-    fn of_fields(&self, fields: &[Field]) -> Result<(usize, usize), String> {
-        let (mut end, mut most) = (0_usize, 1);
+    /// The place of each field, and the size and alignment of the whole.
+    pub fn places(&self, fields: &[Field]) -> Result<(Vec<usize>, usize, usize), String> {
+        let (mut places, mut end, mut most) = (Vec::new(), 0_usize, 1);
         for field in fields {
             let (size, align) = self.layout(&field.kind)?;
-            end = end.next_multiple_of(align) + size;
+            let place = end.next_multiple_of(align);
+            places.push(place);
+            end = place + size;
             most = most.max(align);
         }
-        Ok((end.next_multiple_of(most), most))
+        Ok((places, end.next_multiple_of(most), most))
     }
 }
 

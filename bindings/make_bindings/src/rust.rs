@@ -1,5 +1,6 @@
 //! The Rust declarations, from their template and the numbers of the header's.
 
+use crate::layout;
 use crate::library::{Declared, Library, Module};
 use crate::parse::{Call, Field, Record, Type};
 use crate::passed::{scalar, Passed};
@@ -31,6 +32,7 @@ pub fn made(
             "@types" => text.push_str(&types(library)?),
             "@calls" => text.push_str(&each(library, declaration)?),
             "@lent" => text.push_str(&each(library, lending)?),
+            "@layout" => text.push_str(&layout::table(library)?),
             _ if line.starts_with('@') => return Err(crate::unknown(line)),
             _ => {
                 text.push_str(line);
@@ -83,23 +85,17 @@ fn list(refusals: &Refusals) -> String {
 
 /// Every record and number, in the order of the calls that need them.
 fn types(library: &Library) -> Result<String, String> {
-    let (mut seen, mut texts) = (Vec::new(), Vec::new());
-    for call in library.calls() {
-        for name in library.used_by(call)? {
-            if seen.contains(&name) {
-                continue;
-            }
-            texts.push(match library.declared(&name)? {
-                Declared::Record(record) => record_text(record)?,
-                Declared::Alias(alias) => format!(
-                    "{}pub type {} = {};\n",
-                    comment("", &alias.notes),
-                    Library::short(&name),
-                    kind_text(&alias.kind)?
-                ),
-            });
-            seen.push(name);
-        }
+    let mut texts = Vec::new();
+    for name in library.types()? {
+        texts.push(match library.declared(&name)? {
+            Declared::Record(record) => record_text(record)?,
+            Declared::Alias(alias) => format!(
+                "{}pub type {} = {};\n",
+                comment("", &alias.notes),
+                Library::short(&name),
+                kind_text(&alias.kind)?
+            ),
+        });
     }
     Ok(texts.join("\n"))
 }

@@ -4,6 +4,9 @@
 //! it. What comes back is proved: a `bool` is 0 or 1, and a rate 0 to 3. So the calls on labels take and give the crate's own type.
 //! A call on lent bytes has one beside it that takes slices; the library stays inside them and keeps none.
 
+#[cfg(test)]
+use core::mem::{offset_of, size_of};
+
 use crate::mtc::MtcTime;
 
 /// The version of the library that this is made for.
@@ -18,6 +21,15 @@ static NEEDED_VERSION: extern "C" fn() -> u32 = @SYMBOL@;
 @refusals
 
 @types
+
+/// A record's name in the header, its size, and the place of each field.
+#[cfg(test)]
+pub(crate) type Layout = (&'static str, usize, &'static [(&'static str, usize)]);
+
+/// Where the fields lie, to be held against `layout.out`.
+#[cfg(test)]
+#[rustfmt::skip]
+@layout
 
 unsafe extern "C" {
 @calls

@@ -43,7 +43,12 @@ extern "C" {
 
 @module version
 
-/* The archive must be of this version: where it is not, the linker misses this call. */
+/* The archive must be of this version: where it is not, the linker misses this call. Kept where sections are collected, too. */
+#if defined(__has_attribute)
+#if __has_attribute(retain)
+__attribute__((retain))
+#endif
+#endif
 __attribute__((used)) static uint32_t (*const fimbrast_needed_version)(void) = @SYMBOL@;
 
 @module time

@@ -4,6 +4,9 @@
 //! it. What comes back is proved: a `bool` is 0 or 1, and a rate 0 to 3. So the calls on labels take and give the crate's own type.
 //! A call on lent bytes has one beside it that takes slices; the library stays inside them and keeps none.
 
+#[cfg(test)]
+use core::mem::{offset_of, size_of};
+
 use crate::mtc::MtcTime;
 
 /// The version of the library that this is made for.
@@ -221,8 +224,8 @@ pub struct Written {
     pub length: usize,
 }
 
-/// A full message as it was read. Answer 0 is a message, 255 another kind, any other number a refusal. Without a message all else is
-/// 0.
+/// A full message as it was read. Answer 0 is a message, 255 another kind, any other number a refusal.
+/// Without a message all else is 0.
 #[derive(Debug, Clone, Copy, PartialEq, Eq, Default)]
 #[repr(C)]
 pub struct FullMessage {
@@ -287,8 +290,8 @@ pub struct MaybeTime {
     pub time: Time,
 }
 
-/// A reader field by field. A last piece above 7 is none; direction 0 is forward, 1 reverse, any other none. An answer has 255 for
-/// none.
+/// A reader field by field. A last piece above 7 is none; direction 0 is forward, 1 reverse, any other none.
+/// An answer has 255 for none.
 #[derive(Debug, Clone, Copy, PartialEq, Eq, Default)]
 #[repr(C)]
 pub struct ReaderFields {
@@ -322,8 +325,8 @@ pub struct MaybeSequence {
     pub sequence: Sequence,
 }
 
-/// Refusal 0 and the command, with the place to read on from; 2 where the string is cut short, with the end as its place; 9 at or past
-/// the end.
+/// Refusal 0 and the command, with the place to read on from; 2 where the string is cut short, with the end as its place;
+/// 9 at or past the end.
 #[derive(Debug, Clone, Copy, PartialEq, Eq, Default)]
 #[repr(C)]
 pub struct NextCommand {
@@ -334,11 +337,11 @@ pub struct NextCommand {
 
 /// A command or a refusal as one number, which comes back in registers, and the place to read on from. The number's lowest byte is the
 /// kind of the command, 0 to 13, or 128 and the refusal's number. The bytes above it are, the lowest first:
+///    9 Write              0 and the length of the data
 ///   10 Locate, register   the register
 ///   11 Locate, target     hours, minutes, seconds, frames, the last byte, and two bytes of marks: bits 0 and 1 are the rate, 3 the
 ///                         blank, 9 the colour frame, 10 whether the last byte is a status, 11 the sign
 ///   12 Move               the destination and the source
-///    9 Write              0 and the length of the data
 ///   13 any other          the lengths of the name and of the data
 /// A name begins at the place that was read, and data ends at the place to read on from. A Locate, a Move and a name alone are written
 /// by the same word.
@@ -390,6 +393,49 @@ pub struct EightBytes {
 /// first refusal, which it repeats. A refusal above 10 is taken as 10.
 pub type Writer = u64;
 
+/// A record's name in the header, its size, and the place of each field.
+#[cfg(test)]
+pub(crate) type Layout = (&'static str, usize, &'static [(&'static str, usize)]);
+
+/// Where the fields lie, to be held against `layout.out`.
+#[cfg(test)]
+#[rustfmt::skip]
+pub(crate) const LAYOUT: [Layout; 33] = [
+    ("time", size_of::<Time>(), &[("hours", offset_of!(Time, hours)), ("minutes", offset_of!(Time, minutes)), ("seconds", offset_of!(Time, seconds)), ("frames", offset_of!(Time, frames)), ("rate", offset_of!(Time, rate))]),
+    ("generator", size_of::<Generator>(), &[("time", offset_of!(Generator, time)), ("direction", offset_of!(Generator, direction)), ("last", offset_of!(Generator, last)), ("running", offset_of!(Generator, running))]),
+    ("code", size_of::<Code>(), &[("time", offset_of!(Code, time)), ("color_frame", offset_of!(Code, color_frame)), ("blank", offset_of!(Code, blank)), ("negative", offset_of!(Code, negative)), ("status", offset_of!(Code, status)), ("last", offset_of!(Code, last))]),
+    ("part", size_of::<Part>(), &[("start", offset_of!(Part, start)), ("length", offset_of!(Part, length))]),
+    ("command", size_of::<Command>(), &[("kind", offset_of!(Command, kind)), ("first", offset_of!(Command, first)), ("second", offset_of!(Command, second)), ("code", offset_of!(Command, code)), ("name", offset_of!(Command, name)), ("data", offset_of!(Command, data))]),
+    ("applied", size_of::<Applied>(), &[("generator", offset_of!(Applied, generator)), ("answer", offset_of!(Applied, answer))]),
+    ("status", size_of::<Status>(), &[("estimated", offset_of!(Status, estimated)), ("invalid", offset_of!(Status, invalid)), ("video_field1", offset_of!(Status, video_field1)), ("no_time_code", offset_of!(Status, no_time_code))]),
+    ("five_bytes", size_of::<FiveBytes>(), &[("bytes", offset_of!(FiveBytes, bytes))]),
+    ("code_bytes", size_of::<CodeBytes>(), &[("refusal", offset_of!(CodeBytes, refusal)), ("code", offset_of!(CodeBytes, code))]),
+    ("two_bytes", size_of::<TwoBytes>(), &[("bytes", offset_of!(TwoBytes, bytes))]),
+    ("short_code", size_of::<ShortCode>(), &[("frames", offset_of!(ShortCode, frames)), ("negative", offset_of!(ShortCode, negative)), ("status", offset_of!(ShortCode, status)), ("last", offset_of!(ShortCode, last))]),
+    ("short_code_bytes", size_of::<ShortCodeBytes>(), &[("refusal", offset_of!(ShortCodeBytes, refusal)), ("code", offset_of!(ShortCodeBytes, code))]),
+    ("fed", size_of::<Fed>(), &[("reports", offset_of!(Fed, reports)), ("discontinuities", offset_of!(Fed, discontinuities)), ("last", offset_of!(Fed, last))]),
+    ("reader", size_of::<Reader>(), &[("words", offset_of!(Reader, words))]),
+    ("next", size_of::<Next>(), &[("refusal", offset_of!(Next, refusal)), ("byte", offset_of!(Next, byte))]),
+    ("universal", size_of::<Universal>(), &[("real_time", offset_of!(Universal, real_time)), ("device_id", offset_of!(Universal, device_id)), ("sub_id1", offset_of!(Universal, sub_id1)), ("has_sub_id2", offset_of!(Universal, has_sub_id2)), ("sub_id2", offset_of!(Universal, sub_id2))]),
+    ("written", size_of::<Written>(), &[("refusal", offset_of!(Written, refusal)), ("length", offset_of!(Written, length))]),
+    ("full_message", size_of::<FullMessage>(), &[("answer", offset_of!(FullMessage, answer)), ("device_id", offset_of!(FullMessage, device_id)), ("time", offset_of!(FullMessage, time))]),
+    ("user_bits", size_of::<UserBits>(), &[("device_id", offset_of!(UserBits, device_id)), ("groups", offset_of!(UserBits, groups)), ("flags", offset_of!(UserBits, flags))]),
+    ("read_user_bits", size_of::<ReadUserBits>(), &[("answer", offset_of!(ReadUserBits, answer)), ("bits", offset_of!(ReadUserBits, bits))]),
+    ("four_bytes", size_of::<FourBytes>(), &[("bytes", offset_of!(FourBytes, bytes))]),
+    ("mmc_message", size_of::<MmcMessage>(), &[("answer", offset_of!(MmcMessage, answer)), ("responses", offset_of!(MmcMessage, responses)), ("device_id", offset_of!(MmcMessage, device_id))]),
+    ("run", size_of::<Run>(), &[("generator", offset_of!(Run, generator)), ("commands", offset_of!(Run, commands)), ("refused", offset_of!(Run, refused)), ("stop", offset_of!(Run, stop))]),
+    ("maybe_time", size_of::<MaybeTime>(), &[("present", offset_of!(MaybeTime, present)), ("time", offset_of!(MaybeTime, time))]),
+    ("reader_fields", size_of::<ReaderFields>(), &[("nibbles", offset_of!(ReaderFields, nibbles)), ("count", offset_of!(ReaderFields, count)), ("first", offset_of!(ReaderFields, first)), ("last", offset_of!(ReaderFields, last)), ("direction", offset_of!(ReaderFields, direction)), ("locked", offset_of!(ReaderFields, locked)), ("running", offset_of!(ReaderFields, running)), ("previous", offset_of!(ReaderFields, previous)), ("time", offset_of!(ReaderFields, time))]),
+    ("sequence", size_of::<Sequence>(), &[("raw", offset_of!(Sequence, raw)), ("current", offset_of!(Sequence, current)), ("direction", offset_of!(Sequence, direction)), ("discontinuity", offset_of!(Sequence, discontinuity))]),
+    ("maybe_sequence", size_of::<MaybeSequence>(), &[("present", offset_of!(MaybeSequence, present)), ("sequence", offset_of!(MaybeSequence, sequence))]),
+    ("next_command_answer", size_of::<NextCommand>(), &[("refusal", offset_of!(NextCommand, refusal)), ("command", offset_of!(NextCommand, command)), ("place", offset_of!(NextCommand, place))]),
+    ("next_word_answer", size_of::<NextWord>(), &[("word", offset_of!(NextWord, word)), ("place", offset_of!(NextWord, place))]),
+    ("field", size_of::<Field>(), &[("kind", offset_of!(Field, kind)), ("field", offset_of!(Field, field)), ("code", offset_of!(Field, code)), ("short_code", offset_of!(Field, short_code)), ("name", offset_of!(Field, name)), ("data", offset_of!(Field, data))]),
+    ("next_field_answer", size_of::<NextField>(), &[("refusal", offset_of!(NextField, refusal)), ("field", offset_of!(NextField, field)), ("place", offset_of!(NextField, place))]),
+    ("quarter_frame", size_of::<QuarterFrame>(), &[("piece", offset_of!(QuarterFrame, piece)), ("value", offset_of!(QuarterFrame, value))]),
+    ("eight_bytes", size_of::<EightBytes>(), &[("bytes", offset_of!(EightBytes, bytes))]),
+];
+
 unsafe extern "C" {
     /// `apply`: one command of a message for `device_id`, to the generator of the device `own`.
     pub safe fn fimbrast_apply(
@@ -400,7 +446,7 @@ unsafe extern "C" {
     ) -> Applied;
     /// `short_name`: a field's name plus 20H, or 0 for one that has no short name.
     pub safe fn fimbrast_short_name(field: u8) -> u8;
-    /// `full_name`: back, or 0 for what is no short name.
+    /// `full_name`: the field of a short name, or 0 for what is none.
     pub safe fn fimbrast_full_name(short_name: u8) -> u8;
     /// `TimeCodeStatus::from_byte`: the flags of a status byte.
     pub safe fn fimbrast_status_read(byte: u8) -> Status;

@@ -1,6 +1,6 @@
 //! What the crate does on its own: records turned into Rust's types and back, slices lent and given back, refusals named.
 
-use core::mem::{offset_of, size_of};
+use core::mem::size_of;
 use std::collections::hash_map::DefaultHasher;
 use std::format;
 use std::hash::{Hash, Hasher};
@@ -95,49 +95,12 @@ impl Hasher for Kept {
 #[test]
 fn layout_is_the_headers() {
     let mut text = String::new();
-    macro_rules! layout {
-        ($($c:literal $name:ident { $($field:ident),* })*) => {
-            $(
-                text.push_str(&format!("{} {}:", $c, size_of::<ffi::$name>()));
-                $(text.push_str(&format!(" {} {}", stringify!($field), offset_of!(ffi::$name, $field)));)*
-                text.push('\n');
-            )*
-        };
-    }
-    layout! {
-        "time" Time { hours, minutes, seconds, frames, rate }
-        "maybe_time" MaybeTime { present, time }
-        "quarter_frame" QuarterFrame { piece, value }
-        "eight_bytes" EightBytes { bytes }
-        "generator" Generator { time, direction, last, running }
-        "next" Next { refusal, byte }
-        "reader" Reader { words }
-        "reader_fields" ReaderFields { nibbles, count, first, last, direction, locked, running, previous, time }
-        "sequence" Sequence { raw, current, direction, discontinuity }
-        "maybe_sequence" MaybeSequence { present, sequence }
-        "fed" Fed { reports, discontinuities, last }
-        "universal" Universal { real_time, device_id, sub_id1, has_sub_id2, sub_id2 }
-        "written" Written { refusal, length }
-        "full_message" FullMessage { answer, device_id, time }
-        "user_bits" UserBits { device_id, groups, flags }
-        "read_user_bits" ReadUserBits { answer, bits }
-        "four_bytes" FourBytes { bytes }
-        "mmc_message" MmcMessage { answer, responses, device_id }
-        "status" Status { estimated, invalid, video_field1, no_time_code }
-        "code" Code { time, color_frame, blank, negative, status, last }
-        "short_code" ShortCode { frames, negative, status, last }
-        "five_bytes" FiveBytes { bytes }
-        "two_bytes" TwoBytes { bytes }
-        "code_bytes" CodeBytes { refusal, code }
-        "short_code_bytes" ShortCodeBytes { refusal, code }
-        "part" Part { start, length }
-        "command" Command { kind, first, second, code, name, data }
-        "next_command_answer" NextCommand { refusal, command, place }
-        "next_word_answer" NextWord { word, place }
-        "field" Field { kind, field, code, short_code, name, data }
-        "next_field_answer" NextField { refusal, field, place }
-        "applied" Applied { generator, answer }
-        "run" Run { generator, commands, refused, stop }
+    for (name, size, places) in ffi::LAYOUT {
+        text.push_str(&format!("{name} {size}:"));
+        for (field, place) in places {
+            text.push_str(&format!(" {field} {place}"));
+        }
+        text.push('\n');
     }
     assert_eq!(text, include_str!("../../c/layout.out"));
     assert_eq!(size_of::<MtcReader>(), 60);

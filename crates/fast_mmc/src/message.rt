@@ -26,8 +26,8 @@ pub struct FlatUniversal {
     pub sub_id2: u8,
 }
 
-// A full message as it was read. Answer 0 is a message, 255 another kind, any other number a refusal. Without a message all else is
-// 0.
+// A full message as it was read. Answer 0 is a message, 255 another kind, any other number a refusal.
+// Without a message all else is 0.
 #[repr(C)]
 pub struct FlatFullMessage {
     pub answer: u8,

@@ -39,8 +39,8 @@ pub struct FlatCommand {
     pub data: FlatPart,
 }
 
-// Refusal 0 and the command, with the place to read on from; 2 where the string is cut short, with the end as its place; 9 at or past
-// the end.
+// Refusal 0 and the command, with the place to read on from; 2 where the string is cut short, with the end as its place;
+// 9 at or past the end.
 #[repr(C)]
 pub struct FlatNextCommand {
     pub refusal: u8,

@@ -36,11 +36,11 @@ const END: u64 = 137;
 
 // A command or a refusal as one number, which comes back in registers, and the place to read on from. The number's lowest byte is the
 // kind of the command, 0 to 13, or 128 and the refusal's number. The bytes above it are, the lowest first:
+//    9 Write              0 and the length of the data
 //   10 Locate, register   the register
 //   11 Locate, target     hours, minutes, seconds, frames, the last byte, and two bytes of marks: bits 0 and 1 are the rate, 3 the
 //                         blank, 9 the colour frame, 10 whether the last byte is a status, 11 the sign
 //   12 Move               the destination and the source
-//    9 Write              0 and the length of the data
 //   13 any other          the lengths of the name and of the data
 // A name begins at the place that was read, and data ends at the place to read on from. A Locate, a Move and a name alone are written
 // by the same word.

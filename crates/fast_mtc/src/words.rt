@@ -33,8 +33,8 @@ pub struct FlatReader {
     pub words: [u32; 15],
 }
 
-// A reader field by field. A last piece above 7 is none; direction 0 is forward, 1 reverse, any other none. An answer has 255 for
-// none.
+// A reader field by field. A last piece above 7 is none; direction 0 is forward, 1 reverse, any other none.
+// An answer has 255 for none.
 #[repr(C)]
 pub struct FlatReaderFields {
     pub nibbles: [u8; 8],

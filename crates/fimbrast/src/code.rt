@@ -32,7 +32,7 @@ pub extern "C" fn fimbrast_short_name(field: u8) -> u8
     flat_name(mmc::short_name(field))
 }
 
-// `full_name`: back, or 0 for what is no short name.
+// `full_name`: the field of a short name, or 0 for what is none.
 #[no_mangle]
 pub extern "C" fn fimbrast_full_name(short_name: u8) -> u8
     ensures { λ r. ⌜ r ≡ flatName (fullName «short_name») ⌝ }
