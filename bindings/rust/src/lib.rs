@@ -1,8 +1,9 @@
 //! MIDI Time Code and MIDI Machine Control for a cue desk.
 //!
 //! A safe interface over the proved library `libfimbrast.a`. Names and signatures are those of the Rust crate that the
-//! library was translated from, so that a desk changes its imports and little else. Every answer comes from the library: this
-//! crate turns its records into Rust's types and back.
+//! library was translated from, so that a desk changes its imports and little else. What a call decides, it asks the library.
+//! What turns Rust's types into the library's numbers and back is plain Rust, which is tested and compared; the README says what
+//! and by which test.
 //!
 //! - [`mtc`]: labels, quarter frames, generator, reader, full message, user bits.
 //! - [`mmc`]: time code fields, commands and information fields, read and written.
