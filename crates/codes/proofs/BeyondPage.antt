@@ -69,9 +69,9 @@ beyond-read hr mn sc fr ff = code-beyond (readStandard hr mn sc fr ff) (read-mos
 
 module _ (r : TimeCodeType) where
   -- A short one likewise, at a rate.
-  pub short-read-beyond : (fr ff : ℕ) → page.shortAllowed r (readShort fr ff) ≡ false → ShortReadBeyond r (readShort fr ff)
+  pub short-beyond-read : (fr ff : ℕ) → page.shortAllowed r (readShort fr ff) ≡ false → ShortReadBeyond r (readShort fr ff)
   unfolding readShort
-  short-read-beyond fr ff = go (ltb (fr % 32) (framesPerSecond r)) refl
+  short-beyond-read fr ff = go (ltb (fr % 32) (framesPerSecond r)) refl
     where
       go : (a : Bool) → ltb (fr % 32) (framesPerSecond r) ≡ a → a && page.lastAllowed (readFinal fr ff) ≡ false
           → ShortReadBeyond r (readShort fr ff)
@@ -95,8 +95,8 @@ zero-label t h =
 
 module _ (c : StandardTimeCode) where
   -- A code that is blank only with zeros is written as it is.
-  zeroed-same : not (c .blank) || page.isZero (c .time) ≡ true → zeroed c ≡ c
-  zeroed-same h =
+  zeroed-by-zeros : not (c .blank) || page.isZero (c .time) ≡ true → zeroed c ≡ c
+  zeroed-by-zeros h =
       ap
       (λ (t : MtcTime). record {
         time = t;
@@ -128,7 +128,7 @@ module _ (c : StandardTimeCode) where
 
   -- It is written as it is.
   pub allowed-same : page.allowed c ≡ true → zeroed c ≡ c
-  allowed-same h = zeroed-same (allowed-parts h .2)
+  allowed-same h = zeroed-by-zeros (allowed-parts h .2)
 
   -- A code is accepted just where the page has it with zeros in its blank label.
   pub fits-zeroed : standardFits c ≡ page.allowed (zeroed c)
@@ -143,11 +143,11 @@ module _ (c : StandardTimeCode) where
       go false = sym (and-true _)
 
   -- An accepted code that the page does not have.
-  pub written-beyond : (standardFits c ≡ true) × (page.allowed c ≡ false) → WrittenBeyond c
-  written-beyond (f, n) = go (c .blank) (page.isZero (c .time)) refl refl
+  pub code-written-beyond : (standardFits c ≡ true) × (page.allowed c ≡ false) → WrittenBeyond c
+  code-written-beyond (f, n) = go (c .blank) (page.isZero (c .time)) refl refl
     where
       has : not (c .blank) || page.isZero (c .time) ≡ true → page.allowed c ≡ true
-      has e = ap page.allowed (sym (zeroed-same e)) ∙ sym fits-zeroed ∙ f
+      has e = ap page.allowed (sym (zeroed-by-zeros e)) ∙ sym fits-zeroed ∙ f
 
       go : (k z : Bool) → c .blank ≡ k → page.isZero (c .time) ≡ z → WrittenBeyond c
       go true false ek ez =
@@ -182,8 +182,8 @@ module _ (r : TimeCodeType) (c : ShortTimeCode) where
       and-all _ _ (le-leb (c .frames) 29 (omega (arith, fps-small r))) (fits-page (c .«final_byte») ∙ p .1)
 
   -- An accepted short code that the page does not have at that rate.
-  pub short-written-beyond : (shortFits c ≡ true) × (page.shortAllowed r c ≡ false) → ShortWrittenBeyond r c
-  short-written-beyond (f, n) = go (ltb (c .frames) (framesPerSecond r)) refl n
+  pub short-code-written-beyond : (shortFits c ≡ true) × (page.shortAllowed r c ≡ false) → ShortWrittenBeyond r c
+  short-code-written-beyond (f, n) = go (ltb (c .frames) (framesPerSecond r)) refl n
     where
       final : page.lastAllowed (c .«final_byte») ≡ true
       final = sym (fits-page (c .«final_byte»)) ∙ short-last-accepted c f

@@ -104,7 +104,7 @@ module _ (r : TimeCodeType) where
 
   -- What else is read: subframes 100 to 127, and frames from the rate to 31; nothing more.
   pub short-read-beyond : (fr ff : ℕ) → (page.shortAllowed r (readShort fr ff) ≡ false) ↔ ShortReadBeyond r (readShort fr ff)
-  short-read-beyond fr ff = (BeyondPage.short-read-beyond r fr ff, BeyondPage.beyond-short r (readShort fr ff))
+  short-read-beyond fr ff = (BeyondPage.short-beyond-read r fr ff, BeyondPage.beyond-short r (readShort fr ff))
 
 -- Bytes above 7FH are read as the same without bit 7.
 pub short-bit-7-unread : (fr ff : ℕ) → readShort (fr % 128) (ff % 128) ≡ readShort fr ff
@@ -135,7 +135,7 @@ written-by-page c h =
 
 -- What else is accepted: a blank code with counts, whatever they are; nothing more.
 pub written-beyond : (c : StandardTimeCode) → ((standardFits c ≡ true) × (page.allowed c ≡ false)) ↔ WrittenBeyond c
-written-beyond c = (BeyondPage.written-beyond c, BeyondPage.beyond-written c)
+written-beyond c = (BeyondPage.code-written-beyond c, BeyondPage.beyond-written c)
 
 -- A short code is accepted just where the page has it at 30 frames.
 pub short-fits-by-page : (c : ShortTimeCode) → shortFits c ≡ page.shortAllowed Fps30 c
@@ -154,7 +154,7 @@ module _ (r : TimeCodeType) (c : ShortTimeCode) where
 
   -- What else is accepted: frames from the rate to 29, so 24 to 29 at 24 frames and 25 to 29 at 25; nothing more.
   pub short-written-beyond : ((shortFits c ≡ true) × (page.shortAllowed r c ≡ false)) ↔ ShortWrittenBeyond r c
-  short-written-beyond = (BeyondPage.short-written-beyond r c, BeyondPage.beyond-short-written r c)
+  short-written-beyond = (BeyondPage.short-code-written-beyond r c, BeyondPage.beyond-short-written r c)
 
 -- ---- what is written reads back
 

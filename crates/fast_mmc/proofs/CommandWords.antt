@@ -270,9 +270,9 @@ told-two : (k a b : ℕ) → k < 256 → a < 256 → b < 256
     → (withBytes k a b % 256 ≡ k) × ((byteAt 256 (withBytes k a b) ≡ a) × (byteAt 65536 (withBytes k a b) ≡ b))
 told-two k a b hk ha hb = (omega arith, (omega arith, omega arith))
 
-word-field-back : (r : ℕ) → r < 256 → wordCommand (withBytes 10 r 0) ≡ some (LocateField r)
+word-register-back : (r : ℕ) → r < 256 → wordCommand (withBytes 10 r 0) ≡ some (LocateField r)
 unfolding commandWord
-word-field-back r h =
+word-register-back r h =
     let t = told-two 10 r 0 (lit≤ tt) h (lit≤ tt) in
     sym (is-word (withBytes 10 r 0) (LocateField r) (said-field (withBytes 10 r 0) (omega (arith, t .0)) (t .0) ∙ ap (λ (n : ℕ). some (LocateField n)) (t .1 .0)) refl)
 
@@ -301,7 +301,7 @@ command-word-back RecordExit o = plain-back 6 RecordExit (lit≤ tt) refl
 command-word-back Pause o = plain-back 7 Pause (lit≤ tt) refl
 command-word-back Reset o = plain-back 8 Reset (lit≤ tt) refl
 command-word-back (Write d) o = absurd o
-command-word-back (LocateField r) o = word-field-back r o
+command-word-back (LocateField r) o = word-register-back r o
 command-word-back (LocateTarget c) o = target-back c o
 command-word-back (Move a b) o = word-move-back a b (o .0) (o .1)
 command-word-back (Other n d) o = absurd o

@@ -14,29 +14,29 @@ use Rattle.fast_mmc.specs.declared.numbers.WrittenNumbers.{WrittenNumber
 use Rattle.mmc.specs.Item.{commandItem}
 use Rattle.fast_mmc.specs.Numbers.{writtenNumbers}
 use Rattle.fast_mmc.specs.Word.{plainCommand, byteAt, wordItem}
-use Rattle.fast_mmc.specs.Contracts.{openWriting, PutWhole, went-nothing, went-whole, PutOne, stayed, went-out}
+use Rattle.fast_mmc.specs.Contracts.{openWriting, PutWhole, nothing-went, went-whole, PutOne, stayed, went-out}
 use Rattle.fast_mmc.specs.Refusal.{flatStop}
 use Rattle.fast_mmc.specs.Write.{checkedAt, writerOf, writingAt, flatWriter}
 use Rattle.fast_mmc.specs.Words.{afterWords, closedOut, wordsState, wordsAnswer, wordsLeft}
 use Rattle.mmc.specs.Length.{within}
 use Rattle.mmc.specs.Named.{extentOf}
 use Rattle.mmc.specs.declared.write.Writer.{Writer}
-use Rattle.mmc.specs.Write.{Writing, writingOf, openedCommands, begun, admitted, itemsAfter, writingPast, writingAfter, orFailed, closedMessage, wholeMessage}
+use Rattle.mmc.specs.Write.{Writing, writingOf, openedCommands, begun, admitted, itemCountAfter, writingPast, writingAfter, orFailed, closedMessage, wholeMessage}
 use Rattle.mmc.specs.Writings.{State}
 use Rattle.universal.specs.Emission.{Emission, sent, refusing, check, resume, _then_, answerIn}
 use Rattle.universal.specs.Overlay.{overlay}
 use Rattle.universal.specs.Refusals.{Refusal, Answer, gives, refused, refusal, tooSmall}
 use Rattle.universal.proofs.Laws.{length-overlay, overlay-none}
 use Rattle.fast_mmc.proofs.WordItems.{word-name, Usual, usual-sent}
-use Rattle.mmc.proofs.WritingSteps.{as-it-is, ready-kept, ready-failed, repeats, takes, close-repeats, close-empty, close-long, close-sent, commands-refused, commands-opened, begun-after, given-moves, closed-after, whole-ended}
+use Rattle.mmc.proofs.WritingSteps.{as-it-is, ready-kept, ready-failed, repeats, takes, close-repeats, close-empty, close-long, close-sent, commands-refused, commands-opened, begun-after, writing-after-moves, closed-after, whole-answer}
 
 -- ---- by the writer
 
 -- A command that goes out as the word does is given as it.
-pub given-word : (w v : Writing) (word : ℕ) (out left : List ℕ) (c : MmcCommand) → commandItem [] c ≡ wordItem word
+pub word-after : (w v : Writing) (word : ℕ) (out left : List ℕ) (c : MmcCommand) → commandItem [] c ≡ wordItem word
     → v ≡ writingAfter w (commandItem [] c) → left ≡ overlay out (w .at) (admitted w (commandItem [] c) .bytes)
     → (v ≡ writingAfter w (wordItem word)) × (left ≡ overlay out (w .at) (admitted w (wordItem word) .bytes))
-given-word w v word out left c q p l = (
+word-after w v word out left c q p l = (
   p ∙ ap (writingAfter w) q,
   l ∙ ap (λ (e : Emission). overlay out (w .at) (admitted w e .bytes)) q,
 )
@@ -81,7 +81,7 @@ no-bytes-put (b ∷ bs) out at e = absurd (omega arith)
 
 -- Where the position stays the buffer is as found.
 pub put-nothing : (word at next : ℕ) (out left : List ℕ) → PutWhole word at out next left → next ≡ at → out ≡ left
-put-nothing word at next out left went-nothing e = refl
+put-nothing word at next out left nothing-went e = refl
 put-nothing word at next out left (went-whole s l p) e = sym (p ∙ no-bytes-put _ out at (sym e ∙ l))
 
 -- ---- the list
@@ -148,14 +148,14 @@ module _ (at i : ℕ) (few : i < 256) (near : at ≤ 40000) where
   going-on : (e : Emission) → e .stop ≡ none → openWriting (at + length (e .bytes)) (i + 1) ≡ writingAfter (openWriting at i) e
   going-on e n =
       sym
-      (given-moves (openWriting at i) e
+      (writing-after-moves (openWriting at i) e
       ∙ ap (λ (x : Emission). writingPast (openWriting at i) (extentOf x)) (going-takes e)
-      ∙ ap (λ (s : Option Refusal). record { at = at + length (e .bytes); items = itemsAfter s i; stop = s }) n)
+      ∙ ap (λ (s : Option Refusal). record { at = at + length (e .bytes); items = itemCountAfter s i; stop = s }) n)
 
   -- A word that went out whole moves the position.
   pub gone-whole : (w₀ : Writing) (out₀ : List ℕ) (from : ℕ) (ws out left : List ℕ) (next : ℕ) → Gone w₀ out₀ from ws (openWriting at i) out i
       → i < length ws → PutWhole (getD ws i 0) at out next left → (next ≡ at → ⊥) → Gone w₀ out₀ from ws (openWriting next (i + 1)) left (i + 1)
-  gone-whole w₀ out₀ from ws out left next g h went-nothing n = absurd (n refl)
+  gone-whole w₀ out₀ from ws out left next g h nothing-went n = absurd (n refl)
   gone-whole w₀ out₀ from ws out left next g h (went-whole s l p) n =
       gone-word w₀ out₀ from ws (openWriting at i) out i g (openWriting next (i + 1)) left h
       (ap (λ (k : ℕ). openWriting k (i + 1)) l ∙ going-on _ s)
@@ -164,9 +164,9 @@ module _ (at i : ℕ) (few : i < 256) (near : at ≤ 40000) where
 -- ---- with the writer as one number
 
 -- A number below 2^40 is that of a writing that nothing has refused, with fewer than 256 items.
-writing-going : (v : ℕ) → v / 1099511627776 ≡ 0 → writingAt v ≡ openWriting (v % 4294967296) (v / 4294967296)
+writing-open : (v : ℕ) → v / 1099511627776 ≡ 0 → writingAt v ≡ openWriting (v % 4294967296) (v / 4294967296)
 unfolding writerOf checkedAt
-writing-going v z =
+writing-open v z =
     let r : v / 281474976710656 % 256 ≡ 0 = omega (arith, z) in
     let i : v / 4294967296 % 65536 ≡ v / 4294967296 = omega (arith, z) in
     rw (r, i)
@@ -175,10 +175,10 @@ writing-going v z =
 pub put-one : (word v at next after : ℕ) (out left : List ℕ) → v / 1099511627776 ≡ 0 → at ≡ v % 4294967296 → at ≤ 40000 → next ≤ at + 8
     → (next ≡ at → ⊥) → after ≡ v - at + next + 4294967296 → PutWhole word at out next left → PutOne word v out after left
 unfolding flatWriter flatStop
-put-one word v at next after out left z p h k n q went-nothing = absurd (n refl)
+put-one word v at next after out left z p h k n q nothing-went = absurd (n refl)
 put-one word v at next after out left z p h k n q (went-whole s l e) =
     let w : writingAt v ≡ openWriting at (v / 4294967296) =
-    writing-going v z ∙ ap (λ (x : ℕ). openWriting x (v / 4294967296)) (sym p) in
+    writing-open v z ∙ ap (λ (x : ℕ). openWriting x (v / 4294967296)) (sym p) in
     let few : v / 4294967296 < 256 = omega (arith, z) in
     let g : openWriting next (v / 4294967296 + 1) ≡ writingAfter (openWriting at (v / 4294967296)) (wordItem word) =
     ap (λ (x : ℕ). openWriting x (v / 4294967296 + 1)) l ∙ going-on at (v / 4294967296) few h (wordItem word) s in
@@ -248,9 +248,9 @@ pub ends-any : (at i : ℕ) (out : List ℕ) (a : WrittenNumbers) (left : List �
     → ClosesWith (record { writing = openWriting at i; out = out }) (length out) a left
 ends-any at i out a left few near p =
     let same : wholeMessage (openWriting at 0) (length out) ≡ wholeMessage (openWriting at i) (length out) =
-    whole-ended (openWriting at 0) (length out)
+    whole-answer (openWriting at 0) (length out)
     ∙ ap (λ (e : Emission). answerIn (e .stop) (at + 1) (length out)) (any-items at i few near)
-    ∙ sym (whole-ended (openWriting at i) (length out)) in
+    ∙ sym (whole-answer (openWriting at i) (length out)) in
     (p .0 ∙ ap writtenNumbers same, p .1 ∙ ap (λ (e : Emission). overlay out at (e .bytes)) (any-items at i few near))
 
 module _ (at : ℕ) (near : at ≤ 40000) (out : List ℕ) where
@@ -258,7 +258,7 @@ module _ (at : ℕ) (near : at ≤ 40000) (out : List ℕ) where
       → left ≡ overlay out at (e .bytes) → ClosesWith (record { writing = openWriting at 0; out = out }) (length out) (writtenNumbers a) left
   ends-as e a left q p l = (
     ap writtenNumbers
-        (p ∙ sym (whole-ended (openWriting at 0) (length out) ∙ ap (λ (x : Emission). answerIn (x .stop) (at + 1) (length out)) q)),
+        (p ∙ sym (whole-answer (openWriting at 0) (length out) ∙ ap (λ (x : Emission). answerIn (x .stop) (at + 1) (length out)) q)),
     l ∙ ap (λ (x : Emission). overlay out at (x .bytes)) (sym q),
   )
 
@@ -312,17 +312,17 @@ message-words device out₀ ws w out a left p q r =
 abbrev barred : Refusal → Writing
 barred r = record { at = 0; items = 0; stop = some r }
 
-barred-sound : (r : Refusal) → orFailed (barred r) .stop ≡ some r
-barred-sound r = sym (as-it-is (barred r) (lit≤ tt) (lit≤ tt))
+barred-stop : (r : Refusal) → orFailed (barred r) .stop ≡ some r
+barred-stop r = sym (as-it-is (barred r) (lit≤ tt) (lit≤ tt))
 
 -- No item changes it.
 barred-item : (r : Refusal) (out : List ℕ) (e : Emission)
     → _≡_ {A = State} (record { writing = writingAfter (barred r) e; out = overlay out 0 (admitted (barred r) e .bytes) }) (record { writing = barred r; out = out })
 barred-item r out e =
     let a : admitted (barred r) e ≡ record { bytes = []; stop = some r } =
-    repeats (barred r) e r (sym (ready-failed (barred r) r (barred-sound r))) in
+    repeats (barred r) e r (sym (ready-failed (barred r) r (barred-stop r))) in
     ap₂ (λ (w : Writing) (l : List ℕ). record { writing = w; out = l })
-    (given-moves (barred r) e ∙ ap (λ (x : Emission). writingPast (barred r) (extentOf x)) a)
+    (writing-after-moves (barred r) e ∙ ap (λ (x : Emission). writingPast (barred r) (extentOf x)) a)
     (ap (λ (x : Emission). overlay out 0 (x .bytes)) a ∙ overlay-none out 0)
 
 barred-words : (r : Refusal) (out ws : List ℕ) → afterWords (barred r) out ws ≡ record { writing = barred r; out = out }
@@ -334,9 +334,9 @@ barred-words r out (x ∷ ws) =
 barred-ends : (out : List ℕ) → ClosesWith (record { writing = barred (refusal 5); out = out }) (length out) (record { refusal = 5; length = 0 }) out
 unfolding writtenNumbers
 barred-ends out =
-    let c = close-repeats (barred (refusal 5)) (refusal 5) (barred-sound (refusal 5)) in (
+    let c = close-repeats (barred (refusal 5)) (refusal 5) (barred-stop (refusal 5)) in (
       ap writtenNumbers
-          (sym (whole-ended (barred (refusal 5)) (length out) ∙ ap (λ (x : Emission). answerIn (x .stop) 1 (length out)) c)),
+          (sym (whole-answer (barred (refusal 5)) (length out) ∙ ap (λ (x : Emission). answerIn (x .stop) 1 (length out)) c)),
       sym (ap (λ (x : Emission). overlay out 0 (x .bytes)) c ∙ overlay-none out 0),
     )
 

@@ -6,7 +6,7 @@ use mathlib.Core.Logic.{_⊎_}
 use native.Mathlib.Omega.{arith}
 use borrow.Author.Tests.{leb-true, leb-false, eqb-false, not-true}
 use lib.Dec.{leb, eqb}
-use Rattle.fast_mmc.specs.Contracts.{LowBytes, WordInRange, RateHas}
+use Rattle.fast_mmc.specs.Contracts.{LowBytes, WordInRange, AtRate}
 use Rattle.fast_mmc.specs.Word.{byteAt}
 use Rattle.fast_mmc.proofs.WordItems.{Usual}
 use Rattle.labels.specs.St12.{label, isValid}
@@ -48,10 +48,10 @@ counts-in-range w l k =
 
 -- ---- a label that its rate has
 
-pub slow-kept : {m s f rate : ℕ} → rate < 2 → f < 24 + rate → RateHas m s f rate
+pub slow-kept : {m s f rate : ℕ} → rate < 2 → f < 24 + rate → AtRate m s f rate
 slow-kept l h = record { slow = λ k. h; fast = λ g. absurd (omega (arith, l, g)) }
 
-pub fast-kept : {m s f rate : ℕ} → 2 ≤ rate → ((rate ≡ 3 → ⊥) → (m % 10 ≡ 0) ⊎ (2 ≤ s * 30 + f)) → RateHas m s f rate
+pub fast-kept : {m s f rate : ℕ} → 2 ≤ rate → ((rate ≡ 3 → ⊥) → (m % 10 ≡ 0) ⊎ (2 ≤ s * 30 + f)) → AtRate m s f rate
 fast-kept g h = record { slow = λ l. absurd (omega (arith, l, g)); fast = λ k. h }
 
 -- From the third frame of a minute on no number is skipped.
@@ -75,7 +75,7 @@ late-second w e = on (w / 16777216) (byteAt 4294967296 w) (eqb-false (w / 167772
 
 -- A word in range whose number its rate has goes out as its counts are.
 pub usual-of : (w : ℕ) → WordInRange w
-    → RateHas (byteAt 65536 w) (byteAt 16777216 w) (byteAt 4294967296 w) (byteAt 281474976710656 w)
+    → AtRate (byteAt 65536 w) (byteAt 16777216 w) (byteAt 4294967296 w) (byteAt 281474976710656 w)
     → Usual (byteAt 256 w) (byteAt 65536 w) (byteAt 16777216 w) (byteAt 4294967296 w) (byteAt 1099511627776 w)
     (byteAt 281474976710656 w)
 usual-of w i k =

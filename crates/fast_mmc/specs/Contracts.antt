@@ -44,7 +44,7 @@ openWriting at items = record { at = at; items = items; stop = none }
 
 -- A word whose command went out whole, from a position to the next, or of which nothing did, where the position stays.
 pub data PutWhole (word at : ℕ) (out : List ℕ) : ℕ → List ℕ → Type 0 where
-  went-nothing : PutWhole word at out at out
+  nothing-went : PutWhole word at out at out
   went-whole : {next : ℕ} {left : List ℕ} → wordItem word .stop ≡ none
       → next ≡ at + length (wordItem word .bytes)
       → left ≡ overlay out at (wordItem word .bytes) → PutWhole word at out next left
@@ -69,7 +69,7 @@ pub record WordInRange (w : ℕ) : Type 0 where
   pub top : w / 1125899906842624 ≡ 0
 
 -- A label in range at 30 frames that its rate, given in bits, has: frames below 24 or 25, and at drop-frame no skipped number.
-pub record RateHas (m s f rate : ℕ) : Type 0 where
+pub record AtRate (m s f rate : ℕ) : Type 0 where
   pub slow : rate < 2 → f < 24 + rate
   pub fast : 2 ≤ rate → (rate ≡ 3 → ⊥) → (m % 10 ≡ 0) ⊎ (2 ≤ s * 30 + f)
 

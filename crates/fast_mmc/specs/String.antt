@@ -31,8 +31,9 @@ noPart = record { start = 0; length = 0 }
 
 -- ---- commands, by their number in the source's order
 
-abbrev pub flatNamed : ℕ → FlatCode → FlatPart → FlatPart → FlatCommand
-flatNamed kind code name d = record { kind = kind; first = 0; second = 0; code = code; name = name; «data» = d }
+-- A command with a time code and two parts.
+abbrev pub flatWithParts : ℕ → FlatCode → FlatPart → FlatPart → FlatCommand
+flatWithParts kind code name d = record { kind = kind; first = 0; second = 0; code = code; name = name; «data» = d }
 
 -- A command with two values and no more.
 abbrev pub flatValues : ℕ → ℕ → ℕ → FlatCommand
@@ -65,11 +66,11 @@ flatCommand RecordStrobe = flatAlone RecordStrobe
 flatCommand RecordExit = flatAlone RecordExit
 flatCommand Pause = flatAlone Pause
 flatCommand Reset = flatAlone Reset
-flatCommand (Write d) = flatNamed 9 noCode noPart (flatPart d)
+flatCommand (Write d) = flatWithParts 9 noCode noPart (flatPart d)
 flatCommand (LocateField r) = flatValues 10 r 0
-flatCommand (LocateTarget c) = flatNamed 11 (flatCode c) noPart noPart
+flatCommand (LocateTarget c) = flatWithParts 11 (flatCode c) noPart noPart
 flatCommand (Move a b) = flatValues 12 a b
-flatCommand (Other n d) = flatNamed 13 noCode (flatPart n) (flatPart d)
+flatCommand (Other n d) = flatWithParts 13 noCode (flatPart n) (flatPart d)
 
 -- Refusal 0 and the command, or the refusal and all zeros.
 unfoldable pub flatCommandAnswer : Answer MmcCommand → ℕ → FlatNextCommand

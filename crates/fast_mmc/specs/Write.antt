@@ -35,9 +35,9 @@ abbrev pub writerAfter : ℕ → Emission → ℕ
 writerAfter w e = flatWriter (writingAfter (writingAt w) e)
 
 -- A Write of these data.
-abbrev pub wholeWrite : List ℕ → Emission
-wholeWrite d = commandItem d (Write (part 0 (length d)))
+abbrev pub writeOfData : List ℕ → Emission
+writeOfData d = commandItem d (Write (part 0 (length d)))
 
 -- Another command, whose name and then its data stand at the front of a source.
-abbrev pub frontOther : List ℕ → ℕ → ℕ → Emission
-frontOther source name d = commandItem source (Other (part 0 name) (part name d))
+abbrev pub otherAtFront : List ℕ → ℕ → ℕ → Emission
+otherAtFront source name d = commandItem source (Other (part 0 name) (part name d))

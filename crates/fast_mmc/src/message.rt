@@ -84,7 +84,7 @@ pub fn universal_of(u: FlatUniversal) -> Universal
     }
 }
 
-pub fn bits_of(b: FlatUserBits) -> UserBits
+pub fn user_bits_of(b: FlatUserBits) -> UserBits
     ensures { λ r. ⌜ r ≡ userBitsOf b ⌝ }
 {
     let groups = b.groups;

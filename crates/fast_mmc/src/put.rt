@@ -10,7 +10,7 @@ ghost use mathlib.Core.Path.{_≡_};
 ghost use Rattle.mmc.specs.Write.{outAfter};
 ghost use Rattle.fast_mmc.specs.Contracts.{PutOne};
 ghost use Rattle.fast_mmc.specs.Word.{wordItem};
-ghost use Rattle.fast_mmc.specs.Write.{writingAt, writerAfter, wholeWrite, frontOther};
+ghost use Rattle.fast_mmc.specs.Write.{writingAt, writerAfter, writeOfData, otherAtFront};
 
 // The weight of one item in a writer's number.
 const ONE_ITEM: u64 = 0x1_0000_0000;
@@ -52,8 +52,8 @@ pub fn put_word(writer: FlatWriter, out: &mut [u8], word: u64) -> FlatWriter
 
 // A Write of these fields.
 pub fn put_write(writer: FlatWriter, out: &mut [u8], data: &[u8]) -> FlatWriter
-    ensures { λ r. ⌜ r ≡ writerAfter writer (wholeWrite (now («data» .entry))) ⌝ }
-    ensures { λ _. ⌜ now (out .exit) ≡ outAfter (writingAt writer) (now (out .entry)) (wholeWrite (now («data» .entry))) ⌝ }
+    ensures { λ r. ⌜ r ≡ writerAfter writer (writeOfData (now («data» .entry))) ⌝ }
+    ensures { λ _. ⌜ now (out .exit) ≡ outAfter (writingAt writer) (now (out .entry)) (writeOfData (now («data» .entry))) ⌝ }
 {
     let whole = Part {
         start: 0,
@@ -72,8 +72,8 @@ pub fn put_other(
     name: usize,
     data: usize,
 ) -> FlatWriter
-    ensures { λ r. ⌜ r ≡ writerAfter writer (frontOther (now (source .entry)) name «data») ⌝ }
-    ensures { λ _. ⌜ now (out .exit) ≡ outAfter (writingAt writer) (now (out .entry)) (frontOther (now (source .entry)) name «data») ⌝ }
+    ensures { λ r. ⌜ r ≡ writerAfter writer (otherAtFront (now (source .entry)) name «data») ⌝ }
+    ensures { λ _. ⌜ now (out .exit) ≡ outAfter (writingAt writer) (now (out .entry)) (otherAtFront (now (source .entry)) name «data») ⌝ }
 {
     let name_at = Part {
         start: 0,

@@ -27,7 +27,7 @@ pub struct FlatPart {
     pub length: usize,
 }
 
-// One command. The kinds 0 to 13 are the cases of `MmcCommand` in their order; a kind above 13 is taken as 13. What a kind does not
+// One command. The kinds are FIMBRAST_STOP, 0, to FIMBRAST_OTHER_COMMAND, 13; a kind above 13 is taken as 13. What a kind does not
 // use is 0 in an answer, and is not read in an argument.
 #[repr(C)]
 pub struct FlatCommand {
@@ -48,7 +48,7 @@ pub struct FlatNextCommand {
     pub place: usize,
 }
 
-// One information field. The kinds 0 to 2 are the cases of `InfoField` in their order; a kind above 2 is taken as 2. What a kind does
+// One information field. The kinds are FIMBRAST_TIME_CODE, 0, to FIMBRAST_OTHER_FIELD, 2; a kind above 2 is taken as 2. What a kind does
 // not use is 0 in an answer, and is not read in an argument.
 #[repr(C)]
 pub struct FlatField {
@@ -87,7 +87,7 @@ pub fn flat_part(p: Part) -> FlatPart
 }
 
 // A command with two values and no more.
-pub fn plain(kind: u8, first: u8, second: u8) -> FlatCommand
+pub fn flat_values(kind: u8, first: u8, second: u8) -> FlatCommand
     ensures { λ r. ⌜ r ≡ flatValues kind first second ⌝ }
 {
     FlatCommand {
@@ -135,15 +135,15 @@ pub fn flat_command(c: MmcCommand) -> FlatCommand
     ensures { λ r. ⌜ r ≡ flatCommand c ⌝ }
 {
     match c {
-        MmcCommand::Stop => plain(0, 0, 0),
-        MmcCommand::Play => plain(1, 0, 0),
-        MmcCommand::DeferredPlay => plain(2, 0, 0),
-        MmcCommand::FastForward => plain(3, 0, 0),
-        MmcCommand::Rewind => plain(4, 0, 0),
-        MmcCommand::RecordStrobe => plain(5, 0, 0),
-        MmcCommand::RecordExit => plain(6, 0, 0),
-        MmcCommand::Pause => plain(7, 0, 0),
-        MmcCommand::Reset => plain(8, 0, 0),
+        MmcCommand::Stop => flat_values(0, 0, 0),
+        MmcCommand::Play => flat_values(1, 0, 0),
+        MmcCommand::DeferredPlay => flat_values(2, 0, 0),
+        MmcCommand::FastForward => flat_values(3, 0, 0),
+        MmcCommand::Rewind => flat_values(4, 0, 0),
+        MmcCommand::RecordStrobe => flat_values(5, 0, 0),
+        MmcCommand::RecordExit => flat_values(6, 0, 0),
+        MmcCommand::Pause => flat_values(7, 0, 0),
+        MmcCommand::Reset => flat_values(8, 0, 0),
         MmcCommand::Write(data) => FlatCommand {
             kind: 9,
             first: 0,
@@ -155,7 +155,7 @@ pub fn flat_command(c: MmcCommand) -> FlatCommand
             },
             data: flat_part(data),
         },
-        MmcCommand::LocateField { register } => plain(10, register, 0),
+        MmcCommand::LocateField { register } => flat_values(10, register, 0),
         MmcCommand::LocateTarget(code) => FlatCommand {
             kind: 11,
             first: 0,
@@ -173,7 +173,7 @@ pub fn flat_command(c: MmcCommand) -> FlatCommand
         MmcCommand::Move {
             destination,
             source,
-        } => plain(12, destination, source),
+        } => flat_values(12, destination, source),
         MmcCommand::Other { name, data } => FlatCommand {
             kind: 13,
             first: 0,
@@ -196,7 +196,7 @@ pub fn flat_command_answer(answer: CommandAnswer, place: usize) -> FlatNextComma
         },
         CommandAnswer::Refused(e) => FlatNextCommand {
             refusal: e.number(),
-            command: plain(0, 0, 0),
+            command: flat_values(0, 0, 0),
             place,
         },
     }

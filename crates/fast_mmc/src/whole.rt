@@ -32,7 +32,7 @@ ghost use Rattle.mmc.specs.Write.{writingOf, writingAfter, outAfter, closedMess
 ghost use Rattle.fast_mmc.specs.Numbers.{writtenNumbers};
 ghost use Rattle.fast_mmc.specs.Word.{byteAt, wordItem};
 ghost use Rattle.fast_mmc.specs.Words.{afterWords, closedOut, wordsAnswer, wordsLeft};
-ghost use Rattle.fast_mmc.specs.Contracts.{openWriting, PutWhole, LowBytes, WordInRange, RateHas};
+ghost use Rattle.fast_mmc.specs.Contracts.{openWriting, PutWhole, LowBytes, WordInRange, AtRate};
 
 // 104, 68, 68, 98 and 28 in their bytes: above 23 hours, 59 minutes, 59 seconds, 29 frames and 99 subframes they make 128 or more.
 const ABOVE_RANGE: u64 = 0x1C62_4444_6800;
@@ -138,7 +138,7 @@ fn is_in_range(word: u64) -> bool
 
 // True only for a label in range that its rate has. What is rarely asked comes first: the compiler asks it last.
 fn is_kept(word: u64) -> bool
-    ensures { λ r. ⌜ (r ≡ true → RateHas (byteAt 65536 word) (byteAt 16777216 word) (byteAt 4294967296 word) (byteAt 281474976710656 word)) ⌝ }
+    ensures { λ r. ⌜ (r ≡ true → AtRate (byteAt 65536 word) (byteAt 16777216 word) (byteAt 4294967296 word) (byteAt 281474976710656 word)) ⌝ }
 {
     let marks = (word / 0x1_0000_0000_0000 % 256) as u8;
     if marks < 2 {

@@ -35,7 +35,7 @@ const CUT: u64 = 130;
 const END: u64 = 137;
 
 // A command or a refusal as one number, which comes back in registers, and the place to read on from. The number's lowest byte is the
-// kind of the command, 0 to 13, or 128 and the refusal's number. The bytes above it are, the lowest first:
+// kind of the command, 0 to 13, or 128 plus the refusal's number. The bytes above it are, the lowest first:
 //    9 Write              0 and the length of the data
 //   10 Locate, register   the register
 //   11 Locate, target     hours, minutes, seconds, frames, the last byte, and two bytes of marks: bits 0 and 1 are the rate, 3 the

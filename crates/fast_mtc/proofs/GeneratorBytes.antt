@@ -46,10 +46,10 @@ last-in n h = rw (le-leb n 7 h)
 
 -- What a running generator answers and leaves, by what is sent.
 module _ (g : MtcGenerator) (f : FlatByte) (q : MtcGenerator) (r : g .running ≡ true) where
-  answers : (m : MaybePiece) (t : MtcTime) (p : ℕ) → known (g .last) ≡ m → t ≡ timeNext (g .direction) m (g .time) → p ≡ pieceNext (g .direction) m
+  byte-answers : (m : MaybePiece) (t : MtcTime) (p : ℕ) → known (g .last) ≡ m → t ≡ timeNext (g .direction) m (g .time) → p ≡ pieceNext (g .direction) m
       → (f ≡ flatByte (gives (getD (pieces t) p 0))) × (q ≡ sentAt t (g .direction) p)
       → (f ≡ flatByte (nextByte g)) × (q ≡ afterNextByte g)
-  answers m t p k et ep h =
+  byte-answers m t p k et ep h =
       let s = sends g r k et ep in (h .0 ∙ ap flatByte (s .0), h .1 ∙ s .1)
 
   by-sent : (t : MtcTime) (p : ℕ) → sentBy (movedTo g t) p ≡ sentAt t (g .direction) p
@@ -81,12 +81,12 @@ module _ (bs : List ℕ) (f : FlatByte) (q : MtcGenerator) (d : Direction) (p : 
 
   pub starts-over : 7 < getD bs 6 0 → p ≡ first d → Sends (generatorIn bs) → Answered
   starts-over h ep s =
-      answers (generatorIn bs) f q runs NoPiece (generatorIn bs .time) p (none-last h) refl (ep ∙ ap first way-is)
+      byte-answers (generatorIn bs) f q runs NoPiece (generatorIn bs .time) p (none-last h) refl (ep ∙ ap first way-is)
       (s .0, s .1 ∙ by-sent (generatorIn bs) f q runs (generatorIn bs .time) p)
 
-  pub goes-on : getD bs 6 0 ≤ 7 → {l : ℕ} → l ≡ final d → (getD bs 6 0 ≡ l → ⊥) → p ≡ after d (getD bs 6 0) → Sends (generatorIn bs) → Answered
-  goes-on h el z ep s =
-      answers (generatorIn bs) f q runs (Piece (getD bs 6 0)) (generatorIn bs .time) p (some-last h)
+  pub piece-goes-on : getD bs 6 0 ≤ 7 → {l : ℕ} → l ≡ final d → (getD bs 6 0 ≡ l → ⊥) → p ≡ after d (getD bs 6 0) → Sends (generatorIn bs) → Answered
+  piece-goes-on h el z ep s =
+      byte-answers (generatorIn bs) f q runs (Piece (getD bs 6 0)) (generatorIn bs .time) p (some-last h)
       (rw (sym way-is, ne-eqb (getD bs 6 0) (final d) (λ e. z (e ∙ sym el)))) (ep ∙ ap (λ (x : Direction). after x (getD bs 6 0)) way-is)
       (s .0, s .1 ∙ by-sent (generatorIn bs) f q runs (generatorIn bs .time) p)
 
@@ -95,7 +95,7 @@ module _ (bs : List ℕ) (f : FlatByte) (q : MtcGenerator) (d : Direction) (p : 
   moves-on h el e ep {g} eg s =
       let t : MtcTime = addFrames (generatorIn bs .time) (sequenceFrames d) in
       let s′ : Sends (movedTo (generatorIn bs) t) = subst Sends eg s in
-      answers (generatorIn bs) f q runs (Piece (getD bs 6 0)) t p (some-last h)
+      byte-answers (generatorIn bs) f q runs (Piece (getD bs 6 0)) t p (some-last h)
       (rw (sym way-is, eq-eqb (getD bs 6 0) (final d) (e ∙ el))) (ep ∙ ap (λ (x : Direction). after x (getD bs 6 0)) way-is)
       (s′ .0, s′ .1 ∙ by-sent (generatorIn bs) f q runs t p)
 

@@ -56,19 +56,19 @@ two-fit Fps30 = lit≤ tt
 drop-by-minutes : (m s f : ℕ) → m * 1798 + s * 30 + f + m / 10 * 2 ≡ formula Fps30Drop m s f
 drop-by-minutes m s f = omega arith
 
-pub drop-count : (t : MtcTime) (n : ℕ) → bitsOf (t .rate) ≡ 2
+pub drop-frame-count : (t : MtcTime) (n : ℕ) → bitsOf (t .rate) ≡ 2
     → n ≡ ((t .hours * 60 + t .minutes) * 1798 + t .seconds * 30 + t .frames + (t .hours * 60 + t .minutes) / 10 * 2) % 2589408
     → n ≡ frameCount t
-drop-count t n e h =
+drop-frame-count t n e h =
     h
     ∙ ap (λ (k : ℕ). k % 2589408) (drop-by-minutes (t .hours * 60 + t .minutes) (t .seconds) (t .frames))
     ∙ subst (λ (r : TimeCodeType). formula r (t .hours * 60 + t .minutes) (t .seconds) (t .frames) % dayOf r ≡ frameCount t)
     (is-drop (t .rate) e) (sym (count-by-formula t))
 
 -- At any other rate the frames of whole seconds and those of the label.
-pub even-count : (t : MtcTime) (n : ℕ) → (bitsOf (t .rate) ≡ 2 → ⊥)
+pub even-frame-count : (t : MtcTime) (n : ℕ) → (bitsOf (t .rate) ≡ 2 → ⊥)
     → n ≡ (((t .hours * 60 + t .minutes) * 60 + t .seconds) * framesPerSecond (t .rate) + t .frames) % dayOf (t .rate) → n ≡ frameCount t
-even-count t n k h = h ∙ ap (λ (x : ℕ). x % dayOf (t .rate)) (go (t .rate) k) ∙ sym (count-by-formula t)
+even-frame-count t n k h = h ∙ ap (λ (x : ℕ). x % dayOf (t .rate)) (go (t .rate) k) ∙ sym (count-by-formula t)
   where
     go : (r : TimeCodeType) → (bitsOf r ≡ 2 → ⊥)
         → ((t .hours * 60 + t .minutes) * 60 + t .seconds) * framesPerSecond r + t .frames
@@ -264,21 +264,21 @@ was-true false e = sym e
 
 module _ (r : TimeCodeType) (h m s f : ℕ) (hh : h ≤ 23) (hm : m ≤ 59) (hs : s ≤ 59) (low : 2 ≤ f) where
   -- From the third number of a second on none is skipped.
-  kept : f < framesPerSecond r → T (isValid (label r h m s f))
-  kept k = in-range-valid r h m s f hh hm hs k (λ d. inr (omega arith))
+  same-second-valid : f < framesPerSecond r → T (isValid (label r h m s f))
+  same-second-valid k = in-range-valid r h m s f hh hm hs k (λ d. inr (omega arith))
 
   one-before : f + 1 < framesPerSecond r → addFrames (label r h m s (f + 1)) (negsuc 0) ≡ label r h m s f
   one-before k =
       ap (λ (t : MtcTime). addFrames t (negsuc 0))
       (frames-later r h m s f 1 hh hm hs k (in-range-valid r h m s (f + 1) hh hm hs k (λ d. inr (omega arith))))
       ∙ moved-by-sum (label r h m s f) (pos 1) (negsuc 0)
-      ∙ moved-by-none (label r h m s f) (kept (omega arith))
+      ∙ moved-by-none (label r h m s f) (same-second-valid (omega arith))
 
   two-before : f + 2 < framesPerSecond r → addFrames (label r h m s (f + 2)) (negsuc 1) ≡ label r h m s f
   two-before k =
       ap (λ (t : MtcTime). addFrames t (negsuc 1)) (two-later r h m s f hh hm hs k)
       ∙ moved-by-sum (label r h m s f) (pos 2) (negsuc 1)
-      ∙ moved-by-none (label r h m s f) (kept (omega arith))
+      ∙ moved-by-none (label r h m s f) (same-second-valid (omega arith))
 
 -- One frame and two frames before.
 pub one-earlier : (r : TimeCodeType) (h m s f : ℕ) → h ≤ 23 → m ≤ 59 → s ≤ 59 → 3 ≤ f → f < framesPerSecond r

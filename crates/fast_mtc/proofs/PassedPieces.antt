@@ -24,8 +24,8 @@ use Rattle.fast_mtc.specs.Contracts.{Received, FirstKept, PassedPiece, S
 use Rattle.fast_mtc.specs.Reader.{wayIn, lastIn, countIn, firstIn, nibblesIn, labelIn, timeIn, readerIn, flatEvent}
 use Rattle.fast_mtc.proofs.LabelWords.{marked}
 use Rattle.fast_mtc.proofs.Orders.{standingIn, standing-none, order-first-small}
-use Rattle.fast_mtc.proofs.ReceivedPieces.{Alike, passes, kept, stand-in, count-at, own-order, sound-in}
-use Rattle.fast_mtc.proofs.SpelledLists.{spelled, by-words, by-piece}
+use Rattle.fast_mtc.proofs.ReceivedPieces.{Alike, words-pass, words-kept, stand-in, count-at, own-order, sound-in}
+use Rattle.fast_mtc.proofs.SpelledLists.{spelled, by-words, piece-cases}
 
 -- ---- a piece in the direction that it leaves
 
@@ -44,21 +44,21 @@ pub forward-passes : (ws : List ℕ) (v p : ℕ) → length ws ≡ 15 → p ≤ 
 unfolding readerIn nibblesIn wayIn lastIn countIn firstIn
 forward-passes ws v p e =
     by-words (λ (l : List ℕ). p ≤ 7 → (p ≡ 0 → ⊥) → Passes (Going Forward) (16 + (p + 1) % 8) p l v) ws e
-    (by-piece (λ (k : ℕ). (k ≡ 0 → ⊥) → Passes (Going Forward) (16 + (k + 1) % 8) k (spelled 15 ws) v) (λ z. absurd (z refl)) (λ z h. rw h)
+    (piece-cases (λ (k : ℕ). (k ≡ 0 → ⊥) → Passes (Going Forward) (16 + (k + 1) % 8) k (spelled 15 ws) v) (λ z. absurd (z refl)) (λ z h. rw h)
     (λ z h. rw h) (λ z h. rw h) (λ z h. rw h) (λ z h. rw h) (λ z h. rw h) (λ z h. rw h) p)
 
 pub reverse-passes : (ws : List ℕ) (v p : ℕ) → length ws ≡ 15 → p ≤ 7 → (p ≡ 7 → ⊥) → Passes (Going Reverse) (24 + (p + 7) % 8) p ws v
 unfolding readerIn nibblesIn wayIn lastIn countIn firstIn
 reverse-passes ws v p e =
     by-words (λ (l : List ℕ). p ≤ 7 → (p ≡ 7 → ⊥) → Passes (Going Reverse) (24 + (p + 7) % 8) p l v) ws e
-    (by-piece (λ (k : ℕ). (k ≡ 7 → ⊥) → Passes (Going Reverse) (24 + (k + 7) % 8) k (spelled 15 ws) v) (λ z h. rw h) (λ z h. rw h)
+    (piece-cases (λ (k : ℕ). (k ≡ 7 → ⊥) → Passes (Going Reverse) (24 + (k + 7) % 8) k (spelled 15 ws) v) (λ z h. rw h) (λ z h. rw h)
     (λ z h. rw h) (λ z h. rw h) (λ z h. rw h) (λ z h. rw h) (λ z h. rw h) (λ z. absurd (z refl)) p)
 
 pub none-passes : (ws : List ℕ) (v p : ℕ) → length ws ≡ 15 → p ≤ 7 → (p ≡ 0 → ⊥) → (p ≡ 7 → ⊥) → Passes NoDirection (32 + p) p ws v
 unfolding readerIn nibblesIn wayIn lastIn countIn firstIn
 none-passes ws v p e =
     by-words (λ (l : List ℕ). p ≤ 7 → (p ≡ 0 → ⊥) → (p ≡ 7 → ⊥) → Passes NoDirection (32 + p) p l v) ws e
-    (by-piece (λ (k : ℕ). (k ≡ 0 → ⊥) → (k ≡ 7 → ⊥) → Passes NoDirection (32 + k) k (spelled 15 ws) v) (λ z. absurd (z refl)) (λ y z h. rw h)
+    (piece-cases (λ (k : ℕ). (k ≡ 0 → ⊥) → (k ≡ 7 → ⊥) → Passes NoDirection (32 + k) k (spelled 15 ws) v) (λ z. absurd (z refl)) (λ y z h. rw h)
     (λ y z h. rw h) (λ y z h. rw h) (λ y z h. rw h) (λ y z h. rw h) (λ y z h. rw h) (λ y z. absurd (z refl)) p)
 
 pub forward-begins : (ws : List ℕ) (v : ℕ) → length ws ≡ 15 → Begins (Going Forward) 1 0 ws v
@@ -230,12 +230,12 @@ module _ (ws : List ℕ) (b x : ℕ) (left : List ℕ) (e : length ws ≡ 15) wh
 
     pub forward-turned : (k + 6) % 8 ≡ p → PassedPiece (Going Reverse) (set (set ws 9 0) 10 0) p (valueOf b) x left → Received ws b x left
     forward-turned t =
-        passes ws (set (set ws 9 0) 10 0) left b x false false (Going Reverse)
+        words-pass ws (set (set ws 9 0) 10 0) left b x false false (Going Reverse)
         (stand-in ws b (omega arith) ∙ rw (lt-ltb k 8 l, ne-eqb k p z, eq-eqb ((k + 6) % 8) p t)) refl (alike-both ws 0 e same-0)
 
     pub forward-broken : ((k + 6) % 8 ≡ p → ⊥) → PassedPiece (Going Forward) (set (set ws 9 0) 10 0) p (valueOf b) x left → Received ws b x left
     forward-broken t =
-        passes ws (set (set ws 9 0) 10 0) left b x false false (Going Forward)
+        words-pass ws (set (set ws 9 0) 10 0) left b x false false (Going Forward)
         (stand-in ws b (omega arith) ∙ rw (lt-ltb k 8 l, ne-eqb k p z, ne-eqb ((k + 6) % 8) p t)) refl (alike-both ws 0 e same-0)
 
   -- One in reverse.
@@ -245,87 +245,87 @@ module _ (ws : List ℕ) (b x : ℕ) (left : List ℕ) (e : length ws ≡ 15) wh
 
     pub reverse-turned : (k + 2) % 8 ≡ p → PassedPiece (Going Forward) (set (set ws 9 7) 10 0) p (valueOf b) x left → Received ws b x left
     reverse-turned t =
-        passes ws (set (set ws 9 7) 10 0) left b x false false (Going Forward)
+        words-pass ws (set (set ws 9 7) 10 0) left b x false false (Going Forward)
         (stand-in ws b (omega arith) ∙ rw (le-ltb k 8 h, lt-ltb k 16 l, ne-eqb k (p + 8) z, eq-eqb ((k + 2) % 8) p t)) refl (alike-both ws 7 e same-7)
 
     pub reverse-broken : ((k + 2) % 8 ≡ p → ⊥) → PassedPiece (Going Reverse) (set (set ws 9 7) 10 0) p (valueOf b) x left → Received ws b x left
     reverse-broken t =
-        passes ws (set (set ws 9 7) 10 0) left b x false false (Going Reverse)
+        words-pass ws (set (set ws 9 7) 10 0) left b x false false (Going Reverse)
         (stand-in ws b (omega arith) ∙ rw (le-ltb k 8 h, lt-ltb k 16 l, ne-eqb k (p + 8) z, ne-eqb ((k + 2) % 8) p t)) refl (alike-both ws 7 e same-7)
 
   -- Forward, in no sequence.
   module _ (h : 16 ≤ k) (l : k < 24) where
     pub out-forward-on : k ≡ 16 + p → PassedPiece (Going Forward) ws p (valueOf b) x left → Received ws b x left
     out-forward-on t =
-        passes ws ws left b x true true (Going Forward)
+        words-pass ws ws left b x true true (Going Forward)
         (stand-in ws b (omega arith) ∙ rw (le-ltb k 8 (omega arith), le-ltb k 16 h, lt-ltb k 24 l, eq-eqb k (16 + p) t)) (count-outside ws h (omega arith)) (alike-same ws)
 
     pub out-forward-turned : (k ≡ 16 + p → ⊥) → (k + 6) % 8 ≡ p → PassedPiece (Going Reverse) (set ws 10 0) p (valueOf b) x left → Received ws b x left
     out-forward-turned z t =
-        passes ws (set ws 10 0) left b x false false (Going Reverse)
+        words-pass ws (set ws 10 0) left b x false false (Going Reverse)
         (stand-in ws b (omega arith) ∙ rw (le-ltb k 8 (omega arith), le-ltb k 16 h, lt-ltb k 24 l, ne-eqb k (16 + p) z, eq-eqb ((k + 6) % 8) p t)) refl (alike-unlocked ws e)
 
     pub out-forward-broken : (k ≡ 16 + p → ⊥) → ((k + 6) % 8 ≡ p → ⊥) → PassedPiece (Going Forward) (set ws 10 0) p (valueOf b) x left → Received ws b x left
     out-forward-broken z t =
-        passes ws (set ws 10 0) left b x false false (Going Forward)
+        words-pass ws (set ws 10 0) left b x false false (Going Forward)
         (stand-in ws b (omega arith) ∙ rw (le-ltb k 8 (omega arith), le-ltb k 16 h, lt-ltb k 24 l, ne-eqb k (16 + p) z, ne-eqb ((k + 6) % 8) p t)) refl (alike-unlocked ws e)
 
   -- In reverse, in no sequence.
   module _ (h : 24 ≤ k) (l : k < 32) where
     pub out-reverse-on : k ≡ 24 + p → PassedPiece (Going Reverse) ws p (valueOf b) x left → Received ws b x left
     out-reverse-on t =
-        passes ws ws left b x true true (Going Reverse)
+        words-pass ws ws left b x true true (Going Reverse)
         (stand-in ws b (omega arith) ∙ rw (le-ltb k 8 (omega arith), le-ltb k 16 (omega arith), le-ltb k 24 h, lt-ltb k 32 l, eq-eqb k (24 + p) t)) (count-outside ws (omega arith) (omega arith)) (alike-same ws)
 
     pub out-reverse-turned : (k ≡ 24 + p → ⊥) → (k + 2) % 8 ≡ p → PassedPiece (Going Forward) (set ws 10 0) p (valueOf b) x left → Received ws b x left
     out-reverse-turned z t =
-        passes ws (set ws 10 0) left b x false false (Going Forward)
+        words-pass ws (set ws 10 0) left b x false false (Going Forward)
         (stand-in ws b (omega arith) ∙ rw (le-ltb k 8 (omega arith), le-ltb k 16 (omega arith), le-ltb k 24 h, lt-ltb k 32 l, ne-eqb k (24 + p) z, eq-eqb ((k + 2) % 8) p t)) refl (alike-unlocked ws e)
 
     pub out-reverse-broken : (k ≡ 24 + p → ⊥) → ((k + 2) % 8 ≡ p → ⊥) → PassedPiece (Going Reverse) (set ws 10 0) p (valueOf b) x left → Received ws b x left
     out-reverse-broken z t =
-        passes ws (set ws 10 0) left b x false false (Going Reverse)
+        words-pass ws (set ws 10 0) left b x false false (Going Reverse)
         (stand-in ws b (omega arith) ∙ rw (le-ltb k 8 (omega arith), le-ltb k 16 (omega arith), le-ltb k 24 h, lt-ltb k 32 l, ne-eqb k (24 + p) z, ne-eqb ((k + 2) % 8) p t)) refl (alike-unlocked ws e)
 
   -- No direction, in no sequence.
   module _ (h : 32 ≤ k) (l : k < 40) where
     pub second-forward : (k + 1) % 8 ≡ p → PassedPiece (Going Forward) ws p (valueOf b) x left → Received ws b x left
     second-forward t =
-        passes ws ws left b x false true (Going Forward)
+        words-pass ws ws left b x false true (Going Forward)
         (stand-in ws b (omega arith) ∙ rw (le-ltb k 8 (omega arith), le-ltb k 16 (omega arith), le-ltb k 24 (omega arith), le-ltb k 32 h, lt-ltb k 40 l, eq-eqb ((k + 1) % 8) p t)) refl (alike-same ws)
 
     pub second-reverse : ((k + 1) % 8 ≡ p → ⊥) → (k + 7) % 8 ≡ p → PassedPiece (Going Reverse) ws p (valueOf b) x left → Received ws b x left
     second-reverse z t =
-        passes ws ws left b x false true (Going Reverse)
+        words-pass ws ws left b x false true (Going Reverse)
         (stand-in ws b (omega arith) ∙ rw (le-ltb k 8 (omega arith), le-ltb k 16 (omega arith), le-ltb k 24 (omega arith), le-ltb k 32 h, lt-ltb k 40 l, ne-eqb ((k + 1) % 8) p z, eq-eqb ((k + 7) % 8) p t)) refl (alike-same ws)
 
     pub second-apart : ((k + 1) % 8 ≡ p → ⊥) → ((k + 7) % 8 ≡ p → ⊥) → PassedPiece NoDirection (set ws 10 0) p (valueOf b) x left → Received ws b x left
     second-apart z t =
-        passes ws (set ws 10 0) left b x false false NoDirection
+        words-pass ws (set ws 10 0) left b x false false NoDirection
         (stand-in ws b (omega arith) ∙ rw (le-ltb k 8 (omega arith), le-ltb k 16 (omega arith), le-ltb k 24 (omega arith), le-ltb k 32 h, lt-ltb k 40 l, ne-eqb ((k + 1) % 8) p z, ne-eqb ((k + 7) % 8) p t)) refl (alike-unlocked ws e)
 
   -- Piece 0 alone.
   module _ (h : k ≡ 40) where
     pub begun-0-reverse : p ≡ 7 → PassedPiece (Going Reverse) (set ws 9 0) p (valueOf b) x left → Received ws b x left
     begun-0-reverse t =
-        passes ws (set ws 9 0) left b x false true (Going Reverse)
+        words-pass ws (set ws 9 0) left b x false true (Going Reverse)
         (stand-in ws b (omega arith) ∙ rw (h, t)) refl (alike-first ws 0 e (first-begun-0 k 0 h ∙ sym (first-begun-0 k (getD ws 9 0) h)))
 
     pub begun-0-apart : (p ≡ 1 → ⊥) → (p ≡ 7 → ⊥) → PassedPiece NoDirection (set (set ws 9 0) 10 0) p (valueOf b) x left → Received ws b x left
     begun-0-apart z t =
-        passes ws (set (set ws 9 0) 10 0) left b x false false NoDirection
+        words-pass ws (set (set ws 9 0) 10 0) left b x false false NoDirection
         (stand-in ws b (omega arith) ∙ rw (h, ne-eqb p 1 z, ne-eqb p 7 t)) refl (alike-both ws 0 e (first-begun-0 k 0 h ∙ sym (first-begun-0 k (getD ws 9 0) h)))
 
   -- Piece 7 alone.
   module _ (h : k ≡ 41) where
     pub begun-7-forward : p ≡ 0 → PassedPiece (Going Forward) (set ws 9 7) p (valueOf b) x left → Received ws b x left
     begun-7-forward t =
-        passes ws (set ws 9 7) left b x false true (Going Forward)
+        words-pass ws (set ws 9 7) left b x false true (Going Forward)
         (stand-in ws b (omega arith) ∙ rw (h, t)) refl (alike-first ws 7 e (first-begun-7 k 7 h ∙ sym (first-begun-7 k (getD ws 9 0) h)))
 
     pub begun-7-apart : (p ≡ 6 → ⊥) → (p ≡ 0 → ⊥) → PassedPiece NoDirection (set (set ws 9 7) 10 0) p (valueOf b) x left → Received ws b x left
     begun-7-apart z t =
-        passes ws (set (set ws 9 7) 10 0) left b x false false NoDirection
+        words-pass ws (set (set ws 9 7) 10 0) left b x false false NoDirection
         (stand-in ws b (omega arith) ∙ rw (h, ne-eqb p 6 z, ne-eqb p 0 t)) refl (alike-both ws 7 e (first-begun-7 k 7 h ∙ sym (first-begun-7 k (getD ws 9 0) h)))
 
 -- No piece before.
@@ -337,7 +337,7 @@ none-in ws b h = standing-none (getD ws 8 0) (pieceOf b) (getD ws 9 0) h
 pub first-of-all : (ws : List ℕ) (b x : ℕ) (left : List ℕ) (d : MaybeDirection) → 42 ≤ getD ws 8 0 → wayIn (getD ws 8 0) ≡ d
     → PassedPiece d ws (pieceOf b) (valueOf b) x left → Received ws b x left
 first-of-all ws b x left d h ed =
-    passes ws ws left b x false true d (none-in ws b h ∙ ap (λ (w : MaybeDirection). ordered false w true) ed) refl (alike-same ws)
+    words-pass ws ws left b x false true d (none-in ws b h ∙ ap (λ (w : MaybeDirection). ordered false w true) ed) refl (alike-same ws)
 
 pub way-forward : (k : ℕ) → k ≡ 42 → wayIn k ≡ Going Forward
 unfolding wayIn
@@ -372,7 +372,7 @@ pub begun-0-on : (ws : List ℕ) (b x : ℕ) → length ws ≡ 15 → getD ws 8 
     → Received ws b x (set (set ws 1 b) 8 2)
 unfolding countIn
 begun-0-on ws b x e h t ex =
-    kept ws b e (ordered true (Going Forward) true) 2 x (set (set ws 1 b) 8 2) (λ z. let y : _≡_ {A = ℕ} 2 0 = z in omega arith) (λ z. let y : _≡_ {A = ℕ} 2 8 = z in omega arith)
+    words-kept ws b e (ordered true (Going Forward) true) 2 x (set (set ws 1 b) 8 2) (λ z. let y : _≡_ {A = ℕ} 2 0 = z in omega arith) (λ z. let y : _≡_ {A = ℕ} 2 8 = z in omega arith)
     (stand-in ws b (omega arith) ∙ rw (h, t)) (rw (begun-count ws 40 h refl))
     (subst (λ (l : List ℕ). readerIn (set (set l 1 b) 8 2) ≡ stored (readerIn l) (ordered true (Going Forward) true) 2 1 (valueOf b)) (own-order ws 40 e h) (on-0 ws b e)
     ∙ ap (λ (q : ℕ). stored (readerIn ws) (ordered true (Going Forward) true) 2 q (valueOf b)) (sym t))
@@ -382,7 +382,7 @@ pub begun-7-on : (ws : List ℕ) (b x : ℕ) → length ws ≡ 15 → getD ws 8 
     → Received ws b x (set (set ws 6 b) 8 13)
 unfolding countIn
 begun-7-on ws b x e h t ex =
-    kept ws b e (ordered true (Going Reverse) true) 2 x (set (set ws 6 b) 8 13) (λ z. let y : _≡_ {A = ℕ} 2 0 = z in omega arith) (λ z. let y : _≡_ {A = ℕ} 2 8 = z in omega arith)
+    words-kept ws b e (ordered true (Going Reverse) true) 2 x (set (set ws 6 b) 8 13) (λ z. let y : _≡_ {A = ℕ} 2 0 = z in omega arith) (λ z. let y : _≡_ {A = ℕ} 2 8 = z in omega arith)
     (stand-in ws b (omega arith) ∙ rw (h, t)) (rw (begun-count ws 41 h refl))
     (subst (λ (l : List ℕ). readerIn (set (set l 6 b) 8 13) ≡ stored (readerIn l) (ordered true (Going Reverse) true) 2 6 (valueOf b)) (own-order ws 41 e h) (on-7 ws b e)
     ∙ ap (λ (q : ℕ). stored (readerIn ws) (ordered true (Going Reverse) true) 2 q (valueOf b)) (sym t))

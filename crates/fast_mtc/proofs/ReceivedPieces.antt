@@ -20,7 +20,7 @@ use Rattle.fast_mtc.specs.Generator.{isSet}
 use Rattle.fast_mtc.specs.Contracts.{Received, FirstKept, PassedPiece, SequenceEnded}
 use Rattle.fast_mtc.specs.Reader.{wayIn, lastIn, countIn, firstIn, nibblesIn, readerIn, flatEvent}
 use Rattle.fast_mtc.proofs.Orders.{standingIn, standing, standing-none, order-count-small, order-first-small, last-fits}
-use Rattle.fast_mtc.proofs.SpelledLists.{spelled, by-words, by-piece}
+use Rattle.fast_mtc.proofs.SpelledLists.{spelled, by-words, piece-cases}
 
 -- ---- any words stand for a sound reader
 
@@ -68,11 +68,11 @@ no-end true = refl
 no-end false = refl
 
 -- From the words after a change of lock or first piece, where it finds no piece held.
-pub passes : (ws before left : List ℕ) (b e : ℕ) (nx keeps : Bool) (d : MaybeDirection)
+pub words-pass : (ws before left : List ℕ) (b e : ℕ) (nx keeps : Bool) (d : MaybeDirection)
     → orderAfter (control (readerIn ws)) (readerIn ws .last) (readerIn ws .direction) (pieceOf b) ≡ ordered nx d keeps
     → cond nx (readerIn ws .count) 0 ≡ 0 → Alike keeps (readerIn before) (readerIn ws)
     → PassedPiece d before (pieceOf b) (valueOf b) e left → Received ws b e left
-passes ws before left b e nx keeps d eo en al q =
+words-pass ws before left b e nx keeps d eo en al q =
     let n : ℕ = numberAfter 0 (starts d (pieceOf b)) in
     let s = piece-stands (readerIn ws) (sound-in ws) b n (ordered nx d keeps) eo (ap (λ (k : ℕ). numberAfter k (starts d (pieceOf b))) en) in
     record {
@@ -89,7 +89,7 @@ held-forward ws v p e =
     by-words
     (λ (l : List ℕ). p ≤ 7 → readerIn (set (set (set l 8 p) p v) 8 ((p + 1) % 8)) ≡ stored (readerIn (set l 8 p)) (ordered true (Going Forward) true) (p + 1) p (v % 16))
     ws e
-    (by-piece
+    (piece-cases
     (λ (k : ℕ). readerIn (set (set (set (spelled 15 ws) 8 k) k v) 8 ((k + 1) % 8)) ≡ stored (readerIn (set (spelled 15 ws) 8 k)) (ordered true (Going Forward) true) (k + 1) k (v % 16))
     refl refl refl refl refl refl refl refl p)
 
@@ -100,7 +100,7 @@ held-reverse ws v p e =
     by-words
     (λ (l : List ℕ). p ≤ 7 → readerIn (set (set (set l 8 (p + 8)) p v) 8 (8 + (p + 7) % 8)) ≡ stored (readerIn (set l 8 (p + 8))) (ordered true (Going Reverse) true) (8 - p) p (v % 16))
     ws e
-    (by-piece
+    (piece-cases
     (λ (k : ℕ). readerIn (set (set (set (spelled 15 ws) 8 (k + 8)) k v) 8 (8 + (k + 7) % 8)) ≡ stored (readerIn (set (spelled 15 ws) 8 (k + 8))) (ordered true (Going Reverse) true) (8 - k) k (v % 16))
     refl refl refl refl refl refl refl refl p)
 
@@ -120,22 +120,22 @@ count-at ws = refl
 
 forward-number : (p : ℕ) → p ≤ 7 → numberAfter (countIn p) (eqb p 0) ≡ p + 1
 unfolding countIn
-forward-number = by-piece (λ p. numberAfter (countIn p) (eqb p 0) ≡ p + 1) refl refl refl refl refl refl refl refl
+forward-number = piece-cases (λ p. numberAfter (countIn p) (eqb p 0) ≡ p + 1) refl refl refl refl refl refl refl refl
 
 reverse-number : (p : ℕ) → p ≤ 7 → numberAfter (countIn (p + 8)) (eqb p 7) ≡ 8 - p
 unfolding countIn
-reverse-number = by-piece (λ p. numberAfter (countIn (p + 8)) (eqb p 7) ≡ 8 - p) refl refl refl refl refl refl refl refl
+reverse-number = piece-cases (λ p. numberAfter (countIn (p + 8)) (eqb p 7) ≡ 8 - p) refl refl refl refl refl refl refl refl
 
 module _ (ws : List ℕ) (b : ℕ) (e : length ws ≡ 15) where
   abbrev R : MtcReader
   R = readerIn ws
 
   -- A piece that is held but ends nothing.
-  pub kept : (o : Standing) (n x : ℕ) (left : List ℕ) → (n ≡ 0 → ⊥) → (n ≡ 8 → ⊥)
+  pub words-kept : (o : Standing) (n x : ℕ) (left : List ℕ) → (n ≡ 0 → ⊥) → (n ≡ 8 → ⊥)
       → orderAfter (control R) (R .last) (R .direction) (pieceOf b) ≡ o
       → numberAfter (cond (o .next) (R .count) 0) (starts (o .direction) (pieceOf b)) ≡ n
       → readerIn left ≡ stored R o n (pieceOf b) (valueOf b) → x ≡ flatEvent (eventWith (pieceOf b) NoSequence) → Received ws b x left
-  kept o n x left n0 n8 eo en el ex =
+  words-kept o n x left n0 n8 eo en el ex =
       let s = piece-stands R (sound-in ws) b n o eo en in
       record {
         event = ex ∙ ap flatEvent (sym (s .1 ∙ rw (ne-eqb n 8 n8)));
@@ -173,7 +173,7 @@ module _ (ws : List ℕ) (b : ℕ) (e : length ws ≡ 15) where
 
     pub forward-on : (x : ℕ) → (pieceOf b ≡ 7 → ⊥) → x ≡ flatEvent (eventWith (pieceOf b) NoSequence) → Received ws b x (set (set ws (pieceOf b) b) 8 ((pieceOf b + 1) % 8))
     forward-on x h ex =
-        kept (ordered true (Going Forward) true) (pieceOf b + 1) x (set (set ws (pieceOf b) b) 8 ((pieceOf b + 1) % 8))
+        words-kept (ordered true (Going Forward) true) (pieceOf b + 1) x (set (set ws (pieceOf b) b) 8 ((pieceOf b + 1) % 8))
         (λ z. let y : pieceOf b + 1 ≡ 0 = z in omega arith) (λ z. let y : pieceOf b + 1 ≡ 8 = z in h (omega arith))
         forward-stands forward-counts forward-left ex
 
@@ -203,7 +203,7 @@ module _ (ws : List ℕ) (b : ℕ) (e : length ws ≡ 15) where
 
     pub reverse-on : (x : ℕ) → (pieceOf b ≡ 0 → ⊥) → x ≡ flatEvent (eventWith (pieceOf b) NoSequence) → Received ws b x (set (set ws (pieceOf b) b) 8 (8 + (pieceOf b + 7) % 8))
     reverse-on x h ex =
-        kept (ordered true (Going Reverse) true) (8 - pieceOf b) x (set (set ws (pieceOf b) b) 8 (8 + (pieceOf b + 7) % 8))
+        words-kept (ordered true (Going Reverse) true) (8 - pieceOf b) x (set (set ws (pieceOf b) b) 8 (8 + (pieceOf b + 7) % 8))
         (λ z. let y : 8 - pieceOf b ≡ 0 = z in omega (arith, piece-low b)) (λ z. let y : 8 - pieceOf b ≡ 8 = z in h (omega arith))
         reverse-stands reverse-counts reverse-left ex
 

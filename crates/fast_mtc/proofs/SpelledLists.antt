@@ -20,13 +20,13 @@ pub by-words : (P : List ℕ → Type 0) (ws : List ℕ) → length ws ≡ 15 �
 by-words P ws e h = subst P (spell 15 ws (omega (arith, e))) h
 
 -- What holds of each of the eight pieces holds of any.
-pub by-piece : (P : ℕ → Type 0) → P 0 → P 1 → P 2 → P 3 → P 4 → P 5 → P 6 → P 7 → (k : ℕ) → k ≤ 7 → P k
-by-piece P a b c d e f g h zero l = a
-by-piece P a b c d e f g h (suc zero) l = b
-by-piece P a b c d e f g h (suc (suc zero)) l = c
-by-piece P a b c d e f g h (suc (suc (suc zero))) l = d
-by-piece P a b c d e f g h (suc (suc (suc (suc zero)))) l = e
-by-piece P a b c d e f g h (suc (suc (suc (suc (suc zero))))) l = f
-by-piece P a b c d e f g h (suc (suc (suc (suc (suc (suc zero)))))) l = g
-by-piece P a b c d e f g h (suc (suc (suc (suc (suc (suc (suc zero))))))) l = h
-by-piece P a b c d e f g h (suc (suc (suc (suc (suc (suc (suc (suc k)))))))) l = absurd (omega arith)
+pub piece-cases : (P : ℕ → Type 0) → P 0 → P 1 → P 2 → P 3 → P 4 → P 5 → P 6 → P 7 → (k : ℕ) → k ≤ 7 → P k
+piece-cases P a b c d e f g h zero l = a
+piece-cases P a b c d e f g h (suc zero) l = b
+piece-cases P a b c d e f g h (suc (suc zero)) l = c
+piece-cases P a b c d e f g h (suc (suc (suc zero))) l = d
+piece-cases P a b c d e f g h (suc (suc (suc (suc zero)))) l = e
+piece-cases P a b c d e f g h (suc (suc (suc (suc (suc zero))))) l = f
+piece-cases P a b c d e f g h (suc (suc (suc (suc (suc (suc zero)))))) l = g
+piece-cases P a b c d e f g h (suc (suc (suc (suc (suc (suc (suc zero))))))) l = h
+piece-cases P a b c d e f g h (suc (suc (suc (suc (suc (suc (suc (suc k)))))))) l = absurd (omega arith)

@@ -156,11 +156,11 @@ with-labels ws a b c d t u e et eu =
     (λ (l : List ℕ). readerIn (set (set (set (set (set l 10 1) 11 a) 12 b) 13 c) 14 d) ≡ record { nibbles = readerIn l .nibbles; count = readerIn l .count; first = readerIn l .first; last = readerIn l .last; direction = readerIn l .direction; locked = true; running = readerIn l .running; previous = Time t; time = Time u })
     ws e (rw (et, eu))
 
-pub completes : (ws : List ℕ) (d : Direction) (s : MtcSequence) (x a b c w : ℕ) → length ws ≡ 15
+pub words-complete : (ws : List ℕ) (d : Direction) (s : MtcSequence) (x a b c w : ℕ) → length ws ≡ 15
     → a ≡ 1 + 2 * bitsOf (s .raw .rate) → labelIn (s .raw .rate) b ≡ s .raw → c ≡ 1 + 2 * bitsOf (s .current .rate)
     → labelIn (s .current .rate) w ≡ s .current → x ≡ flatEvent (eventWith (final d) (Sequence s)) → s ≡ sequenceOf (readerIn ws)
     → SequenceEnded (final d) ws x (set (set (set (set (set ws 10 1) 11 a) 12 b) 13 c) 14 w)
-completes ws d s x a b c w e ea eb ec ew ex es =
+words-complete ws d s x a b c w e ea eb ec ew ex es =
     record {
       event = ex ∙ ap (λ (q : MtcSequence). flatEvent (eventWith (final d) (Sequence q))) es;
       reader = with-labels ws a b c w (s .raw) (s .current) e (marked (s .raw) a b ea eb) (marked (s .current) c w ec ew) ∙ rw es;

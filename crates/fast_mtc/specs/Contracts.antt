@@ -1,4 +1,4 @@
--- What only the contracts of inner functions need, on the way to `receive`. Assumes nothing.
+-- What only the contracts of inner functions need, on the way to `receive` and `full_message`. Assumes nothing.
 use Prim.Native.Nat.{ℕ, _+_, _-_, _%_, _≤_}
 use mathlib.Core.Bool.{true, false}
 use mathlib.Core.List.{List}

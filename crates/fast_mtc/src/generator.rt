@@ -25,7 +25,7 @@ const LAST: usize = 6;
 
 const RUNNING: usize = 7;
 
-// A generator. Direction 0 is forward, any other reverse. A last piece above 7 is none.
+// A generator. Direction 0 is forward, any other reverse. A last piece above 7 is none, and an answer has 255 for it.
 #[repr(C)]
 pub struct FlatGenerator {
     pub time: FlatTime,
@@ -34,7 +34,7 @@ pub struct FlatGenerator {
     pub running: bool,
 }
 
-// A data byte, or a refusal and 0.
+// Refusal 0 and a data byte, or a refusal and byte 0.
 #[repr(C)]
 pub struct FlatByte {
     pub refusal: u8,

@@ -53,7 +53,7 @@ pub struct FlatMaybeSequence {
 
 // ---- events as numbers
 
-fn bit(set: bool) -> u64
+fn bit_of(set: bool) -> u64
     ensures { λ r. ⌜ (r ≡ bitOf set) × (r ≤ 1) ⌝ }
 {
     if set { 1 } else { 0 }
@@ -63,14 +63,14 @@ fn flat_report(s: MtcSequence) -> u64
     ensures { λ r. ⌜ (r ≡ flatReport (Sequence s)) × (r ≤ 7) ⌝ }
 {
     let direction = s.direction;
-    1 + flat_direction(direction) as u64 * 2 + bit(s.discontinuity) * 4
+    1 + flat_direction(direction) as u64 * 2 + bit_of(s.discontinuity) * 4
 }
 
 fn flat_event(e: MtcEvent) -> u64
     ensures { λ r. ⌜ r ≡ flatEvent e ⌝ }
 {
     let sequence = e.sequence;
-    let start = e.piece as u64 + bit(e.boundary) * 256;
+    let start = e.piece as u64 + bit_of(e.boundary) * 256;
     match sequence {
         MaybeSequence::NoSequence => start,
         MaybeSequence::Sequence(s) => start + flat_report(s) * 512,

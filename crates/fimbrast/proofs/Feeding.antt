@@ -10,7 +10,7 @@ use lib.ListN.{length, drop, getD, drop-of-length-le}
 use lib.Seq.{drop-cons}
 use Rattle.fast_mtc.proofs.Laws.{report-of, none-reported, some-reported, jump-reported, report-back, kept-back}
 use Rattle.fast_mtc.specs.Reader.{flatReport, flatEvent, readerIn, reportIn}
-use Rattle.fimbrast.specs.Feed.{Fed, unfed, fedReport, fedBy, fedAll, fed, flatFed, flatCounted, reportsIn, jump, laterReport, total, lastReport, Feeds}
+use Rattle.fimbrast.specs.Feed.{Fed, unfed, fedAfter, fedBy, fedAll, fed, flatFed, flatCounted, reportsIn, jump, laterReport, total, lastReport, Feeds}
 use Rattle.fimbrast.specs.declared.feed.FlatFed.{FlatFed}
 use Rattle.mtc.proofs.Laws.{Sound, as-is, byte-sound, report-labels, calls-none, calls-more, events-more}
 use Rattle.mtc.specs.QuarterFrame.{pieceOf}
@@ -35,13 +35,13 @@ at-most-one : (b : Bool) → cond b 1 0 ≤ 1
 at-most-one true = lit≤ tt
 at-most-one false = lit≤ tt
 
-counted-reports : (f : Fed) (r : MtcReader) (s : MaybeSequence) → fedReport f r s .reports ≤ f .reports + 1
-unfolding fedReport
+counted-reports : (f : Fed) (r : MtcReader) (s : MaybeSequence) → fedAfter f r s .reports ≤ f .reports + 1
+unfolding fedAfter
 counted-reports f r NoSequence = omega arith
 counted-reports f r (Sequence s) = omega arith
 
-counted-jumps : (f : Fed) (r : MtcReader) (s : MaybeSequence) → fedReport f r s .discontinuities ≤ f .discontinuities + 1
-unfolding fedReport
+counted-jumps : (f : Fed) (r : MtcReader) (s : MaybeSequence) → fedAfter f r s .discontinuities ≤ f .discontinuities + 1
+unfolding fedAfter
 counted-jumps f r NoSequence = omega arith
 counted-jumps f r (Sequence s) = let h : cond (s .discontinuity) 1 0 ≤ 1 = at-most-one (s .discontinuity) in omega arith
 
@@ -54,28 +54,28 @@ unfolding fedBy
 fed-jumps f b = counted-jumps f (afterByte (f .reader) b) (eventOf (f .reader) b .sequence)
 
 module _ (f : Fed) (r : MtcReader) where
-  counted-reader : (s : MaybeSequence) → fedReport f r s .reader ≡ r
-  unfolding fedReport
+  counted-reader : (s : MaybeSequence) → fedAfter f r s .reader ≡ r
+  unfolding fedAfter
   counted-reader NoSequence = refl
   counted-reader (Sequence s) = refl
 
-  counted-one : (s : MaybeSequence) → fedReport f r s .reports ≡ f .reports + reportsIn s
-  unfolding fedReport
+  counted-one : (s : MaybeSequence) → fedAfter f r s .reports ≡ f .reports + reportsIn s
+  unfolding fedAfter
   counted-one NoSequence = omega arith
   counted-one (Sequence s) = refl
 
-  counted-jump : (s : MaybeSequence) → fedReport f r s .discontinuities ≡ f .discontinuities + jump s
-  unfolding fedReport
+  counted-jump : (s : MaybeSequence) → fedAfter f r s .discontinuities ≡ f .discontinuities + jump s
+  unfolding fedAfter
   counted-jump NoSequence = omega arith
   counted-jump (Sequence s) = refl
 
-  counted-last : (s : MaybeSequence) → fedReport f r s .last ≡ laterReport (f .last) s
-  unfolding fedReport
+  counted-last : (s : MaybeSequence) → fedAfter f r s .last ≡ laterReport (f .last) s
+  unfolding fedAfter
   counted-last NoSequence = refl
   counted-last (Sequence s) = refl
 
-flat-counted : (f : Fed) (r : MtcReader) (s : MaybeSequence) → flatCounted (flatFed f) (flatReport s) ≡ flatFed (fedReport f r s)
-unfolding flatCounted flatFed fedReport
+flat-counted : (f : Fed) (r : MtcReader) (s : MaybeSequence) → flatCounted (flatFed f) (flatReport s) ≡ flatFed (fedAfter f r s)
+unfolding flatCounted flatFed fedAfter
 flat-counted f r NoSequence = rw none-reported
 flat-counted f r (Sequence s) = rw (some-reported s, jump-reported s)
 

@@ -28,9 +28,9 @@ abbrev pub unfed : MtcReader → Fed
 unfed r = record { reader = r; reports = 0; discontinuities = 0; last = NoSequence }
 
 -- A byte left this reader, and reported this.
-unfoldable pub fedReport : Fed → MtcReader → MaybeSequence → Fed
-fedReport f r NoSequence = record { reader = r; reports = f .reports; discontinuities = f .discontinuities; last = f .last }
-fedReport f r (Sequence s) =
+unfoldable pub fedAfter : Fed → MtcReader → MaybeSequence → Fed
+fedAfter f r NoSequence = record { reader = r; reports = f .reports; discontinuities = f .discontinuities; last = f .last }
+fedAfter f r (Sequence s) =
     record {
       reader = r;
       reports = f .reports + 1;
@@ -39,7 +39,7 @@ fedReport f r (Sequence s) =
     }
 
 unfoldable pub fedBy : Fed → ℕ → Fed
-fedBy f b = fedReport f (afterByte (f .reader) b) (eventOf (f .reader) b .sequence)
+fedBy f b = fedAfter f (afterByte (f .reader) b) (eventOf (f .reader) b .sequence)
 
 unfoldable pub fedAll : Fed → List ℕ → Fed
 fedAll f [] = f

@@ -6,12 +6,12 @@ use fast_mmc::message::FlatReadUserBits;
 use fast_mmc::message::FlatUniversal;
 use fast_mmc::message::FlatUserBits;
 use fast_mmc::message::FourBytes;
-use fast_mmc::message::bits_of;
 use fast_mmc::message::flat_full_message;
 use fast_mmc::message::flat_mmc_message;
 use fast_mmc::message::flat_user_bits;
 use fast_mmc::message::mmc_kind;
 use fast_mmc::message::universal_of;
+use fast_mmc::message::user_bits_of;
 use fast_mmc::written_numbers;
 use fast_mtc::time::FlatTime;
 use fast_mtc::time::time_of;
@@ -101,7 +101,7 @@ pub extern "C" fn fimbrast_user_bits_write(bits: FlatUserBits, out: &mut [u8]) -
     ensures { λ r. ⌜ r ≡ writtenNumbers (answer (userBitsWritten (userBitsOf bits)) (length (now (out .entry)))) ⌝ }
     ensures { λ _. ⌜ now (out .exit) ≡ overlay (now (out .entry)) 0 (userBitsWritten (userBitsOf bits) .bytes) ⌝ }
 {
-    written_numbers(bits_of(bits).write(out))
+    written_numbers(user_bits_of(bits).write(out))
 }
 
 // `UserBits::to_bytes`: the groups as `hhhhgggg ffffeeee ddddcccc bbbbaaaa`.
@@ -109,7 +109,7 @@ pub extern "C" fn fimbrast_user_bits_write(bits: FlatUserBits, out: &mut [u8]) -
 pub extern "C" fn fimbrast_user_bits_bytes(bits: FlatUserBits) -> FourBytes
     ensures { λ r. ⌜ r .bytes ≡ groupBytes (userBitsOf bits .groups) ⌝ }
 {
-    let bytes = bits_of(bits).to_bytes();
+    let bytes = user_bits_of(bits).to_bytes();
     FourBytes { bytes }
 }
 

@@ -54,7 +54,7 @@ pub extern "C" fn fimbrast_reader_full_message(reader: &mut [u32; 15], time: Fla
     full_message(reader, time_of(time));
 }
 
-// `MtcReader::is_locked`: true after a full sequence, until a broken order or a turn.
+// `MtcReader::is_locked`: true after a full sequence, until a broken order, a turn or a full message.
 #[no_mangle]
 pub extern "C" fn fimbrast_is_locked(reader: FlatReader) -> bool
     ensures { λ r. ⌜ r ≡ readerIn (reader .words) .locked ⌝ }

@@ -10,7 +10,7 @@ ghost use Rattle.mmc.specs.Field.{nextField};
 ghost use Rattle.fast_mmc.specs.Word.{nextWord};
 ghost use Rattle.fast_mmc.specs.String.{flatNextCommand, flatNextField};
 
-// The next of `Commands`: the command at a place of the string.
+// The next of `Commands`: the command at a place of a message's data, 0 at first and then the place that came back.
 #[no_mangle]
 pub extern "C" fn fimbrast_next_command(body: &[u8], place: usize) -> FlatNextCommand
     ensures { λ r. ⌜ r ≡ flatNextCommand (nextCommand (now (body .entry)) place) ⌝ }
@@ -26,7 +26,7 @@ pub extern "C" fn fimbrast_next_word(body: &[u8], place: usize) -> NextWord
     fast_mmc::next_word(body, place)
 }
 
-// The next of `InfoFields`: the field at a place of the string.
+// The next of `InfoFields`: the field at a place of a string of fields, likewise.
 #[no_mangle]
 pub extern "C" fn fimbrast_next_field(body: &[u8], place: usize) -> FlatNextField
     ensures { λ r. ⌜ r ≡ flatNextField (nextField (now (body .entry)) place) ⌝ }

@@ -17,7 +17,7 @@ ghost use Rattle.fast_mmc.specs.Word.{wordItem};
 ghost use Rattle.fast_mmc.specs.Words.{wordsAnswer, wordsLeft};
 ghost use Rattle.mmc.specs.Write.{openedCommands, openedResponses, openedFields, begun, outAfter, closedMessage, wholeMessage, wholeFields};
 ghost use Rattle.fast_mmc.specs.String.{commandOf, fieldOf};
-ghost use Rattle.fast_mmc.specs.Write.{writingAt, flatWriter, writerAfter, wholeWrite, frontOther};
+ghost use Rattle.fast_mmc.specs.Write.{writingAt, flatWriter, writerAfter, writeOfData, otherAtFront};
 
 // `write_commands` opens: F0H, 7FH, the device, 06H.
 #[no_mangle]
@@ -37,7 +37,7 @@ pub extern "C" fn fimbrast_open_responses(out: &mut [u8], device_id: u8) -> Flat
     flat_writer(mmc::open_responses(out, device_id))
 }
 
-// `write_info_fields` opens; nothing goes out of it.
+// `write_info_fields` opens: it has no envelope, and no byte is put.
 #[no_mangle]
 pub extern "C" fn fimbrast_open_fields() -> FlatWriter
     ensures { λ r. ⌜ r ≡ flatWriter openedFields ⌝ }
@@ -74,8 +74,8 @@ pub extern "C" fn fimbrast_put_word(writer: FlatWriter, out: &mut [u8], word: u6
 // A Write of these fields.
 #[no_mangle]
 pub extern "C" fn fimbrast_put_write(writer: FlatWriter, out: &mut [u8], data: &[u8]) -> FlatWriter
-    ensures { λ r. ⌜ r ≡ writerAfter writer (wholeWrite (now («data» .entry))) ⌝ }
-    ensures { λ _. ⌜ now (out .exit) ≡ outAfter (writingAt writer) (now (out .entry)) (wholeWrite (now («data» .entry))) ⌝ }
+    ensures { λ r. ⌜ r ≡ writerAfter writer (writeOfData (now («data» .entry))) ⌝ }
+    ensures { λ _. ⌜ now (out .exit) ≡ outAfter (writingAt writer) (now (out .entry)) (writeOfData (now («data» .entry))) ⌝ }
 {
     fast_mmc::put_write(writer, out, data)
 }
@@ -89,8 +89,8 @@ pub extern "C" fn fimbrast_put_other(
     name: usize,
     data: usize,
 ) -> FlatWriter
-    ensures { λ r. ⌜ r ≡ writerAfter writer (frontOther (now (source .entry)) name «data») ⌝ }
-    ensures { λ _. ⌜ now (out .exit) ≡ outAfter (writingAt writer) (now (out .entry)) (frontOther (now (source .entry)) name «data») ⌝ }
+    ensures { λ r. ⌜ r ≡ writerAfter writer (otherAtFront (now (source .entry)) name «data») ⌝ }
+    ensures { λ _. ⌜ now (out .exit) ≡ outAfter (writingAt writer) (now (out .entry)) (otherAtFront (now (source .entry)) name «data») ⌝ }
 {
     fast_mmc::put_other(writer, out, source, name, data)
 }
@@ -120,7 +120,7 @@ pub extern "C" fn fimbrast_close_message(writer: FlatWriter, out: &mut [u8]) -> 
     written_numbers(writer_of(writer).close_message(out))
 }
 
-// `write_info_fields` closes; nothing goes out of it.
+// `write_info_fields` closes: no byte is put, and the answer is the length.
 #[no_mangle]
 pub extern "C" fn fimbrast_close_fields(writer: FlatWriter, out: &[u8]) -> WrittenNumbers
     ensures { λ r. ⌜ r ≡ writtenNumbers (wholeFields (writingAt writer) (length (now (out .entry)))) ⌝ }
@@ -129,7 +129,7 @@ pub extern "C" fn fimbrast_close_fields(writer: FlatWriter, out: &[u8]) -> Writt
 }
 
 // `write_commands` in one call: opened, given a command for each word, closed. A word is what `fimbrast_next_word` gives for a name
-// alone (the kinds 0 to 8), a Locate (10 and 11) or a Move (12), with all bits of each byte. Any other number, one of a Write or of
+// alone (the kinds 0 to 8), a Locate (10 and 11) or a Move (12). Each byte counts with all its bits: hours 40 are refused with 3. Any other number, one of a Write or of
 // another command too, is refused with 3, and nothing goes out of it.
 #[no_mangle]
 pub extern "C" fn fimbrast_write_words(

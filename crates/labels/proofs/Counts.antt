@@ -210,9 +210,9 @@ seconds-below Fps30Drop n h = drop-seconds-below n h
 seconds-below Fps30 n h = omega arith
 
 -- Of a count of the day the seconds and frames are a label's.
-pub digits-small : (n k d p : ℕ) (r : TimeCodeType) → d ≡ dayOf r → k ≡ withSkipped r (n % d) → p ≡ framesPerSecond r
+pub label-at-second-small : (n k d p : ℕ) (r : TimeCodeType) → d ≡ dayOf r → k ≡ withSkipped r (n % d) → p ≡ framesPerSecond r
     → (k / p < 86400) × (k % p < 30)
-digits-small n k d p r ed ek ep =
+label-at-second-small n k d p r ed ek ep =
     rw (ep, ek, ed)
     (seconds-below r (n % dayOf r) (mod-lt n (day-positive r)), omega (arith, mod-lt (withSkipped r (n % dayOf r)) (fps-positive r), fps-small r))
 

@@ -104,8 +104,8 @@ second-computed Fps30Drop h m s = go (eqb s 0) (tenth m)
     go false b = refl
 second-computed Fps30 h m s = refl
 
-in-second : (r : TimeCodeType) (h m s : ℕ) → h ≤ 23 → m ≤ 59 → s ≤ 59 → inSecond r h m s ≡ labelsOfSecond r (tenth m) s
-in-second r h m s hh hm hs =
+count-of-second : (r : TimeCodeType) (h m s : ℕ) → h ≤ 23 → m ≤ 59 → s ≤ 59 → inSecond r h m s ≡ labelsOfSecond r (tenth m) s
+count-of-second r h m s hh hm hs =
     sum-below 256 _ _ (λ f _. ap one (valid-in r h m s f hh hm hs)) ∙ second-computed r h m s
 
 minute-computed : (r : TimeCodeType) (b : Bool) → sum 60 (λ (s : ℕ). labelsOfSecond r b s) ≡ labelsOfMinute r b
@@ -116,10 +116,10 @@ minute-computed Fps30Drop true = refl
 minute-computed Fps30Drop false = refl
 minute-computed Fps30 b = refl
 
-in-minute : (r : TimeCodeType) (h m : ℕ) → h ≤ 23 → m ≤ 59 → inMinute r h m ≡ labelsOfMinute r (tenth m)
-in-minute r h m hh hm =
+count-of-minute : (r : TimeCodeType) (h m : ℕ) → h ≤ 23 → m ≤ 59 → inMinute r h m ≡ labelsOfMinute r (tenth m)
+count-of-minute r h m hh hm =
     sum-cut 196 60 _ (λ s l. no-second r h m s l)
-    ∙ sum-below 60 _ _ (λ s l. in-second r h m s hh hm (omega arith))
+    ∙ sum-below 60 _ _ (λ s l. count-of-second r h m s hh hm (omega arith))
     ∙ minute-computed r (tenth m)
 
 hour-computed : (r : TimeCodeType) → sum 60 (λ (m : ℕ). labelsOfMinute r (tenth m)) ≡ labelsOfHour r
@@ -131,7 +131,7 @@ hour-computed Fps30 = refl
 
 in-hour : (r : TimeCodeType) (h : ℕ) → h ≤ 23 → inHour r h ≡ labelsOfHour r
 in-hour r h hh =
-    sum-cut 196 60 _ (λ m l. no-minute r h m l) ∙ sum-below 60 _ _ (λ m l. in-minute r h m hh (omega arith)) ∙ hour-computed r
+    sum-cut 196 60 _ (λ m l. no-minute r h m l) ∙ sum-below 60 _ _ (λ m l. count-of-minute r h m hh (omega arith)) ∙ hour-computed r
 
 day-computed : (r : TimeCodeType) → 24 * labelsOfHour r ≡ dayOf r
 day-computed Fps24 = refl
@@ -244,9 +244,9 @@ in-parts r h m s f hh hm hs hf =
     hours-before r h m s f (omega arith)
     ∙ ap₂ (λ (x y : ℕ). x + y) (sum-same h (labelsOfHour r) _ (λ g l. in-hour r g (omega arith)))
     (minutes-before r h m s f (omega arith)
-    ∙ ap₂ (λ (x y : ℕ). x + y) (sum-below m _ _ (λ i l. in-minute r h i hh (omega arith)))
+    ∙ ap₂ (λ (x y : ℕ). x + y) (sum-below m _ _ (λ i l. count-of-minute r h i hh (omega arith)))
     (seconds-before r h m s f (omega arith)
-    ∙ ap₂ (λ (x y : ℕ). x + y) (sum-below s _ _ (λ j l. in-second r h m j hh hm (omega arith))) (frames-before r h m s f hh hm hs hf)))
+    ∙ ap₂ (λ (x y : ℕ). x + y) (sum-below s _ _ (λ j l. count-of-second r h m j hh hm (omega arith))) (frames-before r h m s f hh hm hs hf)))
 
 -- ---- they come to the formula
 

@@ -17,7 +17,7 @@ use Rattle.labels.proofs.Counts
 use Rattle.labels.proofs.DayCount
 -- A signed distance modulo a day, as code has it that tests its sign: -1 - z where it is negative.
 pub use Rattle.labels.proofs.Distance.{back-fits, back-casts, back-mod, ahead-casts, ahead-mod, passed-mod, mod-pred, mod-below}
-use Rattle.labels.proofs.ForFastForms
+use Rattle.labels.proofs.CountParts
 use Rattle.labels.proofs.Moves
 use Rattle.labels.proofs.LabelOrder
 use Rattle.labels.proofs.Rates
@@ -78,12 +78,12 @@ moved-by-none = Moves.moved-by-none
 -- Frames later in the same second, where the label is valid, are a sum.
 pub frames-later : (r : TimeCodeType) (h m s f k : ℕ) → h ≤ 23 → m ≤ 59 → s ≤ 59 → f + k < framesPerSecond r
     → T (isValid (label r h m s (f + k))) → label r h m s (f + k) ≡ addFrames (label r h m s f) (pos k)
-frames-later = ForFastForms.frames-later
+frames-later = CountParts.frames-later
 
 -- So are two frames, where the label is always valid.
 pub two-later : (r : TimeCodeType) (h m s f : ℕ) → h ≤ 23 → m ≤ 59 → s ≤ 59 → f + 2 < framesPerSecond r
     → label r h m s (f + 2) ≡ addFrames (label r h m s f) (pos 2)
-two-later = ForFastForms.two-later
+two-later = CountParts.two-later
 
 -- ---- by numbers: what the faster forms of upper crates rest on
 
@@ -99,20 +99,20 @@ count-below = Rates.count-below
 -- The label of a count, at a rate that skips none: whole seconds and the frames.
 pub even-label : (n : ℕ) (r : TimeCodeType) → isDropFrame r ≡ false
     → labelAt n r ≡ labelAtSecond r (n % dayOf r / framesPerSecond r) (n % dayOf r % framesPerSecond r)
-even-label = ForFastForms.even-label
+even-label = CountParts.even-label
 
 -- At drop-frame: by tens of minutes, the minute among the ten and the place in it, which is none of the two that are skipped.
 pub drop-split : (n t u x : ℕ) → n % 2589408 ≡ 17982 * t + (1798 * u + x) → u < 10 → x < 1800 → (u ≡ 0) ⊎ (2 ≤ x)
     → labelAt n Fps30Drop ≡ labelAtSecond Fps30Drop ((10 * t + u) * 60 + x / 30) (x % 30)
-drop-split = ForFastForms.drop-split
+drop-split = CountParts.drop-split
 
 -- Counts that a day parts have one label.
 pub label-round : (n : ℕ) (r : TimeCodeType) → labelAt (n % dayOf r) r ≡ labelAt n r
-label-round = ForFastForms.label-round
+label-round = CountParts.label-round
 
 -- A move goes by the count.
 pub moved-by-count : (t : MtcTime) (z : ℤ) → addFrames t z ≡ labelAt (frameCount t + modZ z (dayOf (t .rate))) (t .rate)
-moved-by-count = ForFastForms.moved-by-count
+moved-by-count = CountParts.moved-by-count
 
 -- ---- by ST 12-1
 

@@ -1,7 +1,7 @@
+mod CountParts
 mod Counts
 mod DayCount
 mod Distance
-mod ForFastForms
 mod LabelAfter
 mod LabelBefore
 mod LabelOrder

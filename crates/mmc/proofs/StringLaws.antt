@@ -246,7 +246,7 @@ walk-takes kind body l = (
   λ h.
       let w : body ≡ joined kind (walk kind body 0 .items) = walk-whole kind body h in
       (walk kind body 0 .items, PageStrings.page-or-zeros kind (walk kind body 0 .items) (walk-fits kind body) (ap allLow (sym w) ∙ l), w),
-  λ t. walk-exact kind body .1 (t .0, PageStrings.taken-fits kind (t .0) (t .1), t .2),
+  λ t. walk-exact kind body .1 (t .0, PageStrings.of-page-fits kind (t .0) (t .1), t .2),
 )
 
 -- So a string that it accepts is well-formed, or has an item named 00 00 00.
@@ -263,12 +263,12 @@ walk-else kind body l h = go (anyZeros (walk kind body 0 .items)) refl
 -- An accepted command or field: its bytes are those of its name and data, which fit; they are low, and at most 131.
 pub item-accepted : (kind : Kind) (g : Given kind) → emission kind g .stop ≡ none
     → AcceptedItem kind (pairOf kind g) (emission kind g .bytes)
-item-accepted = ItemBytes.item-sound
+item-accepted = ItemBytes.item-emission-accepted
 
 -- An accepted list: its bytes are those of its items one after another, which fit; they are low.
 pub list-accepted : (kind : Kind) (gs : List (Given kind)) → emissions kind gs .stop ≡ none
     → AcceptedItems kind (pairsOf kind gs) (emissions kind gs .bytes)
-list-accepted = ItemBytes.list-sound
+list-accepted = ItemBytes.list-emission-accepted
 
 -- A list is accepted just where its first item and the others are.
 pub list-each : (kind : Kind) (g : Given kind) (gs : List (Given kind))

@@ -33,7 +33,7 @@ use Rattle.mmc.proofs.Writing.EmissionPuts.{name-length}
 use Rattle.mmc.proofs.RangeTests.{within-range}
 use Rattle.mmc.proofs.StringLaws.{item-accepted, list-accepted, list-message, written-reads-back, string-message}
 use Rattle.mmc.proofs.Writing.WriterCalls.{ready-failed, repeats, response-opening, close-repeats}
-use Rattle.mmc.proofs.Writing.AcceptedWritings.{not-failed, AcceptedEmission, emission-accepted, all-taken, ended-gives, overlay-front, WrittenWhole, written-whole, KeptByCalls, given-kept}
+use Rattle.mmc.proofs.Writing.AcceptedWritings.{not-failed, AcceptedEmission, emission-accepted, all-accepted, answer-in-gives, overlay-front, WrittenWhole, written-whole, KeptByCalls, after-kept}
 
 -- ---- a whole list, in one piece
 
@@ -152,7 +152,7 @@ each-accepted : (kind : Kind) (gs : List (Given kind)) (s : State) → afterItem
 unfolding afterItems checks W.writingAfter
 each-accepted kind [] s h = tt
 each-accepted kind (g ∷ gs) s h =
-    (all-taken kind gs (afterItem kind s g) h .going, each-accepted kind gs (afterItem kind s g) h)
+    (all-accepted kind gs (afterItem kind s g) h .going, each-accepted kind gs (afterItem kind s g) h)
 
 -- A writing is accepted just where none of its calls is refused.
 pub accepted-none-refused : (kind : Kind) (device : ℕ) (gs : List (Given kind)) (out : List ℕ) (n : ℕ)
@@ -172,22 +172,22 @@ accepted-none-refused kind device gs out n = (
 -- ---- strings of fields, likewise
 
 -- A list that no call refused has at most 256 items.
-few-taken : (kind : Kind) (gs : List (Given kind)) (s : State) → s .writing .items ≤ 256 → afterItems kind s gs .writing .stop ≡ none
+few-accepted : (kind : Kind) (gs : List (Given kind)) (s : State) → s .writing .items ≤ 256 → afterItems kind s gs .writing .stop ≡ none
     → s .writing .items + length gs ≤ 256
 unfolding afterItems W.writingAfter
-few-taken kind [] s l h = omega arith
-few-taken kind (g ∷ gs) s l h =
-    let t : AcceptedEmission (s .writing) (emission kind g) = emission-accepted (s .writing) (emission kind g) (all-taken kind gs (afterItem kind s g) h .going) in
+few-accepted kind [] s l h = omega arith
+few-accepted kind (g ∷ gs) s l h =
+    let t : AcceptedEmission (s .writing) (emission kind g) = emission-accepted (s .writing) (emission kind g) (all-accepted kind gs (afterItem kind s g) h .going) in
     let one : afterItem kind s g .writing .items ≡ s .writing .items + 1 =
-    ap (λ (e : Emission). W.itemsAfter (e .stop) (s .writing .items)) (t .whole) ∙ ap (λ (k : Option Refusal). W.itemsAfter k (s .writing .items)) (t .own) in
-    let rest = few-taken kind gs (afterItem kind s g) (omega (arith, t .room)) h in
+    ap (λ (e : Emission). W.itemCountAfter (e .stop) (s .writing .items)) (t .whole) ∙ ap (λ (k : Option Refusal). W.itemCountAfter k (s .writing .items)) (t .own) in
+    let rest = few-accepted kind gs (afterItem kind s g) (omega (arith, t .room)) h in
     omega (arith, one)
 
 -- The close of a string of fields that answered a length came after no refusal.
 fields-going : (w : Writing) (room n : ℕ) → wholeFields w room ≡ gives n → w .stop ≡ none
 unfolding wholeFields closedFields
 fields-going w room n h =
-    not-failed w (then-accepted (record { bytes = []; stop = orFailed w .stop }) (sent []) (ended-gives (closedFields w .stop) (w .at) room n h .0) .0)
+    not-failed w (then-accepted (record { bytes = []; stop = orFailed w .stop }) (sent []) (answer-in-gives (closedFields w .stop) (w .at) room n h .0) .0)
 
 -- A string of fields is accepted exactly where `AcceptsFields` holds.
 pub fields-accepted : (gs : List (Given Fields)) (out : List ℕ) (n : ℕ)
@@ -196,8 +196,8 @@ unfolding fieldsAnswer
 fields-accepted gs out n = (
   λ h.
       let g = fields-going (afterItems Fields (fieldsOpened out) gs .writing) (length out) n h in
-      let few : length gs ≤ 256 = omega (arith, few-taken Fields gs (fieldsOpened out) (lit≤ tt) g) in
-      let t = all-taken Fields gs (fieldsOpened out) g in
+      let few : length gs ≤ 256 = omega (arith, few-accepted Fields gs (fieldsOpened out) (lit≤ tt) g) in
+      let t = all-accepted Fields gs (fieldsOpened out) g in
       let k = answer-gives (emissions Fields gs) (length out) n (sym (fields-whole gs out few .0) ∙ h) in
       record { items = t .own; few = few; whole = k .0; room-for = k .1 },
   λ a.
@@ -326,7 +326,7 @@ entries-kept : (xs : List Entry) (s : State) → KeptByCalls (s .writing) → Ke
 unfolding afterEntries
 entries-kept [] s k = k
 entries-kept (x ∷ xs) s k =
-    entries-kept xs (afterEntry s x) (given-kept (s .writing) (entryEmission x) k (entry-small x))
+    entries-kept xs (afterEntry s x) (after-kept (s .writing) (entryEmission x) k (entry-small x))
 
 in-limits : (w : Writing) → KeptByCalls w → InLimits w
 in-limits w k = record { items = k .few; position = omega (arith, k .few, k .near) }

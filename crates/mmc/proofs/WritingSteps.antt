@@ -48,9 +48,9 @@ begun-after e = refl
 -- ---- an item
 
 -- The refusal of a writing: its own, or 10 past its limits.
-pub sound-stop : (w : Writing) → orFailed w .stop ≡ cond (leb (w .items) 256 && leb (w .at) 40000) (w .stop) (some (refusal 10))
+pub or-failed-stop : (w : Writing) → orFailed w .stop ≡ cond (leb (w .items) 256 && leb (w .at) 40000) (w .stop) (some (refusal 10))
 unfolding orFailed
-sound-stop w = go (leb (w .items) 256 && leb (w .at) 40000)
+or-failed-stop w = go (leb (w .items) 256 && leb (w .at) 40000)
   where
     go : (b : Bool)
         → cond b w (record { at = w .at; items = w .items; stop = some (refusal 10) }) .stop ≡ cond b (w .stop) (some (refusal 10))
@@ -68,9 +68,9 @@ unfolding admitted
 admitted-after w e = refl
 
 -- The writing moves on by what went out.
-pub given-moves : (w : Writing) (e : Emission) → writingAfter w e ≡ writingPast w (extentOf (admitted w e))
+pub writing-after-moves : (w : Writing) (e : Emission) → writingAfter w e ≡ writingPast w (extentOf (admitted w e))
 unfolding writingAfter
-given-moves w e = refl
+writing-after-moves w e = refl
 
 -- A list of items, one after another.
 pub after-none : (kind : Kind) (s : State) → afterItems kind s [] ≡ s
@@ -113,9 +113,9 @@ unfolding closedMessage
 closed-after w = refl
 
 -- Its answer is its refusal, else the length against the buffer's.
-pub whole-ended : (w : Writing) (room : ℕ) → wholeMessage w room ≡ answerIn (closedMessage w .stop) (w .at + 1) room
+pub whole-answer : (w : Writing) (room : ℕ) → wholeMessage w room ≡ answerIn (closedMessage w .stop) (w .at + 1) room
 unfolding wholeMessage
-whole-ended w room = refl
+whole-answer w room = refl
 
 -- ---- a whole string
 

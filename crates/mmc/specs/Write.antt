@@ -69,13 +69,13 @@ abbrev pub outAfter : Writing → List ℕ → Emission → List ℕ
 outAfter w out e = overlay out (w .at) (admitted w e .bytes)
 
 -- One more item where it was accepted.
-abbrev pub itemsAfter : Option Refusal → ℕ → ℕ
-itemsAfter none n = n + 1
-itemsAfter (some r) n = n
+abbrev pub itemCountAfter : Option Refusal → ℕ → ℕ
+itemCountAfter none n = n + 1
+itemCountAfter (some r) n = n
 
 -- The writing after so many bytes of an item, and the refusal that ended it, if any did.
 abbrev pub writingPast : Writing → Extent → Writing
-writingPast w o = record { at = w .at + o .len; items = itemsAfter (o .stop) (w .items); stop = o .stop }
+writingPast w o = record { at = w .at + o .len; items = itemCountAfter (o .stop) (w .items); stop = o .stop }
 
 -- The writing after an item.
 unfoldable pub writingAfter : Writing → Emission → Writing

@@ -56,10 +56,10 @@ pub acted-as : (g : MtcGenerator) (c d : MmcCommand) (o : Outcome) → c ≡ d �
 acted-as g c d o e h = h ∙ ap (acted g) (sym e)
 
 -- Locate to a target that is known to resolve so.
-pub located-so : (g : MtcGenerator) (c : StandardTimeCode) (t : Option MtcTime) (o : Outcome) → resolved c ≡ t → o ≡ locateOutcome g t
+pub locate-so : (g : MtcGenerator) (c : StandardTimeCode) (t : Option MtcTime) (o : Outcome) → resolved c ≡ t → o ≡ locateOutcome g t
     → o ≡ acted g (LocateTarget c)
 unfolding acted
-located-so g c t o e h = h ∙ ap (locateOutcome g) (sym e)
+locate-so g c t o e h = h ∙ ap (locateOutcome g) (sym e)
 
 -- ---- a call
 
@@ -86,9 +86,9 @@ mine g device own c h k a = rw (le-leb device 127 h, le-leb own 127 k, a)
 
 -- ---- a generator's last piece
 
-located-fits : (g : MtcGenerator) (t : Option MtcTime) → T (pieceFits (g .last)) → T (pieceFits (locateOutcome g t .generator .last))
-located-fits g none h = h
-located-fits g (some t) h = tt
+locate-fits : (g : MtcGenerator) (t : Option MtcTime) → T (pieceFits (g .last)) → T (pieceFits (locateOutcome g t .generator .last))
+locate-fits g none h = h
+locate-fits g (some t) h = tt
 
 acted-fits : (g : MtcGenerator) (c : MmcCommand) → T (pieceFits (g .last)) → T (pieceFits (acted g c .generator .last))
 unfolding acted
@@ -103,7 +103,7 @@ acted-fits g Pause h = h
 acted-fits g Reset h = h
 acted-fits g (Write d) h = h
 acted-fits g (LocateField r) h = h
-acted-fits g (LocateTarget c) h = located-fits g (resolved c) h
+acted-fits g (LocateTarget c) h = locate-fits g (resolved c) h
 acted-fits g (Move d s) h = h
 acted-fits g (Other n d) h = h
 

@@ -186,9 +186,9 @@ unfolding reached
 reached-sent e h = rw h
 
 -- A part that is refused has come to its refusal.
-pub reached-stopped : (e : Emission) (r : Refusal) → e .stop ≡ some r → reached e ≡ refused r
+pub reached-refusing : (e : Emission) (r : Refusal) → e .stop ≡ some r → reached e ≡ refused r
 unfolding reached
-reached-stopped e r h = rw h
+reached-refusing e r h = rw h
 
 -- Where a part has come to a position, it was not refused, and is as long.
 pub reached-gives : (e : Emission) (n : ℕ) → reached e ≡ gives n → (e .stop ≡ none) × (length (e .bytes) ≡ n)

@@ -165,7 +165,7 @@ module _ {A : Type 0} (P : A → Type 0) where
 
 -- What a name and data are read as is what they are said to be read as, or another command.
 data View (name d : List ℕ) : CommandCase → Type 0 where
-  named : {k : CommandCase} → ReadsAs k name d → View name d k
+  known-name : {k : CommandCase} → ReadsAs k name d → View name d k
   another : View name d other
 
 two-or-more : (a b : ℕ) (l : List ℕ) → ltb (length (a ∷ b ∷ l)) 2 ≡ false
@@ -181,7 +181,7 @@ target-view a b (c ∷ d ∷ []) e = another
 target-view a b (c ∷ d ∷ f ∷ []) e = another
 target-view a b (c ∷ d ∷ f ∷ g ∷ past) e =
     rw (le-ltb (length (a ∷ b ∷ c ∷ d ∷ f ∷ g ∷ past)) 6 (omega arith))
-    (named {k = locateTarget (readStandard b c d f g)} (refl, b ∷ c ∷ d ∷ f ∷ g ∷ [], past, refl, ap (λ (k : ℕ). k ∷ b ∷ c ∷ d ∷ f ∷ g ∷ past) e, refl))
+    (known-name {k = locateTarget (readStandard b c d f g)} (refl, b ∷ c ∷ d ∷ f ∷ g ∷ [], past, refl, ap (λ (k : ℕ). k ∷ b ∷ c ∷ d ∷ f ∷ g ∷ past) e, refl))
 
 locate-view : (d : List ℕ) → View (68 ∷ []) d (readLocate d)
 unfolding readLocate
@@ -192,7 +192,7 @@ locate-view (a ∷ b ∷ past) =
     (where-same (View (68 ∷ []) (a ∷ b ∷ past)) a 0
     (λ e.
     where-same (View (68 ∷ []) (a ∷ b ∷ past)) b 0 (λ _. another)
-    (λ n. named {k = locateField b} (refl, past, ap (λ (k : ℕ). k ∷ b ∷ past) e, n)))
+    (λ n. known-name {k = locateField b} (refl, past, ap (λ (k : ℕ). k ∷ b ∷ past) e, n)))
     (λ _. where-same (View (68 ∷ []) (a ∷ b ∷ past)) a 1 (λ e. target-view a b past e) (λ _. another)))
 
 move-view : (d : List ℕ) → View (76 ∷ []) d (readMove d)
@@ -203,21 +203,21 @@ move-view (a ∷ b ∷ past) =
     rw (two-or-more a b past)
     (where-same (View (76 ∷ []) (a ∷ b ∷ past)) a 0 (λ _. another)
     (λ m.
-    where-same (View (76 ∷ []) (a ∷ b ∷ past)) b 0 (λ _. another) (λ n. named {k = move a b} (refl, past, refl, m, n))))
+    where-same (View (76 ∷ []) (a ∷ b ∷ past)) b 0 (λ _. another) (λ n. known-name {k = move a b} (refl, past, refl, m, n))))
 
 byte-view : (n : ℕ) (d : List ℕ) → View (n ∷ []) d (commandByName n d)
 unfolding commandByName
 byte-view n d =
-    plain 1 (λ e. named e)
-    (plain 2 (λ e. named e)
-    (plain 3 (λ e. named e)
-    (plain 4 (λ e. named e)
-    (plain 5 (λ e. named e)
-    (plain 6 (λ e. named e)
-    (plain 7 (λ e. named e)
-    (plain 9 (λ e. named e)
-    (plain 13 (λ e. named e)
-    (plain 64 (λ e. named e)
+    plain 1 (λ e. known-name e)
+    (plain 2 (λ e. known-name e)
+    (plain 3 (λ e. known-name e)
+    (plain 4 (λ e. known-name e)
+    (plain 5 (λ e. known-name e)
+    (plain 6 (λ e. known-name e)
+    (plain 7 (λ e. known-name e)
+    (plain 9 (λ e. known-name e)
+    (plain 13 (λ e. known-name e)
+    (plain 64 (λ e. known-name e)
     (plain 68 (λ e. subst (λ (l : List ℕ). View l d (readLocate d)) (sym e) (locate-view d))
     (plain 76 (λ e. subst (λ (l : List ℕ). View l d (readMove d)) (sym e) (move-view d)) another)))))))))))
   where
@@ -286,7 +286,7 @@ pub command-read-exactly : (k : CommandCase) (name d : List ℕ)
 command-read-exactly k name d = (λ t. go (readCommand name d) (command-view name d) (t .0) (t .1), reads-known k name d)
   where
     go : (j : CommandCase) → View name d j → j ≡ k → k ≢ other → ReadsAs k name d
-    go j (named r) e n = subst (λ (x : CommandCase). ReadsAs x name d) e r
+    go j (known-name r) e n = subst (λ (x : CommandCase). ReadsAs x name d) e r
     go j another e n = absurd (n (sym e))
 
 -- ---- fields, likewise

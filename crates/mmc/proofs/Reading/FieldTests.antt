@@ -15,9 +15,9 @@ use Rattle.codes.specs.TimeCode.{readStandard, readShort}
 use Rattle.mmc.proofs.RangeTests.{within-range, below-range, above-range}
 
 module _ (name d : List ℕ) (n a : Part) where
-  pub long-name : (length name ≡ 1 → ⊥) → Other n a ≡ fieldOfCase (readField name d) n a
+  pub field-long-name : (length name ≡ 1 → ⊥) → Other n a ≡ fieldOfCase (readField name d) n a
   unfolding readField
-  long-name h = rw (ne-eqb (length name) 1 h)
+  field-long-name h = rw (ne-eqb (length name) 1 h)
 
   module _ (l : length name ≡ 1) where
     pub no-code : 1 ≤ getD name 0 0 → getD name 0 0 < 32 → (length d ≡ 5 → ⊥) → Other n a ≡ fieldOfCase (readField name d) n a

@@ -57,20 +57,20 @@ split-end kind body at n d e h =
 
 -- ---- a read
 
-next-end : (body : List ℕ) (place : ℕ) (l : ItemPlace) (b : Bool) (s : Parts)
+next-moves : (body : List ℕ) (place : ℕ) (l : ItemPlace) (b : Bool) (s : Parts)
     → ((n d : Part) (e : ℕ) → s ≡ Item n d e → (place < e) × (e ≤ length body))
     → cond b (found s (length body)) (record { answer = refused (refusal 9); place = place }) .answer ≡ gives l
     → (place < cond b (found s (length body)) (record { answer = refused (refusal 9); place = place }) .place)
     × (cond b (found s (length body)) (record { answer = refused (refusal 9); place = place }) .place ≤ length body)
-next-end body place l true (Item n d e) f h = f n d e refl
-next-end body place l true Cut f h = absurd (let z : _≡_ {A = ℕ} 0 1 = cc in omega arith)
-next-end body place l false s f h = absurd (let z : _≡_ {A = ℕ} 0 1 = cc in omega arith)
+next-moves body place l true (Item n d e) f h = f n d e refl
+next-moves body place l true Cut f h = absurd (let z : _≡_ {A = ℕ} 0 1 = cc in omega arith)
+next-moves body place l false s f h = absurd (let z : _≡_ {A = ℕ} 0 1 = cc in omega arith)
 
 pub moves : (kind : Kind) (body : List ℕ) (place : ℕ) (l : ItemPlace) → next kind body place .answer ≡ gives l
     → (place < next kind body place .place) × (next kind body place .place ≤ length body)
 unfolding next
 moves kind body place l h =
-    next-end body place l (ltb place (length body)) (splitAt kind body place) (split-end kind body place) h
+    next-moves body place l (ltb place (length body)) (splitAt kind body place) (split-end kind body place) h
 
 -- What is read as something was found.
 moves-as : {A : Type 0} (f : ItemPlace → A) (x : A) (a : Answer ItemPlace) (place end most : ℕ)

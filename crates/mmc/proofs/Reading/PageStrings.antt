@@ -264,10 +264,10 @@ unfolding itemFits nameFits
 zeros-fits kind = rw (length-zero kind)
 
 -- Such items fit.
-pub taken-fits : (kind : Kind) (xs : List Item) → OfPageOrZeros kind xs → allFit kind xs ≡ true
+pub of-page-fits : (kind : Kind) (xs : List Item) → OfPageOrZeros kind xs → allFit kind xs ≡ true
 unfolding allFit
-taken-fits kind [] t = refl
-taken-fits kind (x ∷ xs) t = and-all (itemFits kind x) (allFit kind xs) (one (t .0)) (taken-fits kind xs (t .1))
+of-page-fits kind [] t = refl
+of-page-fits kind (x ∷ xs) t = and-all (itemFits kind x) (allFit kind xs) (one (t .0)) (of-page-fits kind xs (t .1))
   where
     one : IsItem kind x (itemBytes kind x) ⊎ (x ≡ zerosItem) → itemFits kind x ≡ true
     one (inl i) = item-fits kind x (itemBytes kind x) i .0

@@ -41,7 +41,7 @@ not-failed w = go (leb (w .items) 256 && leb (w .at) 40000)
     go true h = h
     go false h = absurd (none-some (refusal 10) h)
 
--- An item that was accepted was its own emission, which was.
+-- Of an item that was accepted its own emission went out, and that has no refusal.
 pub record AcceptedEmission (w : Writing) (e : Emission) : Type 0 where
   pub going : w .stop ≡ none
   pub own : e .stop ≡ none
@@ -57,15 +57,15 @@ emission-accepted w e h =
 -- ---- a list of items
 
 -- What a list that was accepted leaves: the list's own emission at the position.
-pub record AllTaken (kind : Kind) (s : State) (gs : List (Given kind)) : Type 0 where
+pub record ListAccepted (kind : Kind) (s : State) (gs : List (Given kind)) : Type 0 where
   pub going : s .writing .stop ≡ none
   pub own : emissions kind gs .stop ≡ none
   pub at : afterItems kind s gs .writing .at ≡ s .writing .at + length (emissions kind gs .bytes)
   pub out : afterItems kind s gs .out ≡ overlay (s .out) (s .writing .at) (emissions kind gs .bytes)
 
-none-taken : (kind : Kind) (s : State) → afterItems kind s [] .writing .stop ≡ none → AllTaken kind s []
+none-accepted : (kind : Kind) (s : State) → afterItems kind s [] .writing .stop ≡ none → ListAccepted kind s []
 unfolding afterItems
-none-taken kind s h =
+none-accepted kind s h =
     record {
       going = h;
       own = ap (λ (e : Emission). e .stop) (emissions-none kind);
@@ -78,10 +78,10 @@ cons-bytes : (kind : Kind) (g : Given kind) (gs : List (Given kind)) → emissio
     → emissions kind (g ∷ gs) ≡ record { bytes = emission kind g .bytes ++ emissions kind gs .bytes; stop = emissions kind gs .stop }
 cons-bytes kind g gs h = emissions-cons kind g gs ∙ then-sent (emission kind g) (emissions kind gs) h
 
-more-taken : (kind : Kind) (s : State) (g : Given kind) (gs : List (Given kind)) → AllTaken kind (afterItem kind s g) gs
-    → AllTaken kind s (g ∷ gs)
+more-accepted : (kind : Kind) (s : State) (g : Given kind) (gs : List (Given kind)) → ListAccepted kind (afterItem kind s g) gs
+    → ListAccepted kind s (g ∷ gs)
 unfolding afterItems W.writingAfter
-more-taken kind s g gs ih =
+more-accepted kind s g gs ih =
     let t : AcceptedEmission (s .writing) (emission kind g) = emission-accepted (s .writing) (emission kind g) (ih .going) in
     let e : Emission = emission kind g in
     let a : ℕ = s .writing .at in
@@ -108,10 +108,10 @@ more-taken kind s g gs ih =
     sum : (x y z : ℕ) → x + y + z ≡ x + (y + z)
     sum x y z = omega arith
 
-pub all-taken : (kind : Kind) (gs : List (Given kind)) (s : State) → afterItems kind s gs .writing .stop ≡ none → AllTaken kind s gs
+pub all-accepted : (kind : Kind) (gs : List (Given kind)) (s : State) → afterItems kind s gs .writing .stop ≡ none → ListAccepted kind s gs
 unfolding afterItems
-all-taken kind [] s h = none-taken kind s h
-all-taken kind (g ∷ gs) s h = more-taken kind s g gs (all-taken kind gs (afterItem kind s g) h)
+all-accepted kind [] s h = none-accepted kind s h
+all-accepted kind (g ∷ gs) s h = more-accepted kind s g gs (all-accepted kind gs (afterItem kind s g) h)
 
 -- ---- the opening and the close
 
@@ -151,18 +151,18 @@ record Closed (w : Writing) (room n : ℕ) : Type 0 where
   close : closedMessage w ≡ sent (247 ∷ [])
 
 -- An answer with a length came after no refusal, and the length fits.
-pub ended-gives : (s : Option Refusal) (m room n : ℕ) → answerIn s m room ≡ gives n → (s ≡ none) × (n ≡ m) × (n ≤ room)
-ended-gives none m room n e = go (leb m room) refl e
+pub answer-in-gives : (s : Option Refusal) (m room n : ℕ) → answerIn s m room ≡ gives n → (s ≡ none) × (n ≡ m) × (n ≤ room)
+answer-in-gives none m room n e = go (leb m room) refl e
   where
     go : (b : Bool) → leb m room ≡ b → fitted b m ≡ gives n → (_≡_ {A = Option Refusal} none none) × (n ≡ m) × (n ≤ room)
     go true t p = let same : n ≡ m = cc in (refl, same, omega (arith, leb-true m room t))
     go false t p = absurd (gives-refused n _ p)
-ended-gives (some r) m room n e = absurd (gives-refused n r e)
+answer-in-gives (some r) m room n e = absurd (gives-refused n r e)
 
 closed : (w : Writing) (room n : ℕ) → wholeMessage w room ≡ gives n → Closed w room n
 unfolding wholeMessage closedMessage
 closed w room n h =
-    let k = ended-gives (closedMessage w .stop) (w .at + 1) room n h in
+    let k = answer-in-gives (closedMessage w .stop) (w .at + 1) room n h in
     let outer = then-accepted (record { bytes = []; stop = orFailed w .stop }) (check (within 5 53 (w .at)) 2 then sent (247 ∷ [])) (k .0) in
     let inner = then-accepted (check (within 5 53 (w .at)) 2) (sent (247 ∷ [])) (outer .1) in
     let range = within-told 5 53 (w .at) (check-held (within 5 53 (w .at)) 2 (inner .0)) in
@@ -204,7 +204,7 @@ written-whole kind device gs out n h =
     let start : State = opened (openingOf kind device) out in
     let end : State = afterItems kind start gs in
     let c : Closed (end .writing) (length out) n = closed (end .writing) (length out) n h in
-    let t : AllTaken kind start gs = all-taken kind gs start (c .going) in
+    let t : ListAccepted kind start gs = all-accepted kind gs start (c .going) in
     let o : OpenedWhole kind device = opened-whole kind device (t .going) in
     let head : List ℕ = 240 ∷ 127 ∷ device ∷ subId1 kind ∷ [] in
     let bs : List ℕ = emissions kind gs .bytes in
@@ -239,9 +239,9 @@ pub record KeptByCalls (w : Writing) : Type 0 where
   pub going : w .stop ≡ none → w .at ≤ 4 + 131 * w .items
 
 -- It does not pass 40,000, so no call leaves a record that is failed by 10.
-pub kept-sound : (w : Writing) → KeptByCalls w → orFailed w ≡ w
+pub kept-not-failed : (w : Writing) → KeptByCalls w → orFailed w ≡ w
 unfolding orFailed
-kept-sound w k = rw (le-leb (w .items) 256 (k .few), le-leb (w .at) 40000 (omega (arith, k .few, k .near)))
+kept-not-failed w k = rw (le-leb (w .items) 256 (k .few), le-leb (w .at) 40000 (omega (arith, k .few, k .near)))
 
 refused-kept : (w : Writing) (r : Refusal) → KeptByCalls w → KeptByCalls (writingPast w (record { len = 0; stop = some r }))
 refused-kept w r k =
@@ -258,9 +258,9 @@ item-kept w e k g l h = go (e .stop)
     go none = record { few = omega arith; near = omega (arith, k .going g); going = λ _. omega (arith, k .going g) }
     go (some r) = record { few = k .few; near = omega (arith, k .going g); going = λ z. absurd (none-some r z) }
 
-pub given-kept : (w : Writing) (e : Emission) → KeptByCalls w → length (e .bytes) ≤ 131 → KeptByCalls (W.writingAfter w e)
+pub after-kept : (w : Writing) (e : Emission) → KeptByCalls w → length (e .bytes) ≤ 131 → KeptByCalls (W.writingAfter w e)
 unfolding W.writingAfter
-given-kept w e k h = go (ready w) refl
+after-kept w e k h = go (ready w) refl
   where
     go : (s : Option Refusal) → ready w ≡ s → KeptByCalls (writingPast w (extentOf (admitted w e)))
     go none r =

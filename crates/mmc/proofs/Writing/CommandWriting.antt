@@ -93,8 +93,8 @@ unfolding otherItem
 other-sent kind source n d i j w = rw (i, j) (named-sent kind (partOf source n) (partOf source d) w)
 
 -- An accepted item is one that may be written.
-sound-writable : (kind : Kind) (name d bytes : List ℕ) → AcceptedItem kind (item name d) bytes → Writable kind name d
-sound-writable kind name d bytes s = record { fits = s .fits; low = ap allLow (sym (s .item-bytes)) ∙ s .low }
+accepted-writable : (kind : Kind) (name d bytes : List ℕ) → AcceptedItem kind (item name d) bytes → Writable kind name d
+accepted-writable kind name d bytes s = record { fits = s .fits; low = ap allLow (sym (s .item-bytes)) ∙ s .low }
 
 other-inside : (kind : Kind) (source : List ℕ) (n d : Part) → otherItem kind source n d .stop ≡ none
     → (isInside source n ≡ true) × (isInside source d ≡ true)
@@ -104,9 +104,9 @@ other-inside kind source n d h =
     (check-held (isInside source n && isInside source d) 6
     (then-accepted (check (isInside source n && isInside source d) 6) (namedItem kind (partOf source n) (partOf source d)) h .0))
 
-write-inside : (source : List ℕ) (d : Part) → writeItem source d .stop ≡ none → isInside source d ≡ true
+write-is-inside : (source : List ℕ) (d : Part) → writeItem source d .stop ≡ none → isInside source d ≡ true
 unfolding writeItem
-write-inside source d h =
+write-is-inside source d h =
     check-held (isInside source d) 6
     (then-accepted (check (isInside source d) 6) (namedItem Commands (64 ∷ []) (partOf source d)) h .0)
 
@@ -209,8 +209,8 @@ command-written-exactly source C.Pause = (λ _. tt, λ _. refl)
 command-written-exactly source C.Reset = (λ _. tt, λ _. refl)
 command-written-exactly source (C.Write d) = (
   λ h. (
-    write-inside source d h,
-    sound-writable Commands (64 ∷ []) (partOf source d) _ (item-accepted Commands (given Commands source (C.Write d)) h),
+    write-is-inside source d h,
+    accepted-writable Commands (64 ∷ []) (partOf source d) _ (item-accepted Commands (given Commands source (C.Write d)) h),
   ),
   λ w. stop-of (writeItem source d) _ (write-sent source d (w .0) (w .1)),
 )
@@ -231,7 +231,7 @@ command-written-exactly source (C.Other n d) = (
       let i = other-inside Commands source n d h in (
         i .0,
         i .1,
-        sound-writable Commands (partOf source n) (partOf source d) _ (item-accepted Commands (given Commands source (C.Other n d)) h),
+        accepted-writable Commands (partOf source n) (partOf source d) _ (item-accepted Commands (given Commands source (C.Other n d)) h),
       ),
   λ w. stop-of (otherItem Commands source n d) _ (other-sent Commands source n d (w .0) (w .1) (w .2)),
 )
@@ -316,7 +316,7 @@ field-written-exactly source (F.Other n d) = (
       let i = other-inside Fields source n d h in (
         i .0,
         i .1,
-        sound-writable Fields (partOf source n) (partOf source d) _ (item-accepted Fields (given Fields source (F.Other n d)) h),
+        accepted-writable Fields (partOf source n) (partOf source d) _ (item-accepted Fields (given Fields source (F.Other n d)) h),
       ),
   λ w. stop-of (otherItem Fields source n d) _ (other-sent Fields source n d (w .0) (w .1) (w .2)),
 )

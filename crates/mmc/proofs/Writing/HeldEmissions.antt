@@ -29,7 +29,7 @@ use Rattle.universal.proofs.Laws.{overlay-none, overlay-append, then-sent, then
 use Rattle.mmc.proofs.Writing.ItemPuts.{command-small, field-small}
 use Rattle.mmc.proofs.RangeTests.{within-range, below-range, above-range}
 use Rattle.mmc.proofs.Writing.WriterCalls.{ready-kept, ready-failed, repeats, takes, no-response, response-opening}
-use Rattle.mmc.proofs.Writing.AcceptedWritings.{KeptByCalls, kept-sound, given-kept}
+use Rattle.mmc.proofs.Writing.AcceptedWritings.{KeptByCalls, kept-not-failed, after-kept}
 
 -- Every entry emits at most 131 bytes.
 pub entry-small : (e : Entry) → length (entryEmission e .bytes) ≤ 131
@@ -108,7 +108,7 @@ holds-refused : (found : List ℕ) (e i : Emission) (most : ℕ) (w : Writing) (
     → Holds found (e then i) (suc most) (record { writing = W.writingAfter w i; out = overlay out (w .at) (admitted w i .bytes) })
 unfolding W.writingAfter
 holds-refused found e i most w out r h q small =
-    let r-stop : orFailed w .stop ≡ some r = ap (λ (x : Writing). x .stop) (kept-sound w (h .kept)) ∙ h .stop ∙ q in
+    let r-stop : orFailed w .stop ≡ some r = ap (λ (x : Writing). x .stop) (kept-not-failed w (h .kept)) ∙ h .stop ∙ q in
     let a : admitted w i ≡ record { bytes = []; stop = some r } = repeats w i r (sym (ready-failed w r r-stop)) in
     let t : e then i ≡ e = then-refused e i r q in
     record {
@@ -120,15 +120,15 @@ holds-refused found e i most w out r h q small =
           ∙ overlay-none out (w .at)
           ∙ h .out
           ∙ ap (λ (x : Emission). overlay found 0 (x .bytes)) (sym t);
-      kept = given-kept w i (h .kept) small;
+      kept = after-kept w i (h .kept) small;
     }
 
--- An item that is taken adds its own emission.
-holds-taken : (found : List ℕ) (e i : Emission) (most : ℕ) (w : Writing) (out : List ℕ)
+-- An item that is accepted adds its own emission.
+holds-accepted : (found : List ℕ) (e i : Emission) (most : ℕ) (w : Writing) (out : List ℕ)
     → Holds found e most (record { writing = w; out = out }) → e .stop ≡ none → most < 256 → length (i .bytes) ≤ 131
     → Holds found (e then i) (suc most) (record { writing = W.writingAfter w i; out = overlay out (w .at) (admitted w i .bytes) })
 unfolding W.writingAfter
-holds-taken found e i most w out h q few small =
+holds-accepted found e i most w out h q few small =
     let near : w .at ≤ 40000 = omega (arith, h .kept .few, h .kept .near) in
     let under : w .items < 256 = omega (arith, h .items) in
     let a : admitted w i ≡ i = takes w i (sym (ready-kept w under near) ∙ h .stop ∙ q) in
@@ -146,10 +146,10 @@ holds-taken found e i most w out h q few small =
           ∙ ap₂ (λ (l : List ℕ) (k : ℕ). overlay l k (i .bytes)) (h .out) (h .at ∙ sym (zero-add (length (e .bytes))))
           ∙ sym (overlay-append found 0 (e .bytes) (i .bytes))
           ∙ ap (λ (x : Emission). overlay found 0 (x .bytes)) (sym t);
-      kept = given-kept w i (h .kept) small;
+      kept = after-kept w i (h .kept) small;
     }
   where
-    one-more : (s : Option Refusal) (n m : ℕ) → n ≤ m → W.itemsAfter s n ≤ suc m
+    one-more : (s : Option Refusal) (n m : ℕ) → n ≤ m → W.itemCountAfter s n ≤ suc m
     one-more none n m l = omega arith
     one-more (some r) n m l = omega arith
 
@@ -159,7 +159,7 @@ holds-entry : (found : List ℕ) (e : Emission) (most : ℕ) (s : State) (x : En
 holds-entry found e most s x h few = go (e .stop) refl
   where
     go : (t : Option Refusal) → e .stop ≡ t → Holds found (e then entryEmission x) (suc most) (afterEntry s x)
-    go none q = holds-taken found e (entryEmission x) most (s .writing) (s .out) h q few (entry-small x)
+    go none q = holds-accepted found e (entryEmission x) most (s .writing) (s .out) h q few (entry-small x)
     go (some r) q = holds-refused found e (entryEmission x) most (s .writing) (s .out) r h q (entry-small x)
 
 pub holds-entries : (found : List ℕ) (xs : List Entry) (e : Emission) (most : ℕ) (s : State) → Holds found e most s
@@ -237,7 +237,7 @@ closes : (found : List ℕ) (e : Emission) (most : ℕ) (s : State) → Holds fo
 unfolding closedMessage
 closes found e most s h =
     ap₂ (λ (t : Option Refusal) (k : ℕ). resume [] t (check (within 5 53 k) 2 then sent (247 ∷ [])))
-    (ap (λ (w : Writing). w .stop) (kept-sound (s .writing) (h .kept)) ∙ h .stop) (h .at)
+    (ap (λ (w : Writing). w .stop) (kept-not-failed (s .writing) (h .kept)) ∙ h .stop) (h .at)
 
 -- A writing's answer and buffer are those of what it holds and of its end.
 pub record HeldToEnd (found : List ℕ) (e : Emission) (s : State) : Type 0 where
@@ -282,7 +282,7 @@ pub ends-fields : (found : List ℕ) (e : Emission) (most : ℕ) (s : State) →
 unfolding wholeFields closedFields
 ends-fields found e most s h =
     ap₂ (λ (t : Option Refusal) (k : ℕ). answerIn (resume [] t (sent []) .stop) k (length found))
-    (ap (λ (v : Writing). v .stop) (kept-sound (s .writing) (h .kept)) ∙ h .stop) (h .at)
+    (ap (λ (v : Writing). v .stop) (kept-not-failed (s .writing) (h .kept)) ∙ h .stop) (h .at)
     ∙ go (e .stop)
     ∙ sym (answer-by e (length found))
   where

@@ -127,10 +127,10 @@ rule-goes Count d h =
     let l : allLow d ≡ true = data-accepted d (t .1) in
     (e, l, count-low d e l)
 
-pub named-sound : (kind : Kind) (name d : List ℕ) → namedItem kind name d .stop ≡ none
+pub named-item-accepted : (kind : Kind) (name d : List ℕ) → namedItem kind name d .stop ≡ none
     → AcceptedItem kind (item name d) (namedItem kind name d .bytes)
 unfolding namedItem
-named-sound kind name d h =
+named-item-accepted kind name d h =
     let rest : Emission = byRule (lengthOf kind (lastOfName name)) d in
     let t = behind (nameFits name) 2 (dataEmission name then rest) h in
     let u = then-accepted (dataEmission name) rest (t .1) in
@@ -218,111 +218,111 @@ unfolding nameFits
 one-fits n h = rw (ne-eqb n 0 (λ e. omega arith))
 
 -- An item of a name of one byte.
-one-sound : (kind : Kind) (n : ℕ) (d bytes : List ℕ) (rule : Length) → 1 ≤ n → n ≤ 127 → lengthOf kind n ≡ rule → Goes rule d
+one-accepted : (kind : Kind) (n : ℕ) (d bytes : List ℕ) (rule : Length) → 1 ≤ n → n ≤ 127 → lengthOf kind n ≡ rule → Goes rule d
     → allLow d ≡ true → bytes ≡ n ∷ withCount rule d → AcceptedItem kind (item (n ∷ []) d) bytes
-one-sound kind n d bytes rule l h e g low b = named-accepted kind (n ∷ []) d bytes (one-fits n l) (low-one n h) rule e g low b
+one-accepted kind n d bytes rule l h e g low b = named-accepted kind (n ∷ []) d bytes (one-fits n l) (low-one n h) rule e g low b
 
 -- A command without data.
 name-accepted : (n : ℕ) → 1 ≤ n → n < 64 → AcceptedItem Commands (item (n ∷ []) []) (n ∷ [])
-name-accepted n l h = one-sound Commands n [] (n ∷ []) (Fixed 0) l (omega arith) (command-below n h) refl all-low-none refl
+name-accepted n l h = one-accepted Commands n [] (n ∷ []) (Fixed 0) l (omega arith) (command-below n h) refl all-low-none refl
 
 -- A command with a count.
 with-count : (n : ℕ) (d bytes : List ℕ) → 64 ≤ n → n < 120 → length d ≤ 127 → allLow d ≡ true → bytes ≡ n ∷ length d ∷ d
     → AcceptedItem Commands (item (n ∷ []) d) bytes
 with-count n d bytes l h m low e =
-    one-sound Commands n d bytes Count (omega arith) (omega arith) (command-count n l h) m low e
+    one-accepted Commands n d bytes Count (omega arith) (omega arith) (command-count n l h) m low e
 
-other-sound : (kind : Kind) (source : List ℕ) (n d : Part) → otherItem kind source n d .stop ≡ none
+other-accepted : (kind : Kind) (source : List ℕ) (n d : Part) → otherItem kind source n d .stop ≡ none
     → AcceptedItem kind (item (partOf source n) (partOf source d)) (otherItem kind source n d .bytes)
 unfolding otherItem
-other-sound kind source n d h =
+other-accepted kind source n d h =
     let t = behind (isInside source n && isInside source d) 6 (namedItem kind (partOf source n) (partOf source d)) h in
-    rw (t .2) (named-sound kind (partOf source n) (partOf source d) (t .1))
+    rw (t .2) (named-item-accepted kind (partOf source n) (partOf source d) (t .1))
 
-write-sound : (source : List ℕ) (d : Part) → writeItem source d .stop ≡ none
+write-accepted : (source : List ℕ) (d : Part) → writeItem source d .stop ≡ none
     → AcceptedItem Commands (item (64 ∷ []) (partOf source d)) (writeItem source d .bytes)
 unfolding writeItem
-write-sound source d h =
+write-accepted source d h =
     let t = behind (isInside source d) 6 (namedItem Commands (64 ∷ []) (partOf source d)) h in
-    rw (t .2) (named-sound Commands (64 ∷ []) (partOf source d) (t .1))
+    rw (t .2) (named-item-accepted Commands (64 ∷ []) (partOf source d) (t .1))
 
-locate-field-sound : (r : ℕ) → locateFieldItem r .stop ≡ none
+locate-field-accepted : (r : ℕ) → locateFieldItem r .stop ≡ none
     → AcceptedItem Commands (item (68 ∷ []) (0 ∷ r ∷ [])) (locateFieldItem r .bytes)
-locate-field-sound r h =
+locate-field-accepted r h =
     let t = locate-field-checks r h in
     let low : allLow (0 ∷ r ∷ []) ≡ true = all-low-cons 0 (r ∷ []) (lit≤ tt) (low-one r (omega (arith, t .1))) in
     with-count 68 (0 ∷ r ∷ []) _ (lit≤ tt) (lit≤ tt) (lit≤ tt) low (t .2)
 
-locate-target-sound : (c : StandardTimeCode) → locateTargetItem c .stop ≡ none
+locate-target-accepted : (c : StandardTimeCode) → locateTargetItem c .stop ≡ none
     → AcceptedItem Commands (item (68 ∷ []) (1 ∷ standardList c)) (locateTargetItem c .bytes)
-locate-target-sound c h =
+locate-target-accepted c h =
     let t = locate-target-checks c h in
     let n : 6 ≡ suc (length (standardList c)) = omega (arith, five-bytes c) in
     let low : allLow (1 ∷ standardList c) ≡ true = all-low-cons 1 (standardList c) (lit≤ tt) (bytes-low c (t .0)) in
     with-count 68 (1 ∷ standardList c) _ (lit≤ tt) (lit≤ tt) (omega arith) low
     (t .1 ∙ ap (λ (k : ℕ). 68 ∷ k ∷ 1 ∷ standardList c) n)
 
-move-sound : (d s : ℕ) → moveItem d s .stop ≡ none → AcceptedItem Commands (item (76 ∷ []) (d ∷ s ∷ [])) (moveItem d s .bytes)
-move-sound d s h =
+move-accepted : (d s : ℕ) → moveItem d s .stop ≡ none → AcceptedItem Commands (item (76 ∷ []) (d ∷ s ∷ [])) (moveItem d s .bytes)
+move-accepted d s h =
     let t = move-checks d s h in
     let low : allLow (d ∷ s ∷ []) ≡ true = all-low-cons d (s ∷ []) (omega (arith, t .1)) (low-one s (omega (arith, t .3))) in
     with-count 76 (d ∷ s ∷ []) _ (lit≤ tt) (lit≤ tt) (lit≤ tt) low (t .4)
 
-command-sound : (source : List ℕ) (c : MmcCommand) → commandItem source c .stop ≡ none
+command-accepted : (source : List ℕ) (c : MmcCommand) → commandItem source c .stop ≡ none
     → AcceptedItem Commands (commandPair source c) (commandItem source c .bytes)
 unfolding commandItem commandPair
-command-sound source C.Stop h = name-accepted 1 (lit≤ tt) (lit≤ tt)
-command-sound source C.Play h = name-accepted 2 (lit≤ tt) (lit≤ tt)
-command-sound source C.DeferredPlay h = name-accepted 3 (lit≤ tt) (lit≤ tt)
-command-sound source C.FastForward h = name-accepted 4 (lit≤ tt) (lit≤ tt)
-command-sound source C.Rewind h = name-accepted 5 (lit≤ tt) (lit≤ tt)
-command-sound source C.RecordStrobe h = name-accepted 6 (lit≤ tt) (lit≤ tt)
-command-sound source C.RecordExit h = name-accepted 7 (lit≤ tt) (lit≤ tt)
-command-sound source C.Pause h = name-accepted 9 (lit≤ tt) (lit≤ tt)
-command-sound source C.Reset h = name-accepted 13 (lit≤ tt) (lit≤ tt)
-command-sound source (C.Write d) h = write-sound source d h
-command-sound source (C.LocateField r) h = locate-field-sound r h
-command-sound source (C.LocateTarget c) h = locate-target-sound c h
-command-sound source (C.Move d s) h = move-sound d s h
-command-sound source (C.Other n d) h = other-sound Commands source n d h
+command-accepted source C.Stop h = name-accepted 1 (lit≤ tt) (lit≤ tt)
+command-accepted source C.Play h = name-accepted 2 (lit≤ tt) (lit≤ tt)
+command-accepted source C.DeferredPlay h = name-accepted 3 (lit≤ tt) (lit≤ tt)
+command-accepted source C.FastForward h = name-accepted 4 (lit≤ tt) (lit≤ tt)
+command-accepted source C.Rewind h = name-accepted 5 (lit≤ tt) (lit≤ tt)
+command-accepted source C.RecordStrobe h = name-accepted 6 (lit≤ tt) (lit≤ tt)
+command-accepted source C.RecordExit h = name-accepted 7 (lit≤ tt) (lit≤ tt)
+command-accepted source C.Pause h = name-accepted 9 (lit≤ tt) (lit≤ tt)
+command-accepted source C.Reset h = name-accepted 13 (lit≤ tt) (lit≤ tt)
+command-accepted source (C.Write d) h = write-accepted source d h
+command-accepted source (C.LocateField r) h = locate-field-accepted r h
+command-accepted source (C.LocateTarget c) h = locate-target-accepted c h
+command-accepted source (C.Move d s) h = move-accepted d s h
+command-accepted source (C.Other n d) h = other-accepted Commands source n d h
 
-time-code-sound : (f : ℕ) (c : StandardTimeCode) → timeCodeItem f c .stop ≡ none
+time-code-accepted : (f : ℕ) (c : StandardTimeCode) → timeCodeItem f c .stop ≡ none
     → AcceptedItem Fields (item (f ∷ []) (standardList c)) (timeCodeItem f c .bytes)
-time-code-sound f c h =
+time-code-accepted f c h =
     let t = time-code-checks f c h in
-    one-sound Fields f (standardList c) _ (Fixed 5) (t .0) (omega (arith, t .1)) (field-five f (t .0) (t .1)) (sym (five-bytes c))
+    one-accepted Fields f (standardList c) _ (Fixed 5) (t .0) (omega (arith, t .1)) (field-five f (t .0) (t .1)) (sym (five-bytes c))
     (bytes-low c (t .2)) (t .3)
 
-short-code-sound : (f : ℕ) (c : ShortTimeCode) → shortCodeItem f c .stop ≡ none
+short-code-accepted : (f : ℕ) (c : ShortTimeCode) → shortCodeItem f c .stop ≡ none
     → AcceptedItem Fields (item ((f + 32) ∷ []) (shortList c)) (shortCodeItem f c .bytes)
-short-code-sound f c h =
+short-code-accepted f c h =
     let t = short-code-checks f c h in
     let l : f + 32 < 64 = omega (arith, t .1) in
-    one-sound Fields (f + 32) (shortList c) _ (Fixed 2) (omega arith) (omega arith) (field-two (f + 32) (omega arith) l)
+    one-accepted Fields (f + 32) (shortList c) _ (Fixed 2) (omega arith) (omega arith) (field-two (f + 32) (omega arith) l)
     (sym (two-bytes c)) (short-bytes-low c (t .2)) (t .3)
 
-field-sound : (source : List ℕ) (f : InfoField) → fieldItem source f .stop ≡ none
+field-accepted : (source : List ℕ) (f : InfoField) → fieldItem source f .stop ≡ none
     → AcceptedItem Fields (fieldPair source f) (fieldItem source f .bytes)
 unfolding fieldItem fieldPair
-field-sound source (F.TimeCode f c) h = time-code-sound f c h
-field-sound source (F.Short f c) h = short-code-sound f c h
-field-sound source (F.Other n d) h = other-sound Fields source n d h
+field-accepted source (F.TimeCode f c) h = time-code-accepted f c h
+field-accepted source (F.Short f c) h = short-code-accepted f c h
+field-accepted source (F.Other n d) h = other-accepted Fields source n d h
 
-pub item-sound : (kind : Kind) (g : Given kind) → emission kind g .stop ≡ none
+pub item-emission-accepted : (kind : Kind) (g : Given kind) → emission kind g .stop ≡ none
     → AcceptedItem kind (pairOf kind g) (emission kind g .bytes)
-item-sound Commands g h = command-sound (g .source) (g .meant) h
-item-sound Fields g h = field-sound (g .source) (g .meant) h
+item-emission-accepted Commands g h = command-accepted (g .source) (g .meant) h
+item-emission-accepted Fields g h = field-accepted (g .source) (g .meant) h
 
 -- ---- lists
 
-pub list-sound : (kind : Kind) (gs : List (Given kind)) → emissions kind gs .stop ≡ none
+pub list-emission-accepted : (kind : Kind) (gs : List (Given kind)) → emissions kind gs .stop ≡ none
     → AcceptedItems kind (pairsOf kind gs) (emissions kind gs .bytes)
 unfolding emissions joined allFit
-list-sound kind [] h = record { item-bytes = refl; fits = refl; low = all-low-none; short = lit≤ tt }
-list-sound kind (g ∷ gs) h =
+list-emission-accepted kind [] h = record { item-bytes = refl; fits = refl; low = all-low-none; short = lit≤ tt }
+list-emission-accepted kind (g ∷ gs) h =
     let t = then-accepted (emission kind g) (emissions kind gs) h in
-    let s : AcceptedItem kind (pairOf kind g) (emission kind g .bytes) = item-sound kind g (t .0) in
-    let r : AcceptedItems kind (pairsOf kind gs) (emissions kind gs .bytes) = list-sound kind gs (t .1) in
+    let s : AcceptedItem kind (pairOf kind g) (emission kind g .bytes) = item-emission-accepted kind g (t .0) in
+    let r : AcceptedItems kind (pairsOf kind gs) (emissions kind gs .bytes) = list-emission-accepted kind gs (t .1) in
     let b : emissions kind (g ∷ gs) .bytes ≡ emission kind g .bytes ++ emissions kind gs .bytes =
     ap (λ (x : Emission). x .bytes) (then-sent (emission kind g) (emissions kind gs) (t .0)) in
     let m : length (emission kind g .bytes) ≤ 131 = s .short in

@@ -150,9 +150,9 @@ module _ (d s : ℕ) where
 -- ---- time code fields
 
 -- The name, and then the form.
-pub name-unfit : (f : ℕ) (g : Bool) (l : FinalByte) → within 1 32 f ≡ false → false ≡ codeFits f g l
+pub code-name-unfit : (f : ℕ) (g : Bool) (l : FinalByte) → within 1 32 f ≡ false → false ≡ codeFits f g l
 unfolding codeFits
-name-unfit f g l h = rw h
+code-name-unfit f g l h = rw h
 
 pub form-told : (f : ℕ) (g : Bool) (l : FinalByte) → within 1 32 f ≡ true → formFits f g l ≡ codeFits f g l
 unfolding codeFits

@@ -15,13 +15,13 @@ use Rattle.codes.specs.declared.time_code.Checked.the-variants.{Accepted, Refus
 use Rattle.universal.specs.declared.error.SysexError.{SysexError}
 use Rattle.mmc.specs.Length.{within}
 use Rattle.mmc.specs.Named.{Extent, stopOf, extentOf}
-use Rattle.mmc.specs.Write.{Writing, orFailed, openedCommands, openedResponses, begun, opensAt, ready, admitted, itemsAfter, writingPast, writingAfter, closedMessage, closedFields, wholeMessage, wholeFields}
+use Rattle.mmc.specs.Write.{Writing, orFailed, openedCommands, openedResponses, begun, opensAt, ready, admitted, itemCountAfter, writingPast, writingAfter, closedMessage, closedFields, wholeMessage, wholeFields}
 use Rattle.universal.specs.Refusals.{Refusal, refusal, tooSmall, Answer, gives, refused}
 use Rattle.universal.specs.Emission.{Emission, sent, refusing, check, resume, _then_, fitted, reached, answerIn}
 use Rattle.universal.specs.Message.{opening, header, hasSubId2, closing}
 use Rattle.universal.specs.Overlay.{overlay}
 use Rattle.universal.specs.declared.message.MaybeSubId2.the-variants.{NoSubId2}
-use Rattle.universal.proofs.Laws.{overlay-none, then-accepted, check-held, reached-sent, reached-stopped, opening-device, opening-plain, closing-fits, closing-short, none-some}
+use Rattle.universal.proofs.Laws.{overlay-none, then-accepted, check-held, reached-sent, reached-refusing, opening-device, opening-plain, closing-fits, closing-short, none-some}
 use Rattle.mmc.proofs.Writing.EmissionPuts.{Puts}
 use Rattle.mmc.proofs.RangeTests.{within-range, below-range, above-range}
 
@@ -33,7 +33,7 @@ WholeOrNothing e = ((k : ℕ) × (e ≡ refusing k)) ⊎ ((bs : List ℕ) × (e 
 
 opens : (e : Emission) → WholeOrNothing e → opensAt (reached e) ≡ begun e
 unfolding begun
-opens e (inl p) = subst (λ (x : Emission). opensAt (reached x) ≡ begun x) (sym (p .1)) (ap opensAt (reached-stopped (refusing (p .0)) (refusal (p .0)) refl))
+opens e (inl p) = subst (λ (x : Emission). opensAt (reached x) ≡ begun x) (sym (p .1)) (ap opensAt (reached-refusing (refusing (p .0)) (refusal (p .0)) refl))
 opens e (inr p) = subst (λ (x : Emission). opensAt (reached x) ≡ begun x) (sym (p .1)) (ap opensAt (reached-sent (sent (p .0)) refl))
 
 opening-whole : (device n : ℕ) → hasSubId2 true n ≡ false → n ≤ 127 → WholeOrNothing (opening (header true device n NoSubId2))
@@ -100,9 +100,9 @@ ready-kept w l h =
     go (some r) = refl
 
 -- A writing that goes on is one that calls leave.
-pub goes-on : (w : Writing) → orFailed w .stop ≡ none → (w .items ≤ 256) × (w .at ≤ 40000)
+pub writing-goes-on : (w : Writing) → orFailed w .stop ≡ none → (w .items ≤ 256) × (w .at ≤ 40000)
 unfolding orFailed
-goes-on w = go (leb (w .items) 256) (leb (w .at) 40000) refl refl
+writing-goes-on w = go (leb (w .items) 256) (leb (w .at) 40000) refl refl
   where
     go : (a b : Bool) → leb (w .items) 256 ≡ a → leb (w .at) 40000 ≡ b
         → cond (a && b) w (record { at = w .at; items = w .items; stop = some (refusal 10) }) .stop ≡ none
@@ -232,10 +232,10 @@ pub left-as : (e known : Emission) (out : List ℕ) (at : ℕ) (left : List ℕ)
     → left ≡ overlay out at (e .bytes)
 left-as e known out at left q p = p ∙ ap (λ (x : Emission). overlay out at (x .bytes)) (sym q)
 
-pub moved-accepted : (w : Writing) (n : ℕ) (k : Checked) → k ≡ Accepted
+pub past-accepted : (w : Writing) (n : ℕ) (k : Checked) → k ≡ Accepted
     → record { at = w .at + n; items = w .items + 1; stop = stopOf k } ≡ writingPast w (record { len = n; stop = stopOf k })
-moved-accepted w n k e = rw e
+past-accepted w n k e = rw e
 
-pub moved-refused : (w : Writing) (n : ℕ) (k : Checked) (r : SysexError) → k ≡ Refused r
+pub past-refused : (w : Writing) (n : ℕ) (k : Checked) (r : SysexError) → k ≡ Refused r
     → record { at = w .at + n; items = w .items; stop = stopOf k } ≡ writingPast w (record { len = n; stop = stopOf k })
-moved-refused w n k r e = rw e
+past-refused w n k r e = rw e

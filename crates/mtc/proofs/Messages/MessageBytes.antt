@@ -31,7 +31,7 @@ use Rattle.mtc.proofs.Messages.UserBitGroups.{eight-spelled, nibble-bel
 use Rattle.mtc.proofs.Sequences.LabelNibbles.{bits-code}
 use Rattle.mtc.proofs.Messages.MessageReading.{reads-only}
 use Rattle.mtc.proofs.Widths.{valid-in-widths}
-use Rattle.mtc.proofs.Messages.MessageWriting.{device-stopped, value-stopped, checks-passed}
+use Rattle.mtc.proofs.Messages.MessageWriting.{device-refusing, value-refusing, checks-passed}
 
 -- ---- a message of a kind, byte by byte
 
@@ -84,11 +84,11 @@ full-message-read device t w = ap (λ (u : MtcTime). gives (some (fullMessage de
 -- A device above 127 is refused with 5, whatever the label is; a label that is not valid with 3. Nothing goes out.
 pub full-message-device : (m : FullMessage) → 127 < m .«device_id» → fullMessageWritten m ≡ refusing 5
 unfolding fullMessageWritten
-full-message-device m h = device-stopped (m .«device_id») (isValid (m .time)) 1 (fullData (m .time)) h
+full-message-device m h = device-refusing (m .«device_id») (isValid (m .time)) 1 (fullData (m .time)) h
 
 pub full-message-invalid : (m : FullMessage) → m .«device_id» ≤ 127 → isValid (m .time) ≡ false → fullMessageWritten m ≡ refusing 3
 unfolding fullMessageWritten
-full-message-invalid m h v = value-stopped (m .«device_id») (isValid (m .time)) 1 (fullData (m .time)) h v
+full-message-invalid m h v = value-refusing (m .«device_id») (isValid (m .time)) 1 (fullData (m .time)) h v
 
 module _ (m : FullMessage) (low : m .«device_id» ≤ 127) (valid : T (isValid (m .time))) where
   -- A valid label and a device of at most 127 go out as RP-004/008's full message.

@@ -34,19 +34,19 @@ nothing-goes e n out p = (
 )
 
 -- The device is checked first, and then the values.
-pub device-stopped : (device : ℕ) (inRange : Bool) (subId2 : ℕ) (bs : List ℕ) → 127 < device → writeKind device inRange subId2 bs ≡ refusing 5
-device-stopped device inRange subId2 bs h = rw (lt-leb device 127 h)
+pub device-refusing : (device : ℕ) (inRange : Bool) (subId2 : ℕ) (bs : List ℕ) → 127 < device → writeKind device inRange subId2 bs ≡ refusing 5
+device-refusing device inRange subId2 bs h = rw (lt-leb device 127 h)
 
-pub value-stopped : (device : ℕ) (inRange : Bool) (subId2 : ℕ) (bs : List ℕ) → device ≤ 127 → inRange ≡ false
+pub value-refusing : (device : ℕ) (inRange : Bool) (subId2 : ℕ) (bs : List ℕ) → device ≤ 127 → inRange ≡ false
     → writeKind device inRange subId2 bs ≡ refusing 3
-value-stopped device inRange subId2 bs h v = rw (le-leb device 127 h, v)
+value-refusing device inRange subId2 bs h v = rw (le-leb device 127 h, v)
 
 module _ (device : ℕ) (inRange : Bool) (subId2 : ℕ) (bs out : List ℕ) where
   pub device-refused : 127 < device → OwesMessage (writeKind device inRange subId2 bs) (refused (refusal 5)) out out
-  device-refused h = nothing-goes (writeKind device inRange subId2 bs) 5 out (device-stopped device inRange subId2 bs h)
+  device-refused h = nothing-goes (writeKind device inRange subId2 bs) 5 out (device-refusing device inRange subId2 bs h)
 
   pub value-refused : device ≤ 127 → inRange ≡ false → OwesMessage (writeKind device inRange subId2 bs) (refused (refusal 3)) out out
-  value-refused h v = nothing-goes (writeKind device inRange subId2 bs) 3 out (value-stopped device inRange subId2 bs h v)
+  value-refused h v = nothing-goes (writeKind device inRange subId2 bs) 3 out (value-refusing device inRange subId2 bs h v)
 
 -- Past both checks it is the message.
 pub checks-passed : (device : ℕ) (inRange : Bool) (subId2 : ℕ) (bs : List ℕ) → device ≤ 127 → inRange ≡ true

@@ -60,15 +60,15 @@ piece-after Reverse k h = omega arith
 
 pub data Shape (bs : List ℕ) (r : MtcReader) : Type 0 where
   idle : r .count ≡ 0 → Shape bs r
-  one : (d : Direction) → r .count ≡ 1 → r .first ≡ first d → r .last ≡ Piece (first d) → r .direction ≡ NoDirection
+  one-piece : (d : Direction) → r .count ≡ 1 → r .first ≡ first d → r .last ≡ Piece (first d) → r .direction ≡ NoDirection
       → map pieceOf (take 1 bs) ≡ history d 1 → Shape bs r
   going : (d : Direction) (k : ℕ) → k < 7 → r .count ≡ suc k → r .last ≡ Piece (nthPiece d k) → r .direction ≡ Going d
       → map pieceOf (take (suc k) bs) ≡ history d (suc k) → Shape bs r
 
 -- ---- a piece that is the next one
 
-found-after : (l p : ℕ) (f : Direction) → directionBetween l p ≡ Going f → after f l ≡ p
-found-after l p f = go (eqb (after Forward l) p) (eqb (after Reverse l) p) refl refl
+between-after : (l p : ℕ) (f : Direction) → directionBetween l p ≡ Going f → after f l ≡ p
+between-after l p f = go (eqb (after Forward l) p) (eqb (after Reverse l) p) refl refl
   where
     go : (x y : Bool) → eqb (after Forward l) p ≡ x → eqb (after Reverse l) p ≡ y
         → cond x (Going Forward) (cond y (Going Reverse) NoDirection) ≡ Going f → after f l ≡ p
@@ -123,7 +123,7 @@ module _ (bs : List ℕ) (r : MtcReader) (p : ℕ) where
             ∙ ap (λ (m : MaybeDirection). outOfOrder (control r) NoDirection m .direction) (s .1)
             ∙ ap Going same;
         piece =
-            sym (found-after (first d) p (s .0) (s .1)) ∙ ap (λ (y : Direction). after y (first d)) same ∙ second-piece d;
+            sym (between-after (first d) p (s .0) (s .1)) ∙ ap (λ (y : Direction). after y (first d)) same ∙ second-piece d;
         before = h;
       }
 
@@ -151,26 +151,26 @@ module _ (bs : List ℕ) (r : MtcReader) (p : ℕ) where
 
   follows : Shape bs r → (r .count ≡ 0 → ⊥) → orderOf (control r) p .next ≡ true → NextInDirection bs r p
   follows (idle c) z e = absurd (z c)
-  follows (one d c f l n h) z e = one-next d c f l n h e
+  follows (one-piece d c f l n h) z e = one-next d c f l n h e
   follows (going d k s c l n h) z e = going-next d k s c l n h e
 
 -- ---- a piece's number
 
 -- 0, where it starts nothing; 1, where it starts a sequence; or one more than those held, where it is the next one.
 pub data Number (next : Bool) (count : ℕ) (begins : Bool) (n : ℕ) : Type 0 where
-  none : n ≡ 0 → begins ≡ false → Number next count begins n
-  opens : n ≡ 1 → begins ≡ true → Number next count begins n
-  goes-on : next ≡ true → (count ≡ 0 → ⊥) → n ≡ count + 1 → Number next count begins n
+  no-sequence : n ≡ 0 → begins ≡ false → Number next count begins n
+  begins-one : n ≡ 1 → begins ≡ true → Number next count begins n
+  next-one : next ≡ true → (count ≡ 0 → ⊥) → n ≡ count + 1 → Number next count begins n
 
 pub number-cases : (next : Bool) (count : ℕ) (begins : Bool) → Number next count begins (numberAfter (cond next count 0) begins)
-number-cases false c true = opens refl refl
-number-cases false c false = none refl refl
-number-cases true zero true = opens refl refl
-number-cases true zero false = none refl refl
-number-cases true (suc c) b = goes-on refl (λ e. omega arith) (rw (ne-eqb (suc c) 0 (λ e. omega arith)))
+number-cases false c true = begins-one refl refl
+number-cases false c false = no-sequence refl refl
+number-cases true zero true = begins-one refl refl
+number-cases true zero false = no-sequence refl refl
+number-cases true (suc c) b = next-one refl (λ e. omega arith) (rw (ne-eqb (suc c) 0 (λ e. omega arith)))
 
-kept : (r : MtcReader) (o : Standing) (n p v : ℕ) → (n ≡ 0 → ⊥) → (n ≡ 8 → ⊥) → readerByNumber r o n p v ≡ stored r o n p v
-kept r o n p v y z = rw (ne-eqb n 0 y, ne-eqb n 8 z)
+stored-by-number : (r : MtcReader) (o : Standing) (n p v : ℕ) → (n ≡ 0 → ⊥) → (n ≡ 8 → ⊥) → readerByNumber r o n p v ≡ stored r o n p v
+stored-by-number r o n p v y z = rw (ne-eqb n 0 y, ne-eqb n 8 z)
 
 -- ---- every call keeps the shape
 
@@ -192,7 +192,7 @@ module _ (bs : List ℕ) (b : ℕ) (s : MtcReader) where
   started-shape NoDirection e c f l n =
       let w = start (pieceOf b) e in
       let i : pieceOf b ≡ nthPiece (w .0) 0 = w .1 ∙ first-piece (w .0) in
-      one (w .0) c (f ∙ w .1) (l ∙ ap Piece (w .1)) n (ap (λ (x : ℕ). x ∷ []) i)
+      one-piece (w .0) c (f ∙ w .1) (l ∙ ap Piece (w .1)) n (ap (λ (x : ℕ). x ∷ []) i)
   started-shape (Going d) e c f l n =
       let i : pieceOf b ≡ nthPiece d 0 = eqb-true (pieceOf b) (first d) e ∙ first-piece d in
       going d 0 (omega arith) c (l ∙ ap Piece i) n (ap (λ (x : ℕ). x ∷ []) i)
@@ -215,7 +215,7 @@ module _ (bs : List ℕ) (r : MtcReader) (h : Shape bs r) (b v : ℕ) where
           subst (λ (k : ℕ). Shape (b ∷ bs) (readerByNumber r (orderOf (control r) (pieceOf b)) k (pieceOf b) v)) (sym eight) (idle refl)
       go (inr l) =
           let y : n ≡ suc (suc (w .number)) = omega (arith, e, w .count) in
-          rw (kept r (orderOf (control r) (pieceOf b)) n (pieceOf b) v (λ q. omega arith) (λ q. omega arith))
+          rw (stored-by-number r (orderOf (control r) (pieceOf b)) n (pieceOf b) v (λ q. omega arith) (λ q. omega arith))
           (going (w .way) (suc (w .number)) (omega arith) (omega arith) (ap Piece (w .piece)) (w .direction)
           (ap₂ _∷_ (w .piece) (w .before)))
 
@@ -224,11 +224,11 @@ module _ (bs : List ℕ) (r : MtcReader) (h : Shape bs r) (b v : ℕ) where
   piece-shape = go _ (number-cases (o .next) (r .count) (starts (o .direction) (pieceOf b)))
     where
       go : (n : ℕ) → Number (o .next) (r .count) (starts (o .direction) (pieceOf b)) n → By n
-      go n (none e z) = subst By (sym e) (idle refl)
-      go n (opens e z) =
+      go n (no-sequence e z) = subst By (sym e) (idle refl)
+      go n (begins-one e z) =
           subst By (sym e)
           (started-shape bs b (stored r o 1 (pieceOf b) v) (o .direction) z refl refl refl refl)
-      go n (goes-on x z e) = next-shape n e (follows bs r (pieceOf b) h z x)
+      go n (next-one x z e) = next-shape n e (follows bs r (pieceOf b) h z x)
 
 -- ---- the first byte of a stream
 
@@ -280,6 +280,6 @@ module _ (bs : List ℕ) (r : MtcReader) (h : Shape bs r) (d : Direction) (v : �
   first-byte = go _ (number-cases (x .next) (r .count) (starts (x .direction) (first d)))
     where
       go : (n : ℕ) → Number (x .next) (r .count) (starts (x .direction) (first d)) n → First n
-      go n (none e z) = subst First (sym e) (turning refl refl (no-start d (x .direction) z), inl refl)
-      go n (opens e z) = subst First (sym e) (held (x .direction) (a-start d (x .direction) z) refl refl refl refl refl, inl refl)
-      go n (goes-on y z e) = ended n e (follows bs r (first d) h z y)
+      go n (no-sequence e z) = subst First (sym e) (turning refl refl (no-start d (x .direction) z), inl refl)
+      go n (begins-one e z) = subst First (sym e) (held (x .direction) (a-start d (x .direction) z) refl refl refl refl refl, inl refl)
+      go n (next-one y z e) = ended n e (follows bs r (first d) h z y)

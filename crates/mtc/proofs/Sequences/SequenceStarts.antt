@@ -14,7 +14,7 @@ use Rattle.mtc.specs.declared.generator.MaybePiece.the-variants.{NoPiece
 use Rattle.mtc.specs.declared.reader.MaybeDirection.{MaybeDirection}
 use Rattle.mtc.specs.declared.reader.MaybeDirection.the-variants.{NoDirection, Going}
 use Rattle.mtc.specs.declared.reader.MtcReader.{MtcReader}
-use Rattle.mtc.proofs.Sequences.ReaderShapes.{opposite, nthPiece, Shape, idle, one, going, Number, none, opens, goes-on, number-cases, first-piece, a-start}
+use Rattle.mtc.proofs.Sequences.ReaderShapes.{opposite, nthPiece, Shape, idle, one-piece, going, Number, no-sequence, begins-one, next-one, number-cases, first-piece, a-start}
 
 -- ---- what it then leaves
 
@@ -27,9 +27,9 @@ not-against d c e = go _ e (number-cases (o .next) (c .count) (starts (o .direct
     o = orderOf c (first d)
 
     go : (n : ℕ) → n ≡ 1 → Number (o .next) (c .count) (starts (o .direction) (first d)) n → NotAgainst d (o .direction)
-    go n e (none z _) = absurd (omega (arith, e, z))
-    go n e (opens _ b) = a-start d (o .direction) b
-    go n e (goes-on _ z q) = absurd (z (omega (arith, e, q)))
+    go n e (no-sequence z _) = absurd (omega (arith, e, z))
+    go n e (begins-one _ b) = a-start d (o .direction) b
+    go n e (next-one _ z q) = absurd (z (omega (arith, e, q)))
 
 -- ---- when it does
 
@@ -80,7 +80,7 @@ same-piece p q e = cc
 pub starts-after-last : (d : Direction) (bs : List ℕ) (r : MtcReader) → Shape bs r → r .last ≡ Piece (final d) → Starts d (control r)
 starts-after-last d bs r (idle c) e =
     subst (Starts d) (sym (λ i. controlWith (c i) (r .first) (e i) (r .direction))) (starts-next d (r .first) (r .direction))
-starts-after-last d bs r (one f c s l n h) e =
+starts-after-last d bs r (one-piece f c s l n h) e =
     let w : f ≡ opposite d = other-way d f 0 (omega arith) (sym (first-piece f) ∙ same-piece _ _ (sym l ∙ e)) in
     let s′ : r .first ≡ first (opposite d) = s ∙ ap first w in
     subst (Starts d) (sym (λ i. controlWith (c i) (s′ i) (e i) (n i))) (starts-second d)

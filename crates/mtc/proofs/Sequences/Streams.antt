@@ -138,22 +138,22 @@ three a b c d =
 
 -- What the bytes of three sequences report.
 module _ (a b c : MtcTime) (d : Direction) (bs : List ℕ) (r : MtcReader) (h : Past bs r) where
-  abbrev opened : ℕ
-  opened = firstValue d (values a)
+  abbrev firstNibble : ℕ
+  firstNibble = firstValue d (values a)
 
   abbrev second : MtcReader
-  second = afterPiece r (first d) opened
+  second = afterPiece r (first d) firstNibble
 
-  begun : Begun d (set (r .nibbles) (first d) opened) second × Quiet d bs (reportOf r (first d) opened)
-  begun = first-byte bs r (h .shape) d opened
+  begun : Begun d (set (r .nibbles) (first d) firstNibble) second × Quiet d bs (reportOf r (first d) firstNibble)
+  begun = first-byte bs r (h .shape) d firstNibble
 
   after-eight : Eighth (values a) d second
   after-eight =
-      eighth (values a) second d (r .nibbles) (h .sound .eight) (same-length r (first d) opened ∙ h .sound .eight) (begun .0)
+      eighth (values a) second d (r .nibbles) (h .sound .eight) (same-length r (first d) firstNibble ∙ h .sound .eight) (begun .0)
 
   -- The four that may report.
   abbrev report1 : MaybeSequence
-  report1 = reportOf r (first d) opened
+  report1 = reportOf r (first d) firstNibble
 
   report16 : MaybeSequence
   report16 = Sequence (sequenceOfLabel (assembled (values b)) d (after-eight .next .previous))

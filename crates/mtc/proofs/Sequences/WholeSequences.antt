@@ -72,7 +72,7 @@ with r n c f l d =
 -- ---- the first piece of a sequence
 
 -- What it leaves: one piece held, and nothing reported.
-record Opened (d : Direction) (r : MtcReader) (v : ℕ) (s : MtcReader) (q : MaybeSequence) : Type 0 where
+record SequenceBegun (d : Direction) (r : MtcReader) (v : ℕ) (s : MtcReader) (q : MaybeSequence) : Type 0 where
   way : MaybeDirection
   not-against : NotAgainst d way
   nibbles : s .nibbles ≡ set (r .nibbles) (first d) v
@@ -83,11 +83,11 @@ record Opened (d : Direction) (r : MtcReader) (v : ℕ) (s : MtcReader) (q : May
   previous : s .previous ≡ r .previous
   report : q ≡ NoSequence
 
-opened : (d : Direction) (r : MtcReader) (v : ℕ) → Starts d (control r) → Opened d r v (afterPiece r (first d) v) (reportOf r (first d) v)
+sequence-begun : (d : Direction) (r : MtcReader) (v : ℕ) → Starts d (control r) → SequenceBegun d r v (afterPiece r (first d) v) (reportOf r (first d) v)
 unfolding afterPiece reportOf
-opened d r v h =
+sequence-begun d r v h =
     let o = orderOf (control r) (first d) in
-    subst (λ (n : ℕ). Opened d r v (readerByNumber r o n (first d) v) (reportByNumber r o n (first d) v)) (sym h)
+    subst (λ (n : ℕ). SequenceBegun d r v (readerByNumber r o n (first d) v) (reportByNumber r o n (first d) v)) (sym h)
     (record {
       way = o .direction;
       not-against = not-against d (control r) h;
@@ -150,8 +150,8 @@ module _ (v : Values) where
     abbrev second : MtcReader
     second = afterPiece r (first d) (firstValue d v)
 
-    abbrev begun : Opened d r (firstValue d v) second (reportOf r (first d) (firstValue d v))
-    begun = opened d r (firstValue d v) starts
+    abbrev begun : SequenceBegun d r (firstValue d v) second (reportOf r (first d) (firstValue d v))
+    begun = sequence-begun d r (firstValue d v) starts
 
     is-holding : second ≡ holding second d (r .nibbles) (begun .way)
     is-holding =

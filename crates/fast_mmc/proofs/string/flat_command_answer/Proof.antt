@@ -16,8 +16,8 @@ enum-known-answer-2 c = search needs
 number-requires : tie.Need-number-requires
 number-requires c κs = search needs
 
-plain-requires : tie.Need-plain-requires
-plain-requires c κs = search needs
+flat-values-requires : tie.Need-flat-values-requires
+flat-values-requires c κs = search needs
 
 returns : tie.Need-returns
 unfolding flatCommandAnswer
@@ -25,7 +25,7 @@ returns c = rw (c .before .before .answer .given .1, c .flat-command .ensures)
 
 returns-2 : tie.Need-returns-2
 unfolding flatCommandAnswer
-returns-2 c = rw (c .before .before .before .answer2 .given .1, c .plain .ensures, c .before .number .ensures)
+returns-2 c = rw (c .before .before .before .answer2 .given .1, c .flat-values .ensures, c .before .number .ensures)
 
 pub flat-command-answer-spec : {M : Type 1} → statement M
 flat-command-answer-spec =
@@ -35,6 +35,6 @@ flat-command-answer-spec =
     flat-command-requires
     enum-known-answer-2
     number-requires
-    plain-requires
+    flat-values-requires
     returns
     returns-2)

@@ -1,5 +1,5 @@
 use borrow.Author.Needs.{needs}
-use Rattle.fast_mmc.proofs.WordPuts.{given-word}
+use Rattle.fast_mmc.proofs.WordPuts.{word-after}
 use Rattle.fast_mmc.proofs.whole.give_word.Statement.{statement}
 use Rattle.fast_mmc.proofs.whole.give_word.Tie as tie
 
@@ -16,7 +16,7 @@ same-length : tie.Need-same-length
 same-length c = search needs
 
 returns : tie.Need-returns
-returns c = given-word _ _ _ _ _ _ (c .before .before .before .before .given-command .ensures) (c .before .before .before .put-command .ensures .0 .0) (c .before .before .before .put-command .ensures .1)
+returns c = word-after _ _ _ _ _ _ (c .before .before .before .before .given-command .ensures) (c .before .before .before .put-command .ensures .0 .0) (c .before .before .before .put-command .ensures .1)
 
 pub give-word-spec : {M : Type 1} → statement M
 give-word-spec =

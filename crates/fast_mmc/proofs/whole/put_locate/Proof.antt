@@ -1,6 +1,6 @@
 use native.Mathlib.Omega.{arith}
 use borrow.Author.Tests.{not-false}
-use Rattle.fast_mmc.specs.Contracts.{went-nothing}
+use Rattle.fast_mmc.specs.Contracts.{nothing-went}
 use Rattle.fast_mmc.proofs.WordPuts.{put-usual}
 use Rattle.fast_mmc.proofs.WordRanges.{usual-of}
 use borrow.Author.Needs.{needs}
@@ -11,19 +11,19 @@ add-next : tie.Need-add-next
 add-next c = search needs
 
 returns : tie.Need-returns
-returns c = (search needs, went-nothing)
+returns c = (search needs, nothing-went)
 
 is-in-range-requires : tie.Need-is-in-range-requires
 is-in-range-requires c κs = search needs
 
 returns-2 : tie.Need-returns-2
-returns-2 c = (search needs, went-nothing)
+returns-2 c = (search needs, nothing-went)
 
 is-kept-requires : tie.Need-is-kept-requires
 is-kept-requires c κs = search needs
 
 returns-3 : tie.Need-returns-3
-returns-3 c = (search needs, went-nothing)
+returns-3 c = (search needs, nothing-went)
 
 cast-hours : tie.Need-cast-hours
 cast-hours c = search needs

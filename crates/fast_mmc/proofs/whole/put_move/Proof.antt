@@ -1,6 +1,6 @@
 use borrow.Author.Needs.{needs}
 use native.Mathlib.Omega.{arith}
-use Rattle.fast_mmc.specs.Contracts.{went-nothing}
+use Rattle.fast_mmc.specs.Contracts.{nothing-went}
 use Rattle.fast_mmc.proofs.WordItems.{word-move-sent}
 use Rattle.fast_mmc.proofs.WordPuts.{put-four}
 use Rattle.fast_mmc.proofs.whole.put_move.Statement.{statement}
@@ -13,19 +13,19 @@ cast-source : tie.Need-cast-source
 cast-source c = search needs
 
 returns : tie.Need-returns
-returns c = (search needs, went-nothing)
+returns c = (search needs, nothing-went)
 
 returns-2 : tie.Need-returns-2
-returns-2 c = (search needs, went-nothing)
+returns-2 c = (search needs, nothing-went)
 
 returns-3 : tie.Need-returns-3
-returns-3 c = (search needs, went-nothing)
+returns-3 c = (search needs, nothing-went)
 
 returns-4 : tie.Need-returns-4
-returns-4 c = (search needs, went-nothing)
+returns-4 c = (search needs, nothing-went)
 
 returns-5 : tie.Need-returns-5
-returns-5 c = (search needs, went-nothing)
+returns-5 c = (search needs, nothing-went)
 
 put-four-requires : tie.Need-put-four-requires
 put-four-requires c κs = search needs

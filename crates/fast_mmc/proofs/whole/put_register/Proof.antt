@@ -1,5 +1,5 @@
 use borrow.Author.Needs.{needs}
-use Rattle.fast_mmc.specs.Contracts.{went-nothing}
+use Rattle.fast_mmc.specs.Contracts.{nothing-went}
 use Rattle.fast_mmc.proofs.WordItems.{field-sent}
 use Rattle.fast_mmc.proofs.WordPuts.{put-four}
 use Rattle.fast_mmc.proofs.whole.put_register.Statement.{statement}
@@ -9,13 +9,13 @@ cast-register : tie.Need-cast-register
 cast-register c = search needs
 
 returns : tie.Need-returns
-returns c = (search needs, went-nothing)
+returns c = (search needs, nothing-went)
 
 returns-2 : tie.Need-returns-2
-returns-2 c = (search needs, went-nothing)
+returns-2 c = (search needs, nothing-went)
 
 returns-3 : tie.Need-returns-3
-returns-3 c = (search needs, went-nothing)
+returns-3 c = (search needs, nothing-went)
 
 put-four-requires : tie.Need-put-four-requires
 put-four-requires c κs = search needs

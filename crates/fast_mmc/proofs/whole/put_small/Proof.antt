@@ -1,5 +1,5 @@
 use borrow.Author.Needs.{needs}
-use Rattle.fast_mmc.specs.Contracts.{went-nothing}
+use Rattle.fast_mmc.specs.Contracts.{nothing-went}
 use Rattle.fast_mmc.proofs.WordPuts.{put-name}
 use Rattle.fast_mmc.proofs.whole.put_small.Statement.{statement}
 use Rattle.fast_mmc.proofs.whole.put_small.Tie as tie
@@ -41,7 +41,7 @@ returns-3 : tie.Need-returns-3
 returns-3 c = search needs
 
 returns-4 : tie.Need-returns-4
-returns-4 c = (search needs, went-nothing)
+returns-4 c = (search needs, nothing-went)
 
 pub put-small-spec : {M : Type 1} → statement M
 put-small-spec = tie.close (tie.spec cast-plain-name plain-name-requires put-requires add-result same-length returns put-register-requires same-length-2 returns-2 put-move-requires same-length-3 returns-3 returns-4)

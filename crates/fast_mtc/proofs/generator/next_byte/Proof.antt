@@ -1,6 +1,6 @@
 -- `fast_mtc::generator::next_byte` meets its contract. Assumes nothing.
 use mathlib.Core.Path.{refl, sym, ap, _∙_}
-use Rattle.fast_mtc.proofs.GeneratorBytes.{stopped-in, starts-over, goes-on, moves-on}
+use Rattle.fast_mtc.proofs.GeneratorBytes.{stopped-in, starts-over, piece-goes-on, moves-on}
 use borrow.Author.Needs.{needs}
 use Rattle.fast_mtc.proofs.generator.next_byte.Statement.{statement}
 use Rattle.fast_mtc.proofs.generator.next_byte.Tie as tie
@@ -44,7 +44,7 @@ send-requires-2 c κs = search needs
 returns-3 : tie.Need-returns-3
 returns-3 c =
     let past = c .before .before .before .before in
-    goes-on _ _ _ _ _ (past .before .before .before .before .before .if1 .left) (past .before .before .before .direction-at .ensures) (past .before .if2 .left) (past .last2 .ensures) (c .before .before .before .if3 .taken) (c .before .after .ensures .0) (c .send2 .ensures)
+    piece-goes-on _ _ _ _ _ (past .before .before .before .before .before .if1 .left) (past .before .before .before .direction-at .ensures) (past .before .if2 .left) (past .last2 .ensures) (c .before .before .before .if3 .taken) (c .before .after .ensures .0) (c .send2 .ensures)
 
 move-on-requires : tie.Need-move-on-requires
 move-on-requires c κs = search needs

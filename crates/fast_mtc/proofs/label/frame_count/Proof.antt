@@ -2,7 +2,7 @@
 use mathlib.Core.Path.{sym, _∙_}
 use native.Mathlib.Omega.{arith}
 use Rattle.labels.proofs.Laws.{day-positive}
-use Rattle.fast_mtc.proofs.LabelShortWays.{drop-count, even-count, even-fits, even-sum-fits, even-told}
+use Rattle.fast_mtc.proofs.LabelShortWays.{drop-frame-count, even-frame-count, even-fits, even-sum-fits, even-told}
 use borrow.Author.Needs.{needs}
 use Rattle.fast_mtc.proofs.label.frame_count.Statement.{statement}
 use Rattle.fast_mtc.proofs.label.frame_count.Tie as tie
@@ -50,7 +50,7 @@ within-requires : tie.Need-within-requires
 within-requires c κs = search needs
 
 returns : tie.Need-returns
-returns c = drop-count _ _ (sym (c .before .before .before .into-bits .ensures) ∙ c .before .before .if1 .taken) (c .within .ensures)
+returns c = drop-frame-count _ _ (sym (c .before .before .before .into-bits .ensures) ∙ c .before .before .if1 .taken) (c .within .ensures)
 
 mul-seconds : tie.Need-mul-seconds
 mul-seconds c = search needs
@@ -82,7 +82,7 @@ within-requires-2 c κs = rw (c .day .ensures) (day-positive (c .before .before 
 returns-2 : tie.Need-returns-2
 returns-2 c =
     let past = c .before .before .before .before in
-    even-count _ _ (λ e. past .if1 .left (past .before .into-bits .ensures ∙ e)) (c .within2 .ensures ∙ even-told _ _ _ _ (past .before .before .before .before .before .args .t .rate) (c .before .before .frames-per-second .ensures) (c .before .day .ensures))
+    even-frame-count _ _ (λ e. past .if1 .left (past .before .into-bits .ensures ∙ e)) (c .within2 .ensures ∙ even-told _ _ _ _ (past .before .before .before .before .before .args .t .rate) (c .before .before .frames-per-second .ensures) (c .before .day .ensures))
 
 pub frame-count-spec : {M : Type 1} → statement M
 frame-count-spec =

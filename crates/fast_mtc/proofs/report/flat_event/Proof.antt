@@ -7,8 +7,8 @@ use Rattle.fast_mtc.proofs.report.flat_event.Tie as tie
 cast-start : tie.Need-cast-start
 cast-start c = search needs
 
-bit-requires : tie.Need-bit-requires
-bit-requires c κs = search needs
+bit-of-requires : tie.Need-bit-of-requires
+bit-of-requires c κs = search needs
 
 mul-start : tie.Need-mul-start
 mul-start c = search needs
@@ -32,10 +32,10 @@ add-result : tie.Need-add-result
 add-result c = search needs
 
 returns : tie.Need-returns
-returns c = quiet _ _ (c .before .before .bit .ensures .0) (c .enum-told .given .1)
+returns c = quiet _ _ (c .before .before .bit-of .ensures .0) (c .enum-told .given .1)
 
 returns-2 : tie.Need-returns-2
-returns-2 c = said _ _ _ _ (c .before .before .before .before .bit .ensures .0) (c .before .before .sequence .given .1) (c .flat-report .ensures .0)
+returns-2 c = said _ _ _ _ (c .before .before .before .before .bit-of .ensures .0) (c .before .before .sequence .given .1) (c .flat-report .ensures .0)
 
 pub flat-event-spec : {M : Type 1} → statement M
-flat-event-spec = tie.close (tie.spec cast-start bit-requires mul-start add-start enum-told enum-known-sequence flat-report-requires mul-result add-result returns returns-2)
+flat-event-spec = tie.close (tie.spec cast-start bit-of-requires mul-start add-start enum-told enum-known-sequence flat-report-requires mul-result add-result returns returns-2)

@@ -16,8 +16,8 @@ mul-result c = search needs
 add-result : tie.Need-add-result
 add-result c = search needs
 
-bit-requires : tie.Need-bit-requires
-bit-requires c κs = search needs
+bit-of-requires : tie.Need-bit-of-requires
+bit-of-requires c κs = search needs
 
 mul-result-2 : tie.Need-mul-result-2
 mul-result-2 c = search needs
@@ -26,7 +26,7 @@ add-result-2 : tie.Need-add-result-2
 add-result-2 c = search needs
 
 returns : tie.Need-returns
-returns c = report-is _ _ _ (c .before .flat-direction .ensures) (c .bit .ensures .0)
+returns c = report-is _ _ _ (c .before .flat-direction .ensures) (c .bit-of .ensures .0)
 
 pub flat-report-spec : {M : Type 1} → statement M
-flat-report-spec = tie.close (tie.spec flat-direction-requires cast-result mul-result add-result bit-requires mul-result-2 add-result-2 returns)
+flat-report-spec = tie.close (tie.spec flat-direction-requires cast-result mul-result add-result bit-of-requires mul-result-2 add-result-2 returns)

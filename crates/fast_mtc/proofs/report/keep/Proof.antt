@@ -4,7 +4,7 @@ use mathlib.Core.Path.{ap, _∙_}
 use Rattle.mtc.specs.Reader.{eventWith}
 use Rattle.mtc.specs.declared.reader.MaybeSequence.the-variants.{Sequence}
 use Rattle.fast_mtc.specs.Reader.{flatEvent}
-use Rattle.fast_mtc.proofs.SteadyLabels.{completes}
+use Rattle.fast_mtc.proofs.SteadyLabels.{words-complete}
 use borrow.Author.Needs.{needs}
 use Rattle.fast_mtc.proofs.report.keep.Statement.{statement}
 use Rattle.fast_mtc.proofs.report.keep.Tie as tie
@@ -51,7 +51,7 @@ flat-event-requires c κs = search needs
 returns : tie.Need-returns
 returns c =
     let past = c .before .before .before .before in
-    λ h. completes (past .before .before .before .before .before .before .before .args .r .now) (past .before .before .before .before .before .before .before .args .direction) (past .before .before .before .before .before .before .before .args .s) _ _ _ _ _ (past .before .before .before .before .before .has-words .ensures) (past .before .before .rate-mark .ensures .0) (past .before .label-word .ensures) (past .rate-mark2 .ensures .0) (c .before .before .before .label-word2 .ensures) ((c .flat-event .ensures) ∙ ap flatEvent (c .before .event .ensures) ∙ ap (λ (p : ℕ). flatEvent (eventWith p (Sequence (past .before .before .before .before .before .before .before .args .s)))) (c .before .before .last .ensures)) h
+    λ h. words-complete (past .before .before .before .before .before .before .before .args .r .now) (past .before .before .before .before .before .before .before .args .direction) (past .before .before .before .before .before .before .before .args .s) _ _ _ _ _ (past .before .before .before .before .before .has-words .ensures) (past .before .before .rate-mark .ensures .0) (past .before .label-word .ensures) (past .rate-mark2 .ensures .0) (c .before .before .before .label-word2 .ensures) ((c .flat-event .ensures) ∙ ap flatEvent (c .before .event .ensures) ∙ ap (λ (p : ℕ). flatEvent (eventWith p (Sequence (past .before .before .before .before .before .before .before .args .s)))) (c .before .before .last .ensures)) h
 
 pub keep-spec : {M : Type 1} → statement M
 keep-spec = tie.close (tie.spec has-words-requires element-write-r rate-mark-requires element-write-r-2 label-word-requires element-write-r-3 rate-mark-requires-2 element-write-r-4 label-word-requires-2 element-write-r-5 last-requires event-requires flat-event-requires returns)

@@ -5,8 +5,8 @@ use borrow.Author.Needs.{needs}
 use Rattle.fimbrast.proofs.message.fimbrast_user_bits_write.Statement.{statement}
 use Rattle.fimbrast.proofs.message.fimbrast_user_bits_write.Tie as tie
 
-bits-of-requires : tie.Need-bits-of-requires
-bits-of-requires c κs = search needs
+user-bits-of-requires : tie.Need-user-bits-of-requires
+user-bits-of-requires c κs = search needs
 
 write-requires : tie.Need-write-requires
 write-requires c κs = search needs
@@ -20,8 +20,8 @@ same-length c = search needs
 returns : tie.Need-returns
 returns c =
     let past = c .before .before .before .before .before in
-    (c .written-numbers .ensures ∙ ap writtenNumbers (rw (past .bits-of .ensures) at (c .before .before .before .write .ensures .0)), rw (past .bits-of .ensures) at (c .before .before .before .write .ensures .1))
+    (c .written-numbers .ensures ∙ ap writtenNumbers (rw (past .user-bits-of .ensures) at (c .before .before .before .write .ensures .0)), rw (past .user-bits-of .ensures) at (c .before .before .before .write .ensures .1))
 
 pub fimbrast-user-bits-write-spec : {M : Type 1} → statement M
 fimbrast-user-bits-write-spec =
-    tie.close (tie.spec bits-of-requires write-requires written-numbers-requires same-length returns)
+    tie.close (tie.spec user-bits-of-requires write-requires written-numbers-requires same-length returns)

@@ -1,10 +1,10 @@
 use borrow.Author.Needs.{needs}
 use Rattle.mmc.proofs.field.read.Statement.{statement}
 use Rattle.mmc.proofs.field.read.Tie as tie
-use Rattle.mmc.proofs.Reading.FieldTests.{long-name, no-code, code, no-short, short-code, zero-name, between-name, high-name}
+use Rattle.mmc.proofs.Reading.FieldTests.{field-long-name, no-code, code, no-short, short-code, zero-name, between-name, high-name}
 
 returns : tie.Need-returns
-returns c = long-name _ _ _ _ (c .if1 .taken)
+returns c = field-long-name _ _ _ _ (c .if1 .taken)
 
 shared-slice-read-byte : tie.Need-shared-slice-read-byte
 shared-slice-read-byte c = search needs

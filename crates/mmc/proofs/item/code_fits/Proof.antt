@@ -1,7 +1,7 @@
 use borrow.Author.Needs.{needs}
 use Rattle.mmc.proofs.item.code_fits.Statement.{statement}
 use Rattle.mmc.proofs.item.code_fits.Tie as tie
-use Rattle.mmc.proofs.Writing.ItemPuts.{name-unfit, form-told}
+use Rattle.mmc.proofs.Writing.ItemPuts.{code-name-unfit, form-told}
 use borrow.Author.Tests.{not-true, not-false}
 use mathlib.Core.Path.{_∙_, sym}
 
@@ -9,7 +9,7 @@ is-time-field-requires : tie.Need-is-time-field-requires
 is-time-field-requires c κs = search needs
 
 returns : tie.Need-returns
-returns c = name-unfit _ _ _ (sym (c .before .is-time-field .ensures) ∙ not-true _ (c .if1 .taken))
+returns c = code-name-unfit _ _ _ (sym (c .before .is-time-field .ensures) ∙ not-true _ (c .if1 .taken))
 
 form-fits-requires : tie.Need-form-fits-requires
 form-fits-requires c κs = search needs

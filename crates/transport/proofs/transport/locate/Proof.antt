@@ -4,7 +4,7 @@ use mathlib.Core.Bool.{false}
 use Rattle.mtc.specs.Generator.{withRunning}
 use Rattle.mtc.specs.declared.generator.MtcGenerator.{MtcGenerator}
 use Rattle.transport.specs.Transport.{finished, targetOf}
-use Rattle.transport.proofs.Acting.{located-so}
+use Rattle.transport.proofs.Acting.{locate-so}
 use borrow.Author.Needs.{needs}
 use Rattle.transport.proofs.transport.locate.Statement.{statement}
 use Rattle.transport.proofs.transport.locate.Tie as tie
@@ -30,10 +30,10 @@ enum-told c = search needs
 returns : tie.Need-returns
 returns c =
     let past = c .before .before .before .before in
-    located-so _ _ _ _ (sym (past .before .before .resolve .ensures) ∙ ap targetOf (past .time .given .1)) (c .done .ensures ∙ ap finished (c .before .set-running .ensures ∙ ap (λ (g : MtcGenerator). withRunning g false) (c .before .before .locate .ensures)))
+    locate-so _ _ _ _ (sym (past .before .before .resolve .ensures) ∙ ap targetOf (past .time .given .1)) (c .done .ensures ∙ ap finished (c .before .set-running .ensures ∙ ap (λ (g : MtcGenerator). withRunning g false) (c .before .before .locate .ensures)))
 
 returns-2 : tie.Need-returns-2
-returns-2 c = located-so _ _ _ _ (sym (c .before .before .resolve .ensures) ∙ ap targetOf (c .enum-told .given .1)) refl
+returns-2 c = locate-so _ _ _ _ (sym (c .before .before .resolve .ensures) ∙ ap targetOf (c .enum-told .given .1)) refl
 
 pub locate-spec : {M : Type 1} → statement M
 locate-spec =

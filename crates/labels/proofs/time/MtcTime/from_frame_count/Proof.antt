@@ -1,7 +1,7 @@
 -- `labels::time::MtcTime::from_frame_count` meets its contract. Assumes nothing.
 use mathlib.Core.Path.{_∙_}
 use native.Mathlib.Omega.{arith}
-use Rattle.labels.proofs.Counts.{digits-small}
+use Rattle.labels.proofs.Counts.{label-at-second-small}
 use Rattle.labels.proofs.Rates.{day-positive, fps-positive, day-rest, label-at}
 use borrow.Author.Needs.{needs}
 use Rattle.labels.proofs.time.MtcTime.from_frame_count.Statement.{statement}
@@ -29,7 +29,7 @@ rem-label-of : tie.Need-rem-label-of
 rem-label-of c = omega (arith, c .frames-per-second .ensures, fps-positive (c .before .before .before .args .rate))
 
 label-of-requires : tie.Need-label-of-requires
-label-of-requires c κs = digits-small _ _ _ _ (c .before .before .before .args .rate) (c .before .before .day .ensures) (c .before .with-skipped .ensures) (c .frames-per-second .ensures)
+label-of-requires c κs = label-at-second-small _ _ _ _ (c .before .before .before .args .rate) (c .before .before .day .ensures) (c .before .with-skipped .ensures) (c .frames-per-second .ensures)
 
 returns : tie.Need-returns
 returns c = c .label-of .ensures ∙ label-at _ _ _ _ (c .before .before .before .before .args .rate) (c .before .before .before .day .ensures) (c .before .before .with-skipped .ensures) (c .before .frames-per-second .ensures)

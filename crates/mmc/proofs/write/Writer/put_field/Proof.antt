@@ -1,7 +1,7 @@
 use borrow.Author.Needs.{needs}
 use Rattle.mmc.proofs.write.Writer.put_field.Statement.{statement}
 use Rattle.mmc.proofs.write.Writer.put_field.Tie as tie
-use Rattle.mmc.proofs.Writing.WriterCalls.{goes-on, ready-told, repeats, takes, fails, put-gives}
+use Rattle.mmc.proofs.Writing.WriterCalls.{writing-goes-on, ready-told, repeats, takes, fails, put-gives}
 use mathlib.Core.Path.{_∙_, sym, ap, refl}
 use native.Mathlib.Omega.{arith}
 use Rattle.mmc.specs.Named.{Extent, stopOf}
@@ -26,12 +26,12 @@ enum-told c = search needs
 put-field-requires : tie.Need-put-field-requires
 put-field-requires c κs =
     let past = c .before .before .before .before .before .before in
-    goes-on (writingOf (past .args .self)) (ready-told (writingOf (past .args .self)) (sym (c .before .before .before .ready .ensures) ∙ ap stopOf (c .before .enum-told .given .1)) .0) .1
+    writing-goes-on (writingOf (past .args .self)) (ready-told (writingOf (past .args .self)) (sym (c .before .before .before .ready .ensures) ∙ ap stopOf (c .before .enum-told .given .1)) .0) .1
 
 after-requires : tie.Need-after-requires
 after-requires c κs =
     let past = c .before .before .before .before in
-    omega (arith, goes-on (writingOf (past .before .before .before .before .before .args .self)) (ready-told (writingOf (past .before .before .before .before .before .args .self)) (sym (past .before .before .ready .ensures) ∙ ap stopOf (past .enum-told .given .1)) .0), ready-told (writingOf (past .before .before .before .before .before .args .self)) (sym (past .before .before .ready .ensures) ∙ ap stopOf (past .enum-told .given .1)) .1, ap (λ (o : Extent). o .len) (c .before .before .put-field .ensures .0), field-small (past .before .before .before .before .before .args .source .now) (past .before .before .before .before .before .args .field))
+    omega (arith, writing-goes-on (writingOf (past .before .before .before .before .before .args .self)) (ready-told (writingOf (past .before .before .before .before .before .args .self)) (sym (past .before .before .ready .ensures) ∙ ap stopOf (past .enum-told .given .1)) .0), ready-told (writingOf (past .before .before .before .before .before .args .self)) (sym (past .before .before .ready .ensures) ∙ ap stopOf (past .enum-told .given .1)) .1, ap (λ (o : Extent). o .len) (c .before .before .put-field .ensures .0), field-small (past .before .before .before .before .before .args .source .now) (past .before .before .before .before .before .args .field))
 
 same-length : tie.Need-same-length
 same-length c = search needs

@@ -1,7 +1,7 @@
 use borrow.Author.Needs.{needs}
 use Rattle.mmc.proofs.write.Writer.ready.Statement.{statement}
 use Rattle.mmc.proofs.write.Writer.ready.Tie as tie
-use Rattle.mmc.proofs.Writing.WriterCalls.{goes-on, under-256, ready-kept, ready-failed, ready-full, ready-on}
+use Rattle.mmc.proofs.Writing.WriterCalls.{writing-goes-on, under-256, ready-kept, ready-failed, ready-full, ready-on}
 use Rattle.mmc.specs.Named.{stopOf}
 use Rattle.mmc.specs.Write.{writingOf}
 use mathlib.Core.Path.{_∙_, sym, ap}
@@ -27,7 +27,7 @@ returns-3 c = ready-full _ (sym (c .before .before .before .before .or-failed .e
 returns-4 : tie.Need-returns-4
 returns-4 c =
     let past = c .before .before .before .before in
-    ready-on _ (sym (past .or-failed .ensures) ∙ ap stopOf (c .before .before .enum-told .given .1)) (under-256 _ (goes-on (writingOf (past .before .before .before .args .self)) (sym (past .or-failed .ensures) ∙ ap stopOf (c .before .before .enum-told .given .1)) .0) (c .if3 .left))
+    ready-on _ (sym (past .or-failed .ensures) ∙ ap stopOf (c .before .before .enum-told .given .1)) (under-256 _ (writing-goes-on (writingOf (past .before .before .before .args .self)) (sym (past .or-failed .ensures) ∙ ap stopOf (c .before .before .enum-told .given .1)) .0) (c .if3 .left))
 
 pub ready-spec : {M : Type 1} → statement M
 ready-spec =

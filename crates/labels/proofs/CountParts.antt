@@ -1,5 +1,5 @@
--- What the faster forms of upper crates rest on: labels by their numbers, a drop-frame label by the parts of its count, and frames on in
--- the same second. Assumes nothing.
+-- Labels by the parts of their counts: by their numbers, a drop-frame label by tens of minutes, and frames on in the same second. The
+-- faster forms of upper crates rest on these. Assumes nothing.
 use Prim.Native.Nat.{ℕ, _+_, _*_, _/_, _%_, _≤_, _<_}
 use mathlib.Core.Path.{_≡_, refl, sym, subst, ap, ap₂, _∙_}
 use mathlib.Core.Bool.{Bool, true, false, _&&_}
