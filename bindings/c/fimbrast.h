@@ -47,7 +47,7 @@ enum {
 
 /* An answer that is no refusal: the message is of another kind, or it is for another device. */
 #define FIMBRAST_NOT_THIS 255
-/* No piece, and no direction. */
+/* No piece, or no direction. */
 #define FIMBRAST_NONE 255
 #define FIMBRAST_FORWARD 0
 #define FIMBRAST_REVERSE 1
@@ -59,7 +59,7 @@ uint32_t fimbrast_version(void);
 /* The same under a name that has the version. A program refers to it, so that an archive of another version does not link. */
 uint32_t fimbrast_version_0_2_0(void);
 
-/* The archive must be of this version: where it is not, the linker misses this call. Kept where sections are collected, too. */
+/* The archive must be of this version: where it is not, the linker misses this call. `retain` keeps it where the linker drops unused sections. */
 #if defined(__has_attribute)
 #if __has_attribute(retain)
 __attribute__((retain))
@@ -112,7 +112,7 @@ fimbrast_eight_bytes fimbrast_pieces(fimbrast_time time);
 
 /* ---- The quarter frame generator */
 
-/* A generator. Direction 0 is forward, any other reverse. A last piece above 7 is none. */
+/* A generator. Direction 0 is forward, any other reverse. A last piece above 7 is none, and an answer has 255 for it. */
 typedef struct {
     fimbrast_time time;
     uint8_t direction;
@@ -120,7 +120,7 @@ typedef struct {
     bool running;
 } fimbrast_generator;
 
-/* A data byte, or a refusal and 0. */
+/* Refusal 0 and a data byte, or a refusal and byte 0. */
 typedef struct {
     uint8_t refusal;
     uint8_t byte;
@@ -200,7 +200,7 @@ fimbrast_reader fimbrast_reader_new(void);
 fimbrast_event fimbrast_receive(fimbrast_reader *reader, uint8_t byte);
 /* `MtcReader::full_message`, with the message's time: the reader is then stopped at it. */
 void fimbrast_reader_full_message(fimbrast_reader *reader, fimbrast_time time);
-/* `MtcReader::is_locked`: true after a full sequence, until a broken order or a turn. */
+/* `MtcReader::is_locked`: true after a full sequence, until a broken order, a turn or a full message. */
 bool fimbrast_is_locked(fimbrast_reader reader);
 /* `MtcReader::is_running`: true after a data byte, false after a full message. */
 bool fimbrast_is_running(fimbrast_reader reader);
@@ -417,7 +417,7 @@ typedef struct {
     size_t length;
 } fimbrast_part;
 
-/* One command. The kinds 0 to 13 are the cases of `MmcCommand` in their order; a kind above 13 is taken as 13. What a kind does not
+/* One command. The kinds are FIMBRAST_STOP, 0, to FIMBRAST_OTHER_COMMAND, 13; a kind above 13 is taken as 13. What a kind does not
  * use is 0 in an answer, and is not read in an argument. */
 typedef struct {
     uint8_t kind;
@@ -437,7 +437,7 @@ typedef struct {
 } fimbrast_next_command_answer;
 
 /* A command or a refusal as one number, which comes back in registers, and the place to read on from. The number's lowest byte is the
- * kind of the command, 0 to 13, or 128 and the refusal's number. The bytes above it are, the lowest first:
+ * kind of the command, 0 to 13, or 128 plus the refusal's number. The bytes above it are, the lowest first:
  *    9 Write              0 and the length of the data
  *   10 Locate, register   the register
  *   11 Locate, target     hours, minutes, seconds, frames, the last byte, and two bytes of marks: bits 0 and 1 are the rate, 3 the
@@ -451,7 +451,7 @@ typedef struct {
     size_t place;
 } fimbrast_next_word_answer;
 
-/* One information field. The kinds 0 to 2 are the cases of `InfoField` in their order; a kind above 2 is taken as 2. What a kind does
+/* One information field. The kinds are FIMBRAST_TIME_CODE, 0, to FIMBRAST_OTHER_FIELD, 2; a kind above 2 is taken as 2. What a kind does
  * not use is 0 in an answer, and is not read in an argument. */
 typedef struct {
     uint8_t kind;
@@ -469,11 +469,11 @@ typedef struct {
     size_t place;
 } fimbrast_next_field_answer;
 
-/* The next of `Commands`: the command at a place of the string. */
+/* The next of `Commands`: the command at a place of a message's data, 0 at first and then the place that came back. */
 fimbrast_next_command_answer fimbrast_next_command(const uint8_t *body, size_t body_length, size_t place);
 /* The same as one number: its record says how it is made. */
 fimbrast_next_word_answer fimbrast_next_word(const uint8_t *body, size_t body_length, size_t place);
-/* The next of `InfoFields`: the field at a place of the string. */
+/* The next of `InfoFields`: the field at a place of a string of fields, likewise. */
 fimbrast_next_field_answer fimbrast_next_field(const uint8_t *body, size_t body_length, size_t place);
 
 /* ---- Writing a string: opened, given its items one at a time, and closed, with one buffer throughout, left alone between the calls */
@@ -486,7 +486,7 @@ typedef uint64_t fimbrast_writer;
 fimbrast_writer fimbrast_open_commands(uint8_t *out, size_t out_length, uint8_t device_id);
 /* `write_responses` opens: F0H, 7FH, the device, 07H. */
 fimbrast_writer fimbrast_open_responses(uint8_t *out, size_t out_length, uint8_t device_id);
-/* `write_info_fields` opens; nothing goes out of it. */
+/* `write_info_fields` opens: it has no envelope, and no byte is put. */
 fimbrast_writer fimbrast_open_fields(void);
 /* Any command by its record; its name and data are parts of the source. */
 fimbrast_writer fimbrast_put_command(fimbrast_writer writer, uint8_t *out, size_t out_length, const uint8_t *source,
@@ -505,10 +505,10 @@ fimbrast_writer fimbrast_put_field(fimbrast_writer writer, uint8_t *out, size_t 
                                    size_t source_length, fimbrast_field field);
 /* `write_commands` and `write_responses` close: F7H. */
 fimbrast_written fimbrast_close_message(fimbrast_writer writer, uint8_t *out, size_t out_length);
-/* `write_info_fields` closes; nothing goes out of it. */
+/* `write_info_fields` closes: no byte is put, and the answer is the length. */
 fimbrast_written fimbrast_close_fields(fimbrast_writer writer, const uint8_t *out, size_t out_length);
 /* `write_commands` in one call: opened, given a command for each word, closed. A word is what `fimbrast_next_word` gives for a name
- * alone (the kinds 0 to 8), a Locate (10 and 11) or a Move (12), with all bits of each byte. Any other number, one of a Write or of
+ * alone (the kinds 0 to 8), a Locate (10 and 11) or a Move (12). Each byte counts with all its bits: hours 40 are refused with 3. Any other number, one of a Write or of
  * another command too, is refused with 3, and nothing goes out of it. */
 fimbrast_written fimbrast_write_words(uint8_t *out, size_t out_length, uint8_t device_id, const uint64_t *words,
                                       size_t words_length);

@@ -66,9 +66,14 @@ impl Library {
             }
         }
         for alias in file.aliases {
-            self.aliases.insert(alias.name.clone(), alias);
+            if let Some(other) = self.aliases.insert(alias.name.clone(), alias) {
+                return Err(format!("there are two types {}", other.name));
+            }
         }
-        if of == CRATE && !file.calls.is_empty() {
+        if let (true, Some(call)) = (of != CRATE, file.calls.first()) {
+            return Err(format!("{of} exports {}, and only {CRATE} may", call.name));
+        }
+        if !file.calls.is_empty() {
             let name = path.file_stem().unwrap_or_default();
             self.modules.push(Module {
                 name: name.to_string_lossy().into_owned(),
@@ -89,7 +94,13 @@ impl Library {
         if names.is_empty() {
             return Err(format!("crates/{CRATE}/src exports no call"));
         }
+        if let Some(both) = self.aliases.keys().find(|n| self.records.contains_key(*n)) {
+            return Err(format!("{both} is a record and another type too"));
+        }
         for call in self.calls() {
+            if call.notes.is_empty() {
+                return Err(format!("{} has no comment right over it", call.name));
+            }
             self.used_by(call)?;
         }
         Ok(self)
@@ -158,6 +169,9 @@ impl Library {
             Type::Named(name) => {
                 match self.declared(name)? {
                     Declared::Record(record) => {
+                        if record.notes.is_empty() {
+                            return Err(format!("{name} has no comment right over it"));
+                        }
                         for field in &record.fields {
                             let why = |w| format!("{name}, {}: {w}", field.name);
                             self.add(&field.kind, used).map_err(why)?;

@@ -2,7 +2,8 @@
 //!
 //! It reads the exported calls of `crates/fimbrast/src`, the records and numbers that they pass, the refusals of
 //! `crates/universal/src/error.rt` and the version in `bindings/rust/Cargo.toml`, all under ROOT. Under OUT it writes the header,
-//! the Rust declarations, where the fields of the records lie, and the Rattle files that have the version. What it does not understand it refuses, and writes nothing.
+//! the Rust declarations, where the fields of the records lie, and the Rattle files that have the version. What it does not
+//! understand it refuses, and writes nothing.
 
 mod header;
 mod layout;

@@ -10,6 +10,12 @@ use crate::version::Version;
 /// The module whose calls take and give labels as the crate's own type: a rate that they answer is proved to be 0 to 3, and no
 /// label has to be taken apart for them.
 const LABELS: &str = "time";
+/// Those of them that answer a label. Another one is refused until somebody has seen that its contract keeps the rate at 0 to 3.
+const LABEL_ANSWERS: [&str; 3] = [
+    "fimbrast_next_valid",
+    "fimbrast_from_frame_count",
+    "fimbrast_add_frames",
+];
 const LABEL: (&str, &str) = ("FlatTime", "MtcTime");
 
 /// The longest line, and the longest list of what a call is given.
@@ -133,6 +139,11 @@ fn value_text(module: &Module, name: &str) -> String {
     }
 }
 
+/// The call answers a label.
+fn gives_label(call: &Call) -> bool {
+    matches!(&call.answer, Some(Type::Named(name)) if name == LABEL.0)
+}
+
 type Writer = fn(&Library, &Module, &Call) -> Result<String, String>;
 
 /// What `writer` makes of every call.
@@ -140,6 +151,15 @@ fn each(library: &Library, writer: Writer) -> Result<String, String> {
     let mut text = String::new();
     for module in &library.modules {
         for call in &module.calls {
+            if module.name == LABELS
+                && gives_label(call)
+                && !LABEL_ANSWERS.contains(&call.name.as_str())
+            {
+                return Err(format!(
+                    "{} answers a label: is its rate 0 to 3? If so, add it to LABEL_ANSWERS",
+                    call.name
+                ));
+            }
             let made = writer(library, module, call);
             text.push_str(&made.map_err(|w| format!("{}: {w}", call.name))?);
         }
@@ -271,8 +291,8 @@ mod tests {
     use super::*;
     use crate::library::of;
 
-    const CALL: &str = "// Parts.\n\n#[repr(C)]\npub struct FlatPlace {\n    pub bytes: [u8; 4],\n}\n\n// Reads.\n#[no_mangle]\n\
-         pub extern \"C\" fn fimbrast_read(place: &[u8; 4], data: &[u8]) -> FlatPlace\n{\n}\n\n#[no_mangle]\n\
+    const CALL: &str = "// Parts.\n\n// A place.\n#[repr(C)]\npub struct FlatPlace {\n    pub bytes: [u8; 4],\n}\n\n// Reads.\n#[no_mangle]\n\
+         pub extern \"C\" fn fimbrast_read(place: &[u8; 4], data: &[u8]) -> FlatPlace\n{\n}\n\n// A fresh one.\n#[no_mangle]\n\
          pub extern \"C\" fn fimbrast_fresh() -> FlatPlace\n{\n";
 
     #[test]
@@ -287,6 +307,17 @@ mod tests {
         assert!(lent.contains("pub fn read(place: &Place, data: &[u8]) -> Place {"));
         assert!(lent.contains("unsafe { fimbrast_read(place, data.as_ptr(), data.len()) }"));
         assert!(!lent.contains("fresh"));
+    }
+
+    #[test]
+    fn a_label_that_nobody_has_looked_at_is_refused() {
+        let text = "// Labels.\n\n// A label.\n#[repr(C)]\npub struct FlatTime {\n    pub rate: u8,\n}\n\n// Another.\n#[no_mangle]\n\
+             pub extern \"C\" fn fimbrast_another() -> FlatTime\n{\n";
+        let mut library = of(text).unwrap();
+        assert!(each(&library, declaration).is_ok());
+        library.modules[0].name = LABELS.to_string();
+        let why = each(&library, declaration).unwrap_err();
+        assert!(why.starts_with("fimbrast_another answers a label"));
     }
 
     #[test]

@@ -1,7 +1,7 @@
 //! The library's records and calls, as `fimbrast.h` declares them. `make write-bindings` makes this file from the Rattle source.
 //!
 //! A call on values, or on a record behind a reference, is declared safe: it is total, keeps nothing, and any record may be given to
-//! it. What comes back is proved: a `bool` is 0 or 1, and a rate 0 to 3. So the calls on labels take and give the crate's own type.
+//! it. What comes back by value is proved: a `bool` is 0 or 1, and a rate 0 to 3. So the calls on labels take and give the crate's own type.
 //! A call on lent bytes has one beside it that takes slices; the library stays inside them and keeps none.
 
 #[cfg(test)]

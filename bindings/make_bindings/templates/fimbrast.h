@@ -36,14 +36,14 @@ extern "C" {
 
 /* An answer that is no refusal: the message is of another kind, or it is for another device. */
 #define FIMBRAST_NOT_THIS 255
-/* No piece, and no direction. */
+/* No piece, or no direction. */
 #define FIMBRAST_NONE 255
 #define FIMBRAST_FORWARD 0
 #define FIMBRAST_REVERSE 1
 
 @module version
 
-/* The archive must be of this version: where it is not, the linker misses this call. Kept where sections are collected, too. */
+/* The archive must be of this version: where it is not, the linker misses this call. `retain` keeps it where the linker drops unused sections. */
 #if defined(__has_attribute)
 #if __has_attribute(retain)
 __attribute__((retain))

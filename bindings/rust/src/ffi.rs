@@ -1,7 +1,7 @@
 //! The library's records and calls, as `fimbrast.h` declares them. `make write-bindings` makes this file from the Rattle source.
 //!
 //! A call on values, or on a record behind a reference, is declared safe: it is total, keeps nothing, and any record may be given to
-//! it. What comes back is proved: a `bool` is 0 or 1, and a rate 0 to 3. So the calls on labels take and give the crate's own type.
+//! it. What comes back by value is proved: a `bool` is 0 or 1, and a rate 0 to 3. So the calls on labels take and give the crate's own type.
 //! A call on lent bytes has one beside it that takes slices; the library stays inside them and keeps none.
 
 #[cfg(test)]
@@ -74,7 +74,7 @@ pub struct Time {
     pub rate: u8,
 }
 
-/// A generator. Direction 0 is forward, any other reverse. A last piece above 7 is none.
+/// A generator. Direction 0 is forward, any other reverse. A last piece above 7 is none, and an answer has 255 for it.
 #[derive(Debug, Clone, Copy, PartialEq, Eq, Default)]
 #[repr(C)]
 pub struct Generator {
@@ -104,7 +104,7 @@ pub struct Part {
     pub length: usize,
 }
 
-/// One command. The kinds 0 to 13 are the cases of `MmcCommand` in their order; a kind above 13 is taken as 13. What a kind does not
+/// One command. The kinds are FIMBRAST_STOP, 0, to FIMBRAST_OTHER_COMMAND, 13; a kind above 13 is taken as 13. What a kind does not
 /// use is 0 in an answer, and is not read in an argument.
 #[derive(Debug, Clone, Copy, PartialEq, Eq, Default)]
 #[repr(C)]
@@ -197,7 +197,7 @@ pub struct Reader {
     pub words: [u32; 15],
 }
 
-/// A data byte, or a refusal and 0.
+/// Refusal 0 and a data byte, or a refusal and byte 0.
 #[derive(Debug, Clone, Copy, PartialEq, Eq, Default)]
 #[repr(C)]
 pub struct Next {
@@ -336,7 +336,7 @@ pub struct NextCommand {
 }
 
 /// A command or a refusal as one number, which comes back in registers, and the place to read on from. The number's lowest byte is the
-/// kind of the command, 0 to 13, or 128 and the refusal's number. The bytes above it are, the lowest first:
+/// kind of the command, 0 to 13, or 128 plus the refusal's number. The bytes above it are, the lowest first:
 ///    9 Write              0 and the length of the data
 ///   10 Locate, register   the register
 ///   11 Locate, target     hours, minutes, seconds, frames, the last byte, and two bytes of marks: bits 0 and 1 are the rate, 3 the
@@ -352,7 +352,7 @@ pub struct NextWord {
     pub place: usize,
 }
 
-/// One information field. The kinds 0 to 2 are the cases of `InfoField` in their order; a kind above 2 is taken as 2. What a kind does
+/// One information field. The kinds are FIMBRAST_TIME_CODE, 0, to FIMBRAST_OTHER_FIELD, 2; a kind above 2 is taken as 2. What a kind does
 /// not use is 0 in an answer, and is not read in an argument.
 #[derive(Debug, Clone, Copy, PartialEq, Eq, Default)]
 #[repr(C)]
@@ -549,7 +549,7 @@ unsafe extern "C" {
     pub safe fn fimbrast_receive(reader: &mut Reader, byte: u8) -> Event;
     /// `MtcReader::full_message`, with the message's time: the reader is then stopped at it.
     pub safe fn fimbrast_reader_full_message(reader: &mut Reader, time: Time);
-    /// `MtcReader::is_locked`: true after a full sequence, until a broken order or a turn.
+    /// `MtcReader::is_locked`: true after a full sequence, until a broken order, a turn or a full message.
     pub safe fn fimbrast_is_locked(reader: Reader) -> bool;
     /// `MtcReader::is_running`: true after a data byte, false after a full message.
     pub safe fn fimbrast_is_running(reader: Reader) -> bool;
@@ -562,11 +562,11 @@ unsafe extern "C" {
     /// The report of a number with the labels of the reader that it left, before the reader gets anything more. It is none where the
     /// number's lowest bit is 0.
     pub safe fn fimbrast_report_parts(reader: Reader, report: Report) -> MaybeSequence;
-    /// The next of `Commands`: the command at a place of the string.
+    /// The next of `Commands`: the command at a place of a message's data, 0 at first and then the place that came back.
     pub fn fimbrast_next_command(body: *const u8, body_length: usize, place: usize) -> NextCommand;
     /// The same as one number: its record says how it is made.
     pub fn fimbrast_next_word(body: *const u8, body_length: usize, place: usize) -> NextWord;
-    /// The next of `InfoFields`: the field at a place of the string.
+    /// The next of `InfoFields`: the field at a place of a string of fields, likewise.
     pub fn fimbrast_next_field(body: *const u8, body_length: usize, place: usize) -> NextField;
     /// The frames of a counting second: 24, 25 or 30.
     pub safe fn fimbrast_frames_per_second(rate: u8) -> u8;
@@ -596,7 +596,7 @@ unsafe extern "C" {
     pub fn fimbrast_open_commands(out: *mut u8, out_length: usize, device_id: u8) -> Writer;
     /// `write_responses` opens: F0H, 7FH, the device, 07H.
     pub fn fimbrast_open_responses(out: *mut u8, out_length: usize, device_id: u8) -> Writer;
-    /// `write_info_fields` opens; nothing goes out of it.
+    /// `write_info_fields` opens: it has no envelope, and no byte is put.
     pub safe fn fimbrast_open_fields() -> Writer;
     /// Any command by its record; its name and data are parts of the source.
     pub fn fimbrast_put_command(
@@ -639,10 +639,10 @@ unsafe extern "C" {
     ) -> Writer;
     /// `write_commands` and `write_responses` close: F7H.
     pub fn fimbrast_close_message(writer: Writer, out: *mut u8, out_length: usize) -> Written;
-    /// `write_info_fields` closes; nothing goes out of it.
+    /// `write_info_fields` closes: no byte is put, and the answer is the length.
     pub fn fimbrast_close_fields(writer: Writer, out: *const u8, out_length: usize) -> Written;
     /// `write_commands` in one call: opened, given a command for each word, closed. A word is what `fimbrast_next_word` gives for a name
-    /// alone (the kinds 0 to 8), a Locate (10 and 11) or a Move (12), with all bits of each byte. Any other number, one of a Write or of
+    /// alone (the kinds 0 to 8), a Locate (10 and 11) or a Move (12). Each byte counts with all its bits: hours 40 are refused with 3. Any other number, one of a Write or of
     /// another command too, is refused with 3, and nothing goes out of it.
     pub fn fimbrast_write_words(
         out: *mut u8,
@@ -725,7 +725,7 @@ pub fn obey(generator: Generator, device_id: u8, own: u8, body: &[u8]) -> Run {
     unsafe { fimbrast_obey(generator, device_id, own, body.as_ptr(), body.len()) }
 }
 
-/// The next of `Commands`: the command at a place of the string.
+/// The next of `Commands`: the command at a place of a message's data, 0 at first and then the place that came back.
 #[inline]
 pub fn next_command(body: &[u8], place: usize) -> NextCommand {
     // SAFETY: each pointer and length are those of a live slice, and what is written is borrowed alone.
@@ -739,7 +739,7 @@ pub fn next_word(body: &[u8], place: usize) -> NextWord {
     unsafe { fimbrast_next_word(body.as_ptr(), body.len(), place) }
 }
 
-/// The next of `InfoFields`: the field at a place of the string.
+/// The next of `InfoFields`: the field at a place of a string of fields, likewise.
 #[inline]
 pub fn next_field(body: &[u8], place: usize) -> NextField {
     // SAFETY: each pointer and length are those of a live slice, and what is written is borrowed alone.
@@ -845,7 +845,7 @@ pub fn close_message(writer: Writer, out: &mut [u8]) -> Written {
     unsafe { fimbrast_close_message(writer, out.as_mut_ptr(), out.len()) }
 }
 
-/// `write_info_fields` closes; nothing goes out of it.
+/// `write_info_fields` closes: no byte is put, and the answer is the length.
 #[inline]
 pub fn close_fields(writer: Writer, out: &[u8]) -> Written {
     // SAFETY: each pointer and length are those of a live slice, and what is written is borrowed alone.
@@ -853,7 +853,7 @@ pub fn close_fields(writer: Writer, out: &[u8]) -> Written {
 }
 
 /// `write_commands` in one call: opened, given a command for each word, closed. A word is what `fimbrast_next_word` gives for a name
-/// alone (the kinds 0 to 8), a Locate (10 and 11) or a Move (12), with all bits of each byte. Any other number, one of a Write or of
+/// alone (the kinds 0 to 8), a Locate (10 and 11) or a Move (12). Each byte counts with all its bits: hours 40 are refused with 3. Any other number, one of a Write or of
 /// another command too, is refused with 3, and nothing goes out of it.
 #[inline]
 pub fn write_words(out: &mut [u8], device_id: u8, words: &[u64]) -> Written {
