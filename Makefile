@@ -5,7 +5,7 @@ OLD ?= ../shared/docs/src/crates/zmidi-sysex/src
 export OLD
 
 CARGO = cargo
-COMPARE = compare/target/release/compare
+COMPARE = $(or $(CARGO_TARGET_DIR),compare/target)/release/compare
 C_FLAGS = -std=c11 -Wall -Wextra -Wpedantic -Werror -O2
 ARCHIVE = target/staticlib/libfimbrast.a
 
@@ -16,13 +16,12 @@ ARCHIVE_SOURCES := crates.txt $(shell find $(wildcard $(ARCHIVE_CRATES:=/src) $(
 # FIMBRAST_LIB names another folder that has an archive; then none is built for the Rust parts.
 LINKED = $(if $(FIMBRAST_LIB),,$(ARCHIVE))
 
-# The files that bindings/make_bindings makes from the Rattle source and the version in bindings/rust/Cargo.toml.
-MADE = bindings/c/fimbrast.h bindings/c/layout.c bindings/c/layout.out bindings/rust/src/ffi.rs crates/fimbrast/src/version.rt \
-  crates/fimbrast/specs/Version.antt
+# The program that makes files from the Rattle source and the version in bindings/rust/Cargo.toml.
 MAKE_BINDINGS = --offline --quiet --manifest-path bindings/make_bindings/Cargo.toml
 
 PART ?= mtc
 
+.NOTPARALLEL:
 .PHONY: test part run prove words library bindings bindings-made write-bindings c-example compare compare-long bench after-proof
 
 test: prove after-proof
@@ -43,7 +42,7 @@ prove:
 	  grep -Eq "^[[:space:]]*$$n[[:space:]]*:" crates.txt || { echo "crates/$$n is not in crates.txt"; exit 1; }; done
 	@rt fmt --check
 	@log=$$(mktemp) && { rt ci 2>&1 | tee "$$log"; } && mkdir -p target && mv "$$log" target/gate.log
-	@tail -n 1 target/gate.log | grep -Eq '^[0-9]+ passed, 0 failed$$'
+	@tail -n 1 target/gate.log | grep -Eq '^[1-9][0-9]* passed, 0 failed$$'
 
 # The library for C and Rust, and what it answers there; where cargo or the published Rust is missing, a line says what was left out.
 after-proof:
@@ -62,30 +61,31 @@ words:
 library: $(ARCHIVE)
 	@echo "$(ARCHIVE) is made of the sources as they are"
 
+# It is as old as the moment when its making began: a source that moves meanwhile is newer.
 $(ARCHIVE): $(ARCHIVE_SOURCES)
-	@mkdir -p target && { rt staticlib fimbrast > target/staticlib.log 2>&1 || \
+	@mkdir -p target && touch target/staticlib.begun && { rt staticlib fimbrast > target/staticlib.log 2>&1 || \
 	  { tail -n 20 target/staticlib.log >&2; echo "$(ARCHIVE) could not be made" >&2; exit 1; }; }
-	@touch $(ARCHIVE)
+	@touch -r target/staticlib.begun $(ARCHIVE)
 
 # The example and the header's layout, compiled without a warning, print what they should.
 c-example: $(ARCHIVE)
 	@mkdir -p target/c
 	@for p in example layout; do \
 	  $(CC) $(C_FLAGS) bindings/c/$$p.c -Ibindings/c $(ARCHIVE) -o target/c/$$p && \
-	  target/c/$$p | diff - bindings/c/$$p.out || exit 1; done; echo "bindings/c: example and layout as expected"
+	  target/c/$$p > target/c/$$p.out && diff target/c/$$p.out bindings/c/$$p.out || exit 1; done; echo "bindings/c: example and layout as expected"
 
 # What C and Rust are told of the library is what its source says: the made files are those that would be made now.
 bindings-made:
 	@$(CARGO) test $(MAKE_BINDINGS)
-	@$(CARGO) run $(MAKE_BINDINGS) -- . target/made
-	@for f in $(MADE); do diff -u $$f target/made/$$f || \
+	@rm -rf target/made && $(CARGO) run $(MAKE_BINDINGS) -- . target/made
+	@for f in $$(cd target/made && find * -type f); do diff -u $$f target/made/$$f || \
 	  { echo "$$f is not what the source makes: run \`make write-bindings\` and commit what it writes"; exit 1; }; done
 	@echo "bindings: the made files are those of the source"
 
 # Makes them anew, and tells cargo of the version.
 write-bindings:
 	@$(CARGO) run $(MAKE_BINDINGS) -- . .
-	@for d in bindings/rust bench compare; do $(CARGO) update --offline --quiet --package fimbrast --manifest-path $$d/Cargo.toml; done
+	@for d in bindings/rust bench compare; do $(CARGO) update --offline --quiet --package fimbrast --manifest-path $$d/Cargo.toml || exit 1; done
 
 # The tests of the Rust crate over the library.
 bindings: $(LINKED)
