@@ -7,8 +7,9 @@ pub const CODE: &str = "crates/fimbrast/src/version.rt";
 /// The definition that they are proved by.
 pub const DEFINITION: &str = "crates/fimbrast/specs/Version.antt";
 
-const CODE_TEXT: &str = include_str!("../templates/version.rt");
-const DEFINITION_TEXT: &str = include_str!("../templates/Version.antt");
+/// Their templates do not end as Rattle's files do: rt asks for a proof of each of those.
+const CODE_TEXT: &str = include_str!("../templates/version.code");
+const DEFINITION_TEXT: &str = include_str!("../templates/version.definition");
 
 /// The three numbers of a version.
 #[derive(Debug, Clone, Copy, PartialEq, Eq)]
