@@ -19,7 +19,7 @@ exec(open(os.path.join(os.path.dirname(os.path.realpath(__file__)), "spell_names
 TOKEN = re.compile(r"[^\s(){};,.\"@«»\\]+")
 DECLARED = re.compile(r"^ *(?:(?:abbrev|unfoldable|pub|ruleset) +)*([^\s:(){}=]+) *:(?= |$)", re.M)
 USE = re.compile(r"\buse ([^\s;{]+?)(?:\.?\{([^}]*)\})?(?: as ([^\s;]+))?;?$", re.M)
-FUNCTION = re.compile(r"/proofs/(?:.*/)?(?:Proof|Answers|Invariants)\.antt$")
+FUNCTION = re.compile(r"/proofs/(?:.*/)?Proof\.antt$")
 
 
 def is_odd(name):
@@ -80,7 +80,10 @@ def imports(text, mine):
 
 
 def rename_files():
-    """No file of specs/ may be called Contracts: those are Clauses."""
+    """No file of specs/ may be called Contracts: those are Clauses. A file of proofs/ called Answers is a function's: codes has another."""
+    at = os.path.join(ROOT, "crates/codes/proofs/Answers.antt")
+    if os.path.exists(at):
+        os.rename(at, at.replace("Answers", "CodeAnswers"))
     for crate in sorted(os.listdir(os.path.join(ROOT, "crates"))):
         at = os.path.join(ROOT, "crates", crate, "specs", "Contracts.antt")
         if os.path.exists(at):
@@ -88,6 +91,7 @@ def rename_files():
     for p in texts():
         t = open(p, encoding="utf-8").read()
         new = re.sub(r"(?<=\.specs\.)Contracts\b|(?<=^pub mod )Contracts$", "Clauses", t, flags=re.M)
+        new = re.sub(r"(?<=codes\.proofs\.)Answers\b|(?<=^mod )Answers$|(?<=^pub mod )Answers$", "CodeAnswers", new, flags=re.M)
         if new != t:
             open(p, "w", encoding="utf-8").write(new)
 

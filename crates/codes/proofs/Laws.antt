@@ -31,7 +31,7 @@ use Rattle.codes.proofs.WrittenAgain
 -- A byte's fields, read and written again.
 pub use Rattle.codes.proofs.WrittenAgain.{hours_again, six_again, frames_again}
 use Rattle.universal.proofs.Tests.{and_parts, and_first, and_second, and_all}
-use Rattle.codes.proofs.Answers.{answer-same}
+use Rattle.codes.proofs.CodeAnswers.{answer_same}
 use Rattle.codes.proofs.BeyondPage
 use Rattle.codes.proofs.Names
 use Rattle.codes.proofs.ReadByPage
@@ -120,7 +120,7 @@ fits_by_page = BeyondPage.fits_zeroed
 pub answer_by_page : (c : StandardTimeCode)
     → standard_bytes c ≡ cond (page.allowed (zeroed c)) (gives (page.written (zeroed c))) (refused (refusal 3))
 answer_by_page c =
-    answer-same (standard_fits c) (page.allowed (zeroed c)) _ _ (refusal 3) (fits_by_page c) (AcceptedCodes.standard_page c)
+    answer_same (standard_fits c) (page.allowed (zeroed c)) _ _ (refusal 3) (fits_by_page c) (AcceptedCodes.standard_page c)
 
 -- A code that the page has is the same with zeros for a blank label.
 pub zeroed_same : (c : StandardTimeCode) → page.allowed c ≡ true → zeroed c ≡ c
@@ -145,7 +145,7 @@ short_fits_by_page = BeyondPage.short_fits_30
 pub short_answer_by_page : (c : ShortTimeCode)
     → short_bytes c ≡ cond (page.short_allowed Fps30 c) (gives (page.short_written c)) (refused (refusal 3))
 short_answer_by_page c =
-    answer-same (short_fits c) (page.short_allowed Fps30 c) _ _ (refusal 3) (short_fits_by_page c) (λ _. AcceptedCodes.short_page c)
+    answer_same (short_fits c) (page.short_allowed Fps30 c) _ _ (refusal 3) (short_fits_by_page c) (λ _. AcceptedCodes.short_page c)
 
 module _ (r : TimeCodeType) (c : ShortTimeCode) where
   -- So a code that the page has at some rate is answered with the page's bytes.

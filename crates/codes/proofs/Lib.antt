@@ -1,5 +1,5 @@
 mod AcceptedCodes
-mod Answers
+mod CodeAnswers
 mod BeyondPage
 mod Bits
 mod Forms

@@ -15,7 +15,7 @@ use Rattle.labels.specs.declared.time.MtcTime.{MtcTime}
 use Rattle.labels.proofs.Laws.{Widths, valid_widths}
 use Rattle.universal.specs.Refusals.{gives, refused, refusal}
 use Rattle.universal.proofs.Tests.{and_first, and_second, and_all, true_holds}
-use Rattle.codes.proofs.Answers.{bytes-refused, bytes-given}
+use Rattle.codes.proofs.CodeAnswers.{bytes_refused, bytes_given}
 
 -- ---- five bytes
 
@@ -25,14 +25,14 @@ module _ (c : StandardTimeCode) where
       → (refused (refusal 3) ≡ standard_bytes c) × (0 ∷ 0 ∷ 0 ∷ 0 ∷ 0 ∷ [] ≡ standard_left c)
   unfolding standard_fits
   last_refused fits e n =
-      bytes-refused (standard_fits c) (standard_list c) _ (and_first _ (is_valid (written_label c)) (sym e ∙ not-true _ n))
+      bytes_refused (standard_fits c) (standard_list c) _ (and_first _ (is_valid (written_label c)) (sym e ∙ not-true _ n))
 
   -- A label that is neither blank nor valid.
   pub label_refused : (t : MtcTime) (valid : Bool) → t ≡ written_label c → valid ≡ is_valid t → not valid ≡ true
       → (refused (refusal 3) ≡ standard_bytes c) × (0 ∷ 0 ∷ 0 ∷ 0 ∷ 0 ∷ [] ≡ standard_left c)
   unfolding standard_fits
   label_refused t valid e v n =
-      bytes-refused (standard_fits c) (standard_list c) _
+      bytes_refused (standard_fits c) (standard_list c) _
       (and_second (final_fits c.final_byte) _ (ap is_valid (sym e) ∙ sym v ∙ not-true _ n))
 
   -- Both checks passed.
@@ -44,7 +44,7 @@ module _ (c : StandardTimeCode) where
       × (hr ∷ (m + t.minutes) ∷ (s + t.seconds) ∷ fr ∷ ff ∷ [] ≡ standard_left c)
   unfolding standard_fits standard_list
   standard_given fits ef nf t valid e v nv hr m s fr ff eh em es er el =
-      bytes-given (standard_fits c) (standard_list c) _ _
+      bytes_given (standard_fits c) (standard_list c) _ _
       (and_all _ _ (sym ef ∙ not-false _ nf) (ap is_valid (sym e) ∙ sym v ∙ not-false _ nv)) (rw (eh, em, es, er, el, e))
 
 -- A label that passed its check fits its widths.
@@ -58,14 +58,14 @@ module _ (c : ShortTimeCode) where
   pub frames_refused : 29 < c.frames → (refused (refusal 3) ≡ short_bytes c) × (0 ∷ 0 ∷ [] ≡ short_left c)
   unfolding short_fits
   frames_refused h =
-      bytes-refused (short_fits c) (short_list c) _ (and_first _ (final_fits c.final_byte) (lt-leb c.frames 29 h))
+      bytes_refused (short_fits c) (short_list c) _ (and_first _ (final_fits c.final_byte) (lt-leb c.frames 29 h))
 
   -- A last byte that may not be written.
   pub short_last_refused : (fits : Bool) → fits ≡ final_fits c.final_byte → not fits ≡ true
       → (refused (refusal 3) ≡ short_bytes c) × (0 ∷ 0 ∷ [] ≡ short_left c)
   unfolding short_fits
   short_last_refused fits e n =
-      bytes-refused (short_fits c) (short_list c) _ (and_second (leb c.frames 29) _ (sym e ∙ not-true _ n))
+      bytes_refused (short_fits c) (short_list c) _ (and_second (leb c.frames 29) _ (sym e ∙ not-true _ n))
 
   -- Both checks passed.
   pub short_given : c.frames ≤ 29 → (fits : Bool) → fits ≡ final_fits c.final_byte → not fits ≡ false → (fr ff : ℕ)
@@ -73,6 +73,6 @@ module _ (c : ShortTimeCode) where
       → (gives (fr ∷ ff ∷ []) ≡ short_bytes c) × (fr ∷ ff ∷ [] ≡ short_left c)
   unfolding short_fits short_list
   short_given h fits ef nf fr ff er el =
-      bytes-given (short_fits c) (short_list c) _ _
+      bytes_given (short_fits c) (short_list c) _ _
       (and_all _ _ (le-leb c.frames 29 h) (sym ef ∙ not-false _ nf)) (rw (er, el))
 

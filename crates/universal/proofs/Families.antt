@@ -31,4 +31,3 @@ real_others n (inl l) h =
     rw (ne_eqb n 1 (λ e. h (inl e)), ne_eqb n 3 (omega arith), ne_eqb n 4 (omega arith), ne_eqb n 5 (omega arith), ne_eqb n 8 (omega arith))
 real_others n (inr l) h =
     rw (ne_eqb n 1 (omega arith), ne_eqb n 3 (omega arith), ne_eqb n 4 (omega arith), ne_eqb n 5 (omega arith), ne_eqb n 8 (λ e. h (inr e)))
-

@@ -423,4 +423,3 @@ pub closing_answer : (e : Emission) (at room : ℕ) → e.stop ≡ none → leng
     → closing at room ≡ answer e room
 unfolding answer
 closing_answer e at room h n most = closing_at at room (length e.bytes) (omega arith) ∙ rw h
-

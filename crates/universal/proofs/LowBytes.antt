@@ -24,4 +24,3 @@ module _ (bs : List ℕ) (i : ℕ) where
   pub low_end : length bs ≤ i → all_low (drop i bs) ≡ true
   unfolding all_low
   low_end h = rw (drop_of_length-le bs h)
-

@@ -120,4 +120,3 @@ pub opening_fields : (u : Universal) → u.device_id ≤ 127
     ≡ sent (240 ∷ class_id u.real_time ∷ u.device_id ∷ []) then value u.sub_id1 then sub_id2_value u.sub_id2
 unfolding opening
 opening_fields u d f = rw (le-leb u.device_id 127 d, beq_same _ _ f)
-

@@ -2,11 +2,10 @@
 use mathlib.Core.Path.{◌≡◌, refl, sym, ap, subst, ◌∙◌}
 use Prim.Native.Nat.{ℕ, ◌≤◌, ◌<◌}
 use native.Mathlib.Nat.{le_of_suc-le-suc}
-use mathlib.Core.Bool.{Bool, true, false, not, false≢true}
+use mathlib.Core.Bool.{Bool, true, false, false≢true}
 use mathlib.Core.Option.{some}
 use mathlib.Core.List.{List, [], ◌∷◌}
 use lib.ListN.{length}
-use borrow.Author.Tests.{not-true, not-false}
 use Rattle.universal.specs.Refusals.{Refusal, refusal, Answer, gives, refused}
 use Rattle.universal.specs.Overlay.{overlay}
 use Rattle.universal.specs.Emission.{Emission, sent, reached}
@@ -19,7 +18,7 @@ use Rattle.universal.proofs.Laws.{overlay_then, overlay_none, opening_device, op
 
 -- What a call owes that put an emission's bytes at the buffer's start: its answer, and the buffer.
 abbrev pub Put : Emission → Answer ℕ → List ℕ → List ℕ → Type 0
-Put e r out after = (r ≡ reached e) × (after ≡ overlay out 0 e.bytes)
+Put e r out after = record { result_value : r ≡ reached e; out_after : after ≡ overlay out 0 e.bytes }
 
 -- It owes the same of an emission that is the same.
 put_as : {d e : Emission} {r : Answer ℕ} {after : List ℕ} (out : List ℕ) → d ≡ e → Put d r out after → Put e r out after
@@ -28,13 +27,13 @@ put_as {r = r} {after} out p h = subst (λ (e : Emission). Put e r out after) p 
 -- Bytes that all went out.
 put_sent : (e : Emission) (bs out after : List ℕ) → e ≡ sent bs → after ≡ overlay out 0 bs → Put e (gives (length bs)) out after
 unfolding reached
-put_sent e bs out after p h = put_as out (sym p) (refl, h)
+put_sent e bs out after p h = put_as out (sym p) (record { result_value = refl; out_after = h })
 
 -- Bytes that went out before a refusal.
 put_refused : (e : Emission) (bs : List ℕ) (r : Refusal) (out after : List ℕ) → e ≡ record { bytes = bs; stop = some r }
     → after ≡ overlay out 0 bs → Put e (refused r) out after
 unfolding reached
-put_refused e bs r out after p h = put_as out (sym p) (refl, h)
+put_refused e bs r out after p h = put_as out (sym p) (record { result_value = refl; out_after = h })
 
 -- A message's opening is that of its fields.
 pub put_of : (u : Universal) (m : MaybeSubId2) (r : Answer ℕ) (out after : List ℕ) → u.sub_id2 ≡ m
@@ -57,12 +56,12 @@ module _ (real_time : Bool) (device sub_id1 : ℕ) (low : device < 128) (has : B
       (sym (overlay_none out 0))
 
   -- A sub-ID 2, where the family carries none.
-  pub with_against : (sub_id2 : ℕ) → not has ≡ true
+  pub with_against : (sub_id2 : ℕ) → has ≡ false
       → Put (opening (header real_time device sub_id1 (SubId2 sub_id2))) (refused (refusal 3)) out out
   with_against v h =
       put_refused _ [] (refusal 3) out out
       (opening_family (header real_time device sub_id1 (SubId2 v)) (le_of_suc-le-suc low)
-      (λ e. false≢true (sym (e ∙ sym rule ∙ not-true has h))))
+      (λ e. false≢true (sym (e ∙ sym rule ∙ h))))
       (sym (overlay_none out 0))
 
   module _ (started : List ℕ) (start : started ≡ overlay out 0 (240 ∷ class_id real_time ∷ device ∷ [])) where
@@ -86,13 +85,13 @@ module _ (real_time : Bool) (device sub_id1 : ℕ) (low : device < 128) (has : B
         (opening_plain real_time device sub_id1 (le_of_suc-le-suc low) (sym rule ∙ f) h)
         (fourth after a)
 
-    module _ (sub_id2 : ℕ) (given : not has ≡ false) where
+    module _ (sub_id2 : ℕ) (given : has ≡ true) where
       -- A sub-ID 1 above 7FH, with a sub-ID 2.
       pub with_high : 127 < sub_id1
           → Put (opening (header real_time device sub_id1 (SubId2 sub_id2))) (refused (refusal 3)) out started
       with_high h =
           put_refused _ _ (refusal 3) out started
-          (opening_sub_id1 (header real_time device sub_id1 (SubId2 sub_id2)) (le_of_suc-le-suc low) (sym (not-false has given) ∙ rule) h)
+          (opening_sub_id1 (header real_time device sub_id1 (SubId2 sub_id2)) (le_of_suc-le-suc low) (sym given ∙ rule) h)
           start
 
       module _ (h : sub_id1 ≤ 127) (middle : List ℕ) (a : middle ≡ overlay started 3 (sub_id1 ∷ [])) where
@@ -101,7 +100,7 @@ module _ (real_time : Bool) (device sub_id1 : ℕ) (low : device < 128) (has : B
             → Put (opening (header real_time device sub_id1 (SubId2 sub_id2))) (refused (refusal 3)) out middle
         with_high_sub_id2 g =
             put_refused _ _ (refusal 3) out middle
-            (opening_sub_id2 real_time device sub_id1 (le_of_suc-le-suc low) sub_id2 (sym rule ∙ not-false has given) h g)
+            (opening_sub_id2 real_time device sub_id1 (le_of_suc-le-suc low) sub_id2 (sym rule ∙ given) h g)
             (fourth middle a)
 
         -- The whole opening with a sub-ID 2.
@@ -109,6 +108,5 @@ module _ (real_time : Bool) (device sub_id1 : ℕ) (low : device < 128) (has : B
             → Put (opening (header real_time device sub_id1 (SubId2 sub_id2))) (gives 5) out after
         with_whole l after b =
             put_sent _ (240 ∷ class_id real_time ∷ device ∷ sub_id1 ∷ sub_id2 ∷ []) out after
-            (opening_with_sub_id2 real_time device sub_id1 (le_of_suc-le-suc low) sub_id2 (sym rule ∙ not-false has given) h l)
+            (opening_with_sub_id2 real_time device sub_id1 (le_of_suc-le-suc low) sub_id2 (sym rule ∙ given) h l)
             (overlay_then out middle after 0 4 (240 ∷ class_id real_time ∷ device ∷ sub_id1 ∷ []) (sub_id2 ∷ []) (fourth middle a) b refl)
-

@@ -54,4 +54,3 @@ reached e = reached_in e.stop (length e.bytes)
 
 unfoldable pub answer : Emission → ℕ → Answer ℕ
 answer e room = answer_in e.stop (length e.bytes) room
-

@@ -72,4 +72,3 @@ length_at at = min (at + 1) 18446744073709551615
 -- The answer of a close at a position, in a buffer of a given length.
 unfoldable pub closing : ℕ → ℕ → Answer ℕ
 closing at room = fitted (leb (length_at at) room) (length_at at)
-

@@ -58,4 +58,3 @@ pub record InLayout (u : Universal) (bs : List ℕ) : Type 0 where
 pub record Allowed (u : Universal) (bs : List ℕ) : Type 0 where
   pub layout : InLayout u bs
   pub defined : is_defined u.real_time u.sub_id1 ≡ true
-

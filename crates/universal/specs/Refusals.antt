@@ -53,4 +53,3 @@ error_of n needed =
 pub data Answer (A : Type 0) : Type 0 where
   gives : A → Answer A
   refused : Refusal → Answer A
-

@@ -1,4 +1,6 @@
 // Universal System Exclusive messages: the refusals, bytes put into a lent buffer, and the message writer.
+#![tactic(auto)]
+
 mod error;
 mod message;
 mod out;
