@@ -7,7 +7,7 @@ use labels::MtcTime;
 use universal::SysexError;
 
 // The status byte `0evdnxxx` of a time code (p. 9).
-#[derive(Drop)]
+#[derive(Clone, Copy)]
 pub struct TimeCodeStatus {
     // e: the estimated code flag.
     pub estimated: bool,
@@ -20,7 +20,7 @@ pub struct TimeCodeStatus {
 }
 
 // The last byte of a time code: bit 5 of the frames byte tells the form (p. 8).
-#[derive(Drop)]
+#[derive(Clone, Copy)]
 pub enum FinalByte {
     // Bit 5 clear: fractional frames, 0 to 99, in seven bits.
     Subframes(u8),
@@ -29,7 +29,7 @@ pub enum FinalByte {
 }
 
 // The Standard Time Code `hr mn sc fr {ff|st}` (pp. 8, 9).
-#[derive(Drop)]
+#[derive(Clone, Copy)]
 pub struct StandardTimeCode {
     pub time: MtcTime,
     // c: the colour frame flag of the minutes byte.
@@ -42,7 +42,7 @@ pub struct StandardTimeCode {
 }
 
 // The Standard Short Time Code `fr {ff|st}` (p. 9).
-#[derive(Drop)]
+#[derive(Clone, Copy)]
 pub struct ShortTimeCode {
     pub frames: u8,
     pub negative: bool,
@@ -50,28 +50,28 @@ pub struct ShortTimeCode {
 }
 
 // The answer of a check: accepted, or its refusal.
-#[derive(Drop)]
+#[derive(Clone, Copy)]
 pub enum Checked {
     Accepted,
     Refused(SysexError),
 }
 
 // The answer of `StandardTimeCode::to_bytes`: the check, and the bytes, which are zeros where it refused.
-#[derive(Drop)]
+#[derive(Clone, Copy)]
 pub struct StandardBytes {
     pub checked: Checked,
     pub bytes: [u8; 5],
 }
 
 // The answer of `ShortTimeCode::to_bytes`, likewise.
-#[derive(Drop)]
+#[derive(Clone, Copy)]
 pub struct ShortBytes {
     pub checked: Checked,
     pub bytes: [u8; 2],
 }
 
 // A field's name, where there is one.
-#[derive(Drop)]
+#[derive(Clone, Copy)]
 pub enum MaybeName {
     NoName,
     Name(u8),

@@ -8,7 +8,7 @@ use transport::{Applied, TransportAnswer};
 
 // The generator after a command. Answer 0 is done, 255 for another device, any other number a refusal: 5 or 7.
 #[repr(C)]
-#[derive(Drop)]
+#[derive(Clone, Copy)]
 pub struct FlatApplied {
     pub generator: FlatGenerator,
     pub answer: u8,

@@ -13,7 +13,7 @@ use mmc::{
 
 // The flags of a time code's status byte.
 #[repr(C)]
-#[derive(Drop)]
+#[derive(Clone, Copy)]
 pub struct FlatStatus {
     pub estimated: bool,
     pub invalid: bool,
@@ -23,7 +23,7 @@ pub struct FlatStatus {
 
 // A time code. The last byte is the status byte where `status` is true, else subframes.
 #[repr(C)]
-#[derive(Drop)]
+#[derive(Clone, Copy)]
 pub struct FlatCode {
     pub time: FlatTime,
     pub color_frame: bool,
@@ -35,7 +35,7 @@ pub struct FlatCode {
 
 // A short time code. The last byte is the status byte where `status` is true, else subframes.
 #[repr(C)]
-#[derive(Drop)]
+#[derive(Clone, Copy)]
 pub struct FlatShort {
     pub frames: u8,
     pub negative: bool,
@@ -45,21 +45,21 @@ pub struct FlatShort {
 
 // The bytes of a time code.
 #[repr(C)]
-#[derive(Drop)]
+#[derive(Clone, Copy)]
 pub struct FiveBytes {
     pub bytes: [u8; 5],
 }
 
 // The bytes of a short time code.
 #[repr(C)]
-#[derive(Drop)]
+#[derive(Clone, Copy)]
 pub struct TwoBytes {
     pub bytes: [u8; 2],
 }
 
 // A written time code. The bytes are zeros where the refusal is not 0.
 #[repr(C)]
-#[derive(Drop)]
+#[derive(Clone, Copy)]
 pub struct FlatCodeBytes {
     pub refusal: u8,
     pub code: FiveBytes,
@@ -67,7 +67,7 @@ pub struct FlatCodeBytes {
 
 // A written short time code. The bytes are zeros where the refusal is not 0.
 #[repr(C)]
-#[derive(Drop)]
+#[derive(Clone, Copy)]
 pub struct FlatShortBytes {
     pub refusal: u8,
     pub code: TwoBytes,

@@ -20,7 +20,7 @@ pub(crate) const LOCATE_TARGET: u64 = 11;
 pub(crate) const MOVE: u64 = 12;
 
 // A command, or none.
-#[derive(Drop)]
+#[derive(Clone, Copy)]
 pub enum MaybeCommand {
     NoCommand,
     Command(MmcCommand),

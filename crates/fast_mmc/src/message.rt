@@ -12,7 +12,7 @@ use universal::{MaybeSubId2, Universal};
 
 // The split parts of a Universal message but its data.
 #[repr(C)]
-#[derive(Drop)]
+#[derive(Clone, Copy)]
 pub struct FlatUniversal {
     pub real_time: bool,
     pub device_id: u8,
@@ -24,7 +24,7 @@ pub struct FlatUniversal {
 // A full message as it was read. Answer 0 is a message, 255 another kind, any other number a refusal.
 // Without a message all else is 0.
 #[repr(C)]
-#[derive(Drop)]
+#[derive(Clone, Copy)]
 pub struct FlatFullMessage {
     pub answer: u8,
     pub device_id: u8,
@@ -33,7 +33,7 @@ pub struct FlatFullMessage {
 
 // Binary Groups 1 to 8, four bits each, and the two flag bits.
 #[repr(C)]
-#[derive(Drop)]
+#[derive(Clone, Copy)]
 pub struct FlatUserBits {
     pub device_id: u8,
     pub groups: [u8; 8],
@@ -42,7 +42,7 @@ pub struct FlatUserBits {
 
 // User bits as they were read; the answer is as in a full message.
 #[repr(C)]
-#[derive(Drop)]
+#[derive(Clone, Copy)]
 pub struct FlatReadUserBits {
     pub answer: u8,
     pub bits: FlatUserBits,
@@ -50,14 +50,14 @@ pub struct FlatReadUserBits {
 
 // The groups as four bytes.
 #[repr(C)]
-#[derive(Drop)]
+#[derive(Clone, Copy)]
 pub struct FourBytes {
     pub bytes: [u8; 4],
 }
 
 // A message of commands or of responses; the answer is as in a full message.
 #[repr(C)]
-#[derive(Drop)]
+#[derive(Clone, Copy)]
 pub struct FlatMmcMessage {
     pub answer: u8,
     pub responses: bool,

@@ -7,7 +7,7 @@ use universal::Written;
 
 // What a writing answers: refusal 0 and the length; 4 and the needed length; any other refusal and 0.
 #[repr(C)]
-#[derive(Drop)]
+#[derive(Clone, Copy)]
 pub struct WrittenNumbers {
     pub refusal: u8,
     pub length: usize,

@@ -12,7 +12,7 @@ use mmc::{CommandAnswer, FieldAnswer, InfoField, MmcCommand, NextCommand, NextFi
 
 // A part of lent bytes.
 #[repr(C)]
-#[derive(Drop)]
+#[derive(Clone, Copy)]
 pub struct FlatPart {
     pub start: usize,
     pub length: usize,
@@ -21,7 +21,7 @@ pub struct FlatPart {
 // One command. The kinds are FIMBRAST_STOP, 0, to FIMBRAST_OTHER_COMMAND, 13; a kind above 13 is taken as 13. What a kind does not
 // use is 0 in an answer, and is not read in an argument.
 #[repr(C)]
-#[derive(Drop)]
+#[derive(Clone, Copy)]
 pub struct FlatCommand {
     pub kind: u8,
     pub first: u8,
@@ -34,7 +34,7 @@ pub struct FlatCommand {
 // Refusal 0 and the command, with the place to read on from; 2 where the string is cut short, with the end as its place;
 // 9 at or past the end.
 #[repr(C)]
-#[derive(Drop)]
+#[derive(Clone, Copy)]
 pub struct FlatNextCommand {
     pub refusal: u8,
     pub command: FlatCommand,
@@ -44,7 +44,7 @@ pub struct FlatNextCommand {
 // One information field. The kinds are FIMBRAST_TIME_CODE, 0, to FIMBRAST_OTHER_FIELD, 2; a kind above 2 is taken as 2. What a kind does
 // not use is 0 in an answer, and is not read in an argument.
 #[repr(C)]
-#[derive(Drop)]
+#[derive(Clone, Copy)]
 pub struct FlatField {
     pub kind: u8,
     pub field: u8,
@@ -56,7 +56,7 @@ pub struct FlatField {
 
 // Refusal 0 and the field, with the place to read on from; 2 and 9 as for a command.
 #[repr(C)]
-#[derive(Drop)]
+#[derive(Clone, Copy)]
 pub struct FlatNextField {
     pub refusal: u8,
     pub field: FlatField,

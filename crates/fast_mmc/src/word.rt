@@ -36,7 +36,7 @@ const END: u64 = 137;
 // A name begins at the place that was read, and data ends at the place to read on from. A Locate, a Move and a name alone are written
 // by the same word.
 #[repr(C)]
-#[derive(Drop)]
+#[derive(Clone, Copy)]
 pub struct NextWord {
     pub word: u64,
     pub place: usize,

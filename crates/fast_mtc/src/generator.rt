@@ -19,7 +19,7 @@ const RUNNING: usize = 7;
 
 // A generator. Direction 0 is forward, any other reverse. A last piece above 7 is none, and an answer has 255 for it.
 #[repr(C)]
-#[derive(Drop)]
+#[derive(Clone, Copy)]
 pub struct FlatGenerator {
     pub time: FlatTime,
     pub direction: u8,
@@ -29,7 +29,7 @@ pub struct FlatGenerator {
 
 // Refusal 0 and a data byte, or a refusal and byte 0.
 #[repr(C)]
-#[derive(Drop)]
+#[derive(Clone, Copy)]
 pub struct FlatByte {
     pub refusal: u8,
     pub byte: u8,

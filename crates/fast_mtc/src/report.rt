@@ -21,7 +21,7 @@ use mtc::{Direction, MaybeSequence, MaybeTime, MtcEvent, MtcSequence, MtcTime, e
 // The end of a full sequence: the label as it was assembled, the current one, the direction, and whether the assembled label does not
 // follow the one before it.
 #[repr(C)]
-#[derive(Drop)]
+#[derive(Clone, Copy)]
 pub struct FlatSequence {
     pub raw: FlatTime,
     pub current: FlatTime,
@@ -31,7 +31,7 @@ pub struct FlatSequence {
 
 // A report, where `present` is true. Where it is false the sequence is all zeros.
 #[repr(C)]
-#[derive(Drop)]
+#[derive(Clone, Copy)]
 pub struct FlatMaybeSequence {
     pub present: bool,
     pub sequence: FlatSequence,

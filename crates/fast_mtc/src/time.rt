@@ -8,7 +8,7 @@ use mtc::{MtcTime, NewTime, QuarterFrame, TimeCodeType};
 
 // A label. Rates: 0 is 24, 1 is 25, 2 is 30 drop-frame, 3 is 30 frames per second. Only the two low bits of a rate are read.
 #[repr(C)]
-#[derive(Drop)]
+#[derive(Clone, Copy)]
 pub struct FlatTime {
     pub hours: u8,
     pub minutes: u8,
@@ -19,7 +19,7 @@ pub struct FlatTime {
 
 // A quarter frame's piece and value.
 #[repr(C)]
-#[derive(Drop)]
+#[derive(Clone, Copy)]
 pub struct FlatFrame {
     pub piece: u8,
     pub value: u8,
@@ -27,7 +27,7 @@ pub struct FlatFrame {
 
 // The data bytes of pieces 0 to 7.
 #[repr(C)]
-#[derive(Drop)]
+#[derive(Clone, Copy)]
 pub struct EightBytes {
     pub bytes: [u8; 8],
 }

@@ -11,7 +11,7 @@ use mtc::{Direction, MaybeDirection, MaybePiece, MaybeTime, MtcReader, MtcTime, 
 
 // A time, where `present` is true. Where it is false the time is all zeros in an answer, and is not read in an argument.
 #[repr(C)]
-#[derive(Drop)]
+#[derive(Clone, Copy)]
 pub struct FlatMaybeTime {
     pub present: bool,
     pub time: FlatTime,
@@ -20,7 +20,7 @@ pub struct FlatMaybeTime {
 // A reader in fifteen words: eight nibbles, the order, the first piece, the lock, and a mark and a word each for the previous and the
 // current label. Any words are a reader in its ranges; `fimbrast_reader_parts` says which.
 #[repr(C)]
-#[derive(Drop)]
+#[derive(Clone, Copy)]
 pub struct FlatReader {
     pub words: [u32; 15],
 }
@@ -28,7 +28,7 @@ pub struct FlatReader {
 // A reader field by field. A last piece above 7 is none; direction 0 is forward, 1 reverse, any other none.
 // An answer has 255 for none.
 #[repr(C)]
-#[derive(Drop)]
+#[derive(Clone, Copy)]
 pub struct FlatReaderFields {
     pub nibbles: [u8; 8],
     pub count: u8,

@@ -9,7 +9,7 @@ use fast_mtc::receive::receive;
 // Of a list of data bytes: how many sequences it reported, how many of those with a discontinuity, and the last report, whose labels
 // stand in the reader.
 #[repr(C)]
-#[derive(Drop)]
+#[derive(Clone, Copy)]
 pub struct FlatFed {
     pub reports: usize,
     pub discontinuities: usize,

@@ -11,7 +11,7 @@ use transport::{Obeyed, obey};
 // The generator after all commands of a string, how many were read, how many of those were refused, and the refusal that ended the
 // reading: 9 at the end, 2 where the string is cut short.
 #[repr(C)]
-#[derive(Drop)]
+#[derive(Clone, Copy)]
 pub struct FlatRun {
     pub generator: FlatGenerator,
     pub commands: usize,

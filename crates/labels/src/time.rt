@@ -21,7 +21,7 @@ const DAY_DROP: u32 = 24 * 6 * DROP_10_MINUTES;
 const DAY_30: u32 = 86_400 * 30;
 
 // The rate: the two bits of the hours byte (RP-004/008, p. 2).
-#[derive(Drop)]
+#[derive(Clone, Copy)]
 pub enum TimeCodeType {
     // 0: 24 frames per second.
     Fps24,
@@ -96,7 +96,7 @@ impl TimeCodeType {
 }
 
 // A label. A reader gives the counts as received, masked to their widths.
-#[derive(Drop)]
+#[derive(Clone, Copy)]
 pub struct MtcTime {
     pub hours: u8,
     pub minutes: u8,
@@ -106,7 +106,7 @@ pub struct MtcTime {
 }
 
 // The answer of `MtcTime::new`: the label, or refusal 3.
-#[derive(Drop)]
+#[derive(Clone, Copy)]
 pub enum NewTime {
     Valid(MtcTime),
     Refused(SysexError),

@@ -34,7 +34,7 @@ pub const LOCATE: u8 = 0x44;
 pub const MOVE: u8 = 0x4C;
 
 // One command. Bytes of its own stand as a part of the bytes that it was read from, or is written from.
-#[derive(Drop)]
+#[derive(Clone, Copy)]
 pub enum MmcCommand {
     Stop,
     Play,
@@ -155,14 +155,14 @@ fn read_move(data: &[u8], name_at: Part, data_at: Part) -> MmcCommand
 }
 
 // What the splitter answers at a place: a command, or 2 or 9.
-#[derive(Drop)]
+#[derive(Clone, Copy)]
 pub enum CommandAnswer {
     Command(MmcCommand),
     Refused(SysexError),
 }
 
 // The answer, and the place to read on from.
-#[derive(Drop)]
+#[derive(Clone, Copy)]
 pub struct NextCommand {
     pub answer: CommandAnswer,
     pub place: usize,

@@ -9,7 +9,7 @@ use codes::{ShortTimeCode, StandardTimeCode};
 use universal::SysexError;
 
 // One information field.
-#[derive(Drop)]
+#[derive(Clone, Copy)]
 pub enum InfoField {
     // 01H to 1FH: five bytes of time code.
     TimeCode { field: u8, code: StandardTimeCode },
@@ -62,14 +62,14 @@ fn read(name: &[u8], data: &[u8], name_at: Part, data_at: Part) -> InfoField
 }
 
 // What the splitter answers at a place: a field, or 2 or 9.
-#[derive(Drop)]
+#[derive(Clone, Copy)]
 pub enum FieldAnswer {
     Field(InfoField),
     Refused(SysexError),
 }
 
 // The answer, and the place to read on from.
-#[derive(Drop)]
+#[derive(Clone, Copy)]
 pub struct NextField {
     pub answer: FieldAnswer,
     pub place: usize,

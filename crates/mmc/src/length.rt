@@ -3,14 +3,14 @@ ghost use Rattle.std.specs.Prelude.{◌≡◌};
 ghost use Rattle.mmc.specs.Length.{command_length, field_length, length_of};
 
 // The two kinds of strings: commands, and information fields.
-#[derive(Drop)]
+#[derive(Clone, Copy)]
 pub enum Kind {
     Commands,
     Fields,
 }
 
 // The data that the last byte of a name asks for: so many bytes, or a count byte and that many.
-#[derive(Drop)]
+#[derive(Clone, Copy)]
 pub enum Length {
     Fixed(usize),
     Count,

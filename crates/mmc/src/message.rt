@@ -5,14 +5,14 @@ ghost use Rattle.mmc.specs.Message.{message_from, read_message_of};
 use universal::{SysexError, Universal};
 
 // Commands to a device, a group or all devices, or responses from a device. The string is the data beside it.
-#[derive(Drop)]
+#[derive(Clone, Copy)]
 pub enum MmcMessage {
     Commands { device_id: u8 },
     Responses { device_id: u8 },
 }
 
 // The answer of `MmcMessage::from_universal`.
-#[derive(Drop)]
+#[derive(Clone, Copy)]
 pub enum ReadMmcMessage {
     Message(MmcMessage),
     NotThis,

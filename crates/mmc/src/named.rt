@@ -9,7 +9,7 @@ use codes::Checked;
 use universal::{SysexError, all_low, put, put_part};
 
 // How many bytes went out, and the check that they passed or that ended them.
-#[derive(Drop)]
+#[derive(Clone, Copy)]
 pub struct Put {
     pub len: usize,
     pub checked: Checked,

@@ -7,7 +7,7 @@ use crate::part::Part;
 use universal::SysexError;
 
 // What the splitter finds at a place: an item's name, its data and the place after it, or that the string is cut short.
-#[derive(Drop)]
+#[derive(Clone, Copy)]
 pub enum Parts {
     Item { name: Part, data: Part, next: usize },
     Cut,
@@ -75,14 +75,14 @@ fn split(body: &[u8], at: usize, kind: Kind) -> Parts
 }
 
 // What a read at a place answers: where the name and data of the item there are, or 2 or 9.
-#[derive(Drop)]
+#[derive(Clone, Copy)]
 pub enum PartsAnswer {
     Found { name: Part, data: Part },
     Refused(SysexError),
 }
 
 // The answer, and the place to read on from.
-#[derive(Drop)]
+#[derive(Clone, Copy)]
 pub struct NextParts {
     pub answer: PartsAnswer,
     pub place: usize,

@@ -26,7 +26,7 @@ const MOST_ITEMS: usize = 256;
 const MOST_POSITION: usize = 40_000;
 
 // A writing: the position after the bytes so far, the items accepted, and the refusal that ended it, if one did.
-#[derive(Drop)]
+#[derive(Clone, Copy)]
 pub struct Writer {
     pub at: usize,
     pub items: usize,
@@ -34,7 +34,7 @@ pub struct Writer {
 }
 
 // The answer of an item: the writer to go on with, and the check.
-#[derive(Drop)]
+#[derive(Clone, Copy)]
 pub struct Wrote {
     pub writer: Writer,
     pub checked: Checked,

@@ -10,7 +10,7 @@ use labels::MtcTime;
 use universal::{SysexError, Universal, Written};
 
 // A full message.
-#[derive(Drop)]
+#[derive(Clone, Copy)]
 pub struct FullMessage {
     // The device ID; 7FH for the whole system.
     pub device_id: u8,
@@ -19,7 +19,7 @@ pub struct FullMessage {
 }
 
 // The answer of `FullMessage::from_universal`: the message, "not this" for another kind, or the refusal.
-#[derive(Drop)]
+#[derive(Clone, Copy)]
 pub enum ReadFullMessage {
     Message(FullMessage),
     NotThis,

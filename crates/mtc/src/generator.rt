@@ -11,7 +11,7 @@ use labels::MtcTime;
 use universal::SysexError;
 
 // The direction of a sequence.
-#[derive(Drop)]
+#[derive(Clone, Copy)]
 pub enum Direction {
     // Pieces 0 to 7.
     Forward,
@@ -62,7 +62,7 @@ impl Direction {
 }
 
 // A piece, or none.
-#[derive(Drop)]
+#[derive(Clone, Copy)]
 pub enum MaybePiece {
     NoPiece,
     Piece(u8),
@@ -70,7 +70,7 @@ pub enum MaybePiece {
 
 // The time that the current or next sequence encodes, the direction, the last piece sent, and whether it runs. The caller
 // sends each data byte at its quarter frame, piece 0 at the start of the frame that the sequence encodes.
-#[derive(Drop)]
+#[derive(Clone, Copy)]
 pub struct MtcGenerator {
     pub time: MtcTime,
     pub direction: Direction,
@@ -79,14 +79,14 @@ pub struct MtcGenerator {
 }
 
 // A data byte, or refusal 8.
-#[derive(Drop)]
+#[derive(Clone, Copy)]
 pub enum NextByte {
     Byte(u8),
     Refused(SysexError),
 }
 
 // The answer of `next_byte`, with the generator that comes back.
-#[derive(Drop)]
+#[derive(Clone, Copy)]
 pub struct Sent {
     pub generator: MtcGenerator,
     pub byte: NextByte,

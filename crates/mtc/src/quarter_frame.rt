@@ -6,7 +6,7 @@ ghost use Rattle.mtc.specs.QuarterFrame.{from_byte, to_byte, pieces};
 use labels::MtcTime;
 
 // A data byte's piece, 0 (frames, low nibble) to 7 (hours, high nibble, and rate), and its value of four bits.
-#[derive(Drop)]
+#[derive(Clone, Copy)]
 pub struct QuarterFrame {
     pub piece: u8,
     pub value: u8,

@@ -11,14 +11,14 @@ use crate::quarter_frame::QuarterFrame;
 use labels::MtcTime;
 
 // A direction, or none yet.
-#[derive(Drop)]
+#[derive(Clone, Copy)]
 pub enum MaybeDirection {
     NoDirection,
     Going(Direction),
 }
 
 // A label, or none.
-#[derive(Drop)]
+#[derive(Clone, Copy)]
 pub enum MaybeTime {
     NoTime,
     Time(MtcTime),
@@ -26,7 +26,7 @@ pub enum MaybeTime {
 
 // The end of a full sequence: the assembled label with its counts as received, the current time, the direction, and whether
 // the label is not the previous one plus two frames, or minus two in reverse.
-#[derive(Drop)]
+#[derive(Clone, Copy)]
 pub struct MtcSequence {
     pub raw: MtcTime,
     pub current: MtcTime,
@@ -35,7 +35,7 @@ pub struct MtcSequence {
 }
 
 // A full sequence, or none.
-#[derive(Drop)]
+#[derive(Clone, Copy)]
 pub enum MaybeSequence {
     NoSequence,
     Sequence(MtcSequence),
@@ -43,7 +43,7 @@ pub enum MaybeSequence {
 
 // What one data byte gives: its piece, whether it marks a frame boundary, as pieces 0 and 4 do, and the full sequence that it
 // ends.
-#[derive(Drop)]
+#[derive(Clone, Copy)]
 pub struct MtcEvent {
     pub piece: u8,
     pub boundary: bool,
@@ -51,7 +51,7 @@ pub struct MtcEvent {
 }
 
 // The reader's record. One with a count or piece above 7 or a nibble above 15, which no call leaves, is taken as fresh.
-#[derive(Drop)]
+#[derive(Clone, Copy)]
 pub struct MtcReader {
     pub nibbles: [u8; 8],
     pub count: u8,
@@ -65,7 +65,7 @@ pub struct MtcReader {
 }
 
 // What one data byte gives, with the reader that it leaves.
-#[derive(Drop)]
+#[derive(Clone, Copy)]
 pub struct Stepped {
     pub reader: MtcReader,
     pub event: MtcEvent,

@@ -9,7 +9,7 @@ use crate::kind::{USER_BITS, is_time_code, time_code};
 use universal::{SysexError, Universal, Written};
 
 // A user bits message.
-#[derive(Drop)]
+#[derive(Clone, Copy)]
 pub struct UserBits {
     // The device ID; 7FH for the whole system.
     pub device_id: u8,
@@ -20,7 +20,7 @@ pub struct UserBits {
 }
 
 // What reading user bits answers.
-#[derive(Drop)]
+#[derive(Clone, Copy)]
 pub enum UserBitsAnswer {
     Message,
     NotThis,
@@ -28,7 +28,7 @@ pub enum UserBitsAnswer {
 }
 
 // The answer of `UserBits::from_universal`, with the message beside it: device 0 and all zeros where there is none.
-#[derive(Drop)]
+#[derive(Clone, Copy)]
 pub struct ReadUserBits {
     pub answer: UserBitsAnswer,
     pub bits: UserBits,

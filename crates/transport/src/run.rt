@@ -10,7 +10,7 @@ use mtc::MtcGenerator;
 use universal::SysexError;
 
 // What one read gives: a command with the transport's answer to it, or the refusal that ends the reading.
-#[derive(Drop)]
+#[derive(Clone, Copy)]
 pub enum TurnAnswer {
     Command {
         command: MmcCommand,
@@ -20,7 +20,7 @@ pub enum TurnAnswer {
 }
 
 // It, with the generator that came back and the place to read on from.
-#[derive(Drop)]
+#[derive(Clone, Copy)]
 pub struct Turn {
     pub generator: MtcGenerator,
     pub answer: TurnAnswer,
@@ -55,7 +55,7 @@ pub fn obey_next(generator: MtcGenerator, device_id: u8, own: u8, body: &[u8], p
 
 // What became of a message's data: the generator that came back last, how many commands were read, how many of them refused, and
 // the refusal that ended the reading.
-#[derive(Drop)]
+#[derive(Clone, Copy)]
 pub struct Obeyed {
     pub generator: MtcGenerator,
     pub commands: usize,

@@ -8,7 +8,7 @@ use mtc::{Direction, MtcGenerator, MtcTime};
 use universal::{SysexError, addressed};
 
 // What became of a command: done, for another device, or refused.
-#[derive(Drop)]
+#[derive(Clone, Copy)]
 pub enum TransportAnswer {
     Done,
     NotMine,
@@ -16,14 +16,14 @@ pub enum TransportAnswer {
 }
 
 // The answer of `apply`, with the generator that comes back.
-#[derive(Drop)]
+#[derive(Clone, Copy)]
 pub struct Applied {
     pub generator: MtcGenerator,
     pub answer: TransportAnswer,
 }
 
 // The label that a Locate target resolves to, or none.
-#[derive(Drop)]
+#[derive(Clone, Copy)]
 enum Target {
     At(MtcTime),
     Nowhere,

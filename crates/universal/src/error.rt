@@ -4,7 +4,7 @@ ghost use Rattle.std.specs.Prelude.{◌≡◌};
 ghost use Rattle.universal.specs.Refusals.{refusal_of, needed_of, error_of};
 
 // Why a reading or a writing was turned back.
-#[derive(Drop)]
+#[derive(Clone, Copy)]
 pub enum SysexError {
     // 1: a byte above 7FH in a written name or data.
     DataByte,

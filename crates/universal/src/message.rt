@@ -22,14 +22,14 @@ const REAL_TIME: u8 = 0x7F;
 pub const ALL_DEVICES: u8 = 0x7F;
 
 // A sub-ID 2, which only some families carry.
-#[derive(Drop)]
+#[derive(Clone, Copy)]
 pub enum MaybeSubId2 {
     NoSubId2,
     SubId2(u8),
 }
 
 // The split parts of a Universal message but its data, which stand beside it as lent bytes.
-#[derive(Drop)]
+#[derive(Clone, Copy)]
 pub struct Universal {
     // True for Real Time (7FH), false for Non-Real Time (7EH).
     pub real_time: bool,
@@ -39,14 +39,14 @@ pub struct Universal {
 }
 
 // The answer of an opening: the position after it, or the refusal.
-#[derive(Drop)]
+#[derive(Clone, Copy)]
 pub enum Opened {
     At(usize),
     Refused(SysexError),
 }
 
 // The answer of a writing: the message's length, or the refusal.
-#[derive(Drop)]
+#[derive(Clone, Copy)]
 pub enum Written {
     Length(usize),
     Refused(SysexError),
