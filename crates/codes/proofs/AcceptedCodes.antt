@@ -138,4 +138,3 @@ unfolding short_list
 short_low c h =
     all_low_cons _ _ (frames_low c.final_byte c.negative c.frames (omega (arith, frames_accepted c h)))
     (all_low_cons _ _ (final_value_low c.final_byte (short_last_accepted c h)) all_low_none)
-

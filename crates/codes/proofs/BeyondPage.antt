@@ -200,4 +200,3 @@ module _ (r : TimeCodeType) (c : ShortTimeCode) where
     and_all _ _ (le-leb c.frames 29 b.to) (fits_page c.final_byte ∙ b.last),
     and_first _ (page.last_allowed c.final_byte) (le-ltb _ _ b.from),
   )
-

@@ -92,4 +92,3 @@ bits_rate n h = go (eqb n 0) (eqb n 1) (eqb n 2) refl refl refl
       where
         three : (n ≡ 0 → ⊥) → (n ≡ 1 → ⊥) → (n ≡ 2 → ⊥) → 3 ≡ n
         three x y z = omega arith
-

@@ -13,4 +13,3 @@ form_stays c form f e same = sym (ap (with_final c) (ap form e ∙ same ∙ sym 
 pub form_moves : (c r : StandardTimeCode) (form : FinalByte → FinalByte) (f g : FinalByte) → c.final_byte ≡ f
     → form f ≡ g → r ≡ with_final c g → r ≡ with_final c (form c.final_byte)
 form_moves c r form f g e move w = w ∙ ap (with_final c) (sym (ap form e ∙ move))
-

@@ -351,4 +351,3 @@ short_name_by_page name short = (Names.of_short_name name short, Names.short_nam
 -- So is the field of a short name.
 pub full_name_by_page : (name short : ℕ) → (full_name short ≡ Name name) ↔ ShortNamed name short
 full_name_by_page name short = (Names.of_full_name name short, Names.full_name_of name short)
-

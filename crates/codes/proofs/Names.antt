@@ -37,4 +37,3 @@ of_full_name name short e =
     let low : 33 ≤ short = leb-true 33 short t.0 in
     let high : short ≤ 63 = leb-true short 63 t.1 in
     record { from = omega arith; to = omega arith; above = omega arith }
-

@@ -202,4 +202,3 @@ code_bit_7 hr mn sc fr ff =
     let s : sc % 128 % 64 ≡ sc % 64 = omega arith in
     let f : fr % 128 % 32 ≡ fr % 32 = omega arith in
     rw (r, h, m, s, f, bit_6 mn, bit_6 sc, bit_6 fr, final_bit_7 fr ff)
-

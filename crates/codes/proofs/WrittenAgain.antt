@@ -78,4 +78,3 @@ standard_again_lem hr mn sc fr ff = go (bit 64 sc)
     go : (b : Bool) → written (cond b (label (rate_at (hr / 32 % 4)) 0 0 0 0) (raw_time hr mn sc fr)) ≡ kept b
     go true = each true
     go false = each false
-

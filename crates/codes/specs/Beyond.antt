@@ -42,4 +42,3 @@ pub record ShortWrittenBeyond (rate : TimeCodeType) (c : ShortTimeCode) : Type 0
   pub from : frames_per_second rate ≤ c.frames
   pub to : c.frames ≤ 29
   pub last : last_allowed c.final_byte ≡ true
-

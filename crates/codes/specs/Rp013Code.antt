@@ -165,4 +165,3 @@ move_to_ff (Status s) = Subframes 0
 abbrev pub move_to_st : Bool → FinalByte → FinalByte
 move_to_st d (Subframes b) = Status (record { estimated = false; invalid = false; video_field1 = d; no_time_code = true })
 move_to_st d (Status s) = Status s
-

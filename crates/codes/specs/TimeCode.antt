@@ -230,4 +230,3 @@ short_name_of n = cond (leb 1 n && leb n 31) (Name (n + 32)) NoName
 -- 21H to 3FH have the full name 20H lower.
 abbrev pub full_name : ℕ → MaybeName
 full_name n = cond (leb 33 n && leb n 63) (Name (n - 32)) NoName
-

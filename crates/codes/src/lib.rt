@@ -1,4 +1,6 @@
 // The time code fields of MIDI Machine Control (RP-013, pp. 8 and 9): five bytes or two, the last subframes or status.
+#![tactic(auto)]
+
 mod time_code;
 
 pub use time_code::{

@@ -93,4 +93,3 @@ next_forward l = omega arith
 
 pub next_reverse : (l : ℕ) → (l % 8 + 7) % 8 ≡ (l + 7) % 8
 next_reverse l = omega arith
-

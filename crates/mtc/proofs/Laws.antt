@@ -153,4 +153,3 @@ calls_none r = (refl, refl)
 pub events_more : (r : MtcReader) (b : ℕ) (bs : List ℕ) → events r (b ∷ bs) ≡ event_of r b ∷ events (after_byte r b) bs
 unfolding events
 events_more r b bs = refl
-

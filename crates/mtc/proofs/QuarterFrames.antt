@@ -346,4 +346,3 @@ same_label t u h =
       frames = eqb→eq t.frames u.frames k.3 i;
       rate = r i;
     }
-

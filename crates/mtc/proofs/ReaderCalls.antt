@@ -268,4 +268,3 @@ pub sequence_is : (r : MtcReader) {raw : MtcTime} {d : Direction} {s : MtcSequen
     → raw ≡ raw_of r.nibbles → d ≡ direction_of r.direction → s ≡ sequence_of_label raw d r.previous → s ≡ sequence_of r
 unfolding sequence_of
 sequence_is r er ed es = rw (es, ed, er)
-

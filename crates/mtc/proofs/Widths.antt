@@ -10,4 +10,3 @@ pub valid_in_widths : (t : MtcTime) → T (is_valid t) → InWidths t
 valid_in_widths t v =
     let w : Widths t = labels.valid_widths t v in
     record { frames = w.frames; seconds = w.seconds; minutes = w.minutes; hours = w.hours }
-

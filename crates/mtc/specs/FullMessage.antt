@@ -42,4 +42,3 @@ full_data t = hours_byte t ∷ t.minutes ∷ t.seconds ∷ t.frames ∷ []
 -- What writing a full message emits: 5 for the device, 3 for a label that is not valid, then sub-ID 2 01H and the data.
 unfoldable pub full_message_written : FullMessage → Emission
 full_message_written m = write_kind m.device_id (is_valid m.time) 1 (full_data m.time)
-

@@ -118,4 +118,3 @@ after_generator_call g (locate t) = located g t
 unfoldable pub after_generator_calls : MtcGenerator → List GeneratorCall → MtcGenerator
 after_generator_calls g [] = g
 after_generator_calls g (c ∷ cs) = after_generator_calls (after_generator_call g c) cs
-

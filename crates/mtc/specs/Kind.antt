@@ -48,4 +48,3 @@ message_header bs = header (eqb (get_or bs 1 0) 127) (get_or bs 2 0) (get_or bs 
 -- The data: the bytes after these, up to the closing F7H.
 abbrev pub message_data : List ℕ → List ℕ
 message_data bs = take (length bs - 6) (drop 5 bs)
-

@@ -42,4 +42,3 @@ pieces t =
     ∷ (0x60 + t.hours % 16)
     ∷ (0x70 + bits_of t.rate * 2 + t.hours / 16 % 2)
     ∷ []
-

@@ -257,4 +257,3 @@ informed r t =
 -- The reader that a full message leaves.
 abbrev pub after_full_message : MtcReader → MtcTime → MtcReader
 after_full_message r t = informed (or_fresh r) t
-

@@ -47,4 +47,3 @@ pub record ReadsLabel (d : Direction) (bs : List ℕ) (t : MtcTime) (r : MtcRead
   pub reports : map (λ e. e.sequence) (events r bs) ≡ silent 7 ++ (Sequence (sequence_of_label t d r.previous) ∷ [])
   pub ready : Ready d (after_bytes r bs)
   pub previous : (after_bytes r bs).previous ≡ Time t
-

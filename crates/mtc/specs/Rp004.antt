@@ -80,4 +80,3 @@ is_boundary piece = eqb piece 0 || eqb piece 4
 -- The current time at the end of a sequence forward: its label is two frames late. In reverse the page does not say.
 abbrev pub current_time : MtcTime → MtcTime
 current_time t = label_after (label_after t)
-

@@ -49,4 +49,3 @@ user_bits_bytes device u =
 -- The groups as four bytes: hhhhgggg ffffeeee ddddcccc bbbbaaaa.
 unfoldable pub four_bytes : Groups → List ℕ
 four_bytes u = (u.h * 16 + u.g) ∷ (u.f * 16 + u.e) ∷ (u.d * 16 + u.c) ∷ (u.b * 16 + u.a) ∷ []
-

@@ -132,4 +132,3 @@ SentLaw =
     → bytes_sent 24 (run_from g t d)
     ≡ in_order d (pieces t)
     ++ (in_order d (pieces (shifted t d 2 2)) ++ in_order d (pieces (shifted t d 4 4)))
-

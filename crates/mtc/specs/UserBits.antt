@@ -92,4 +92,3 @@ groups_of u =
       i = u.flags % 2;
       j = u.flags / 2;
     }
-

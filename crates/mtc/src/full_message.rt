@@ -63,4 +63,3 @@ impl FullMessage {
         time_code(device_id, FULL_MESSAGE).write(&data, out)
     }
 }
-

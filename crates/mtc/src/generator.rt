@@ -198,4 +198,3 @@ fn send(time: MtcTime, direction: Direction, piece: u8) -> Sent
         byte: NextByte::Byte(QuarterFrame::piece(time, piece)),
     }
 }
-

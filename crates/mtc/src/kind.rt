@@ -39,4 +39,3 @@ pub fn is_time_code(u: Universal, sub_id2: u8) -> bool
         MaybeSubId2::SubId2(s) => s == sub_id2,
     }
 }
-

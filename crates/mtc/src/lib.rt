@@ -1,5 +1,7 @@
 // MIDI Time Code (RP-004/RP-008): quarter frames with their generator and reader, the full message and user bits, over the labels
 // of `labels`.
+#![tactic(auto)]
+
 mod full_message;
 mod generator;
 mod kind;

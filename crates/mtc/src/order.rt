@@ -8,7 +8,7 @@ use crate::reader::{MaybeDirection, MtcReader};
 
 // How a piece stands to those before it: whether it is the next one, the direction that it leaves, and whether it keeps the
 // lock.
-#[derive(Drop)]
+#[derive(Clone, Copy)]
 pub(crate) struct Order {
     pub next: bool,
     pub direction: MaybeDirection,
@@ -118,4 +118,3 @@ fn starts(direction: MaybeDirection, p: u8) -> bool
         MaybeDirection::Going(d) => p == d.first(),
     }
 }
-

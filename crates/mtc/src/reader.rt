@@ -401,4 +401,3 @@ pub fn same(t: MtcTime, u: MtcTime) -> bool
     let b = u.rate;
     a.into_bits() == b.into_bits()
 }
-

@@ -183,4 +183,3 @@ user_bits_layout device u = (refl, refl)
 pub user_bits_reads : ReadsOnly 2 9 received_bits user_bits_from
 unfolding user_bits_from
 user_bits_reads = reads_only 2 9 received_bits
-

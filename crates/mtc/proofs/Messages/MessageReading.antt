@@ -162,4 +162,3 @@ unfolding user_bits_from
 bits_whole u bs h l =
     let e : user_bits_from u bs ≡ gives (some (received_bits u.device_id bs)) = read_whole _ (length bs) 9 _ h l in
     rw e (refl, refl)
-

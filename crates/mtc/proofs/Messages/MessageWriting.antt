@@ -120,4 +120,3 @@ module _ (b : UserBits) (out : List ℕ) where
     bits_written u after r n v f p w =
         handed_on b.device_id in_range 2 (b.groups ++ b.flags ∷ []) u _ out after r low (rw (v, le-leb b.flags 3 f)) p
         (sym (ap (λ (l : List ℕ). l ++ b.flags ∷ []) (eight_spelled b.groups n))) w
-

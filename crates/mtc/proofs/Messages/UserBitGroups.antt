@@ -63,4 +63,3 @@ pub eight_spelled : (gs : List ℕ) → length gs ≡ 8
     → gs ≡ get_or gs 0 0 ∷ get_or gs 1 0 ∷ get_or gs 2 0 ∷ get_or gs 3 0 ∷ get_or gs 4 0 ∷ get_or gs 5 0 ∷ get_or gs 6 0 ∷ get_or gs 7 0 ∷ []
 unfolding values_from
 eight_spelled gs n = all_from gs 0 8 n
-

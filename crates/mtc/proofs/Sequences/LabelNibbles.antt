@@ -170,4 +170,3 @@ past_eight a b c d e f g h (suc (suc (suc (suc (suc zero))))) n0 n1 n2 n3 n4 n5 
 past_eight a b c d e f g h (suc (suc (suc (suc (suc (suc zero)))))) n0 n1 n2 n3 n4 n5 n6 n7 = absurd (n6 refl)
 past_eight a b c d e f g h (suc (suc (suc (suc (suc (suc (suc zero))))))) n0 n1 n2 n3 n4 n5 n6 n7 = absurd (n7 refl)
 past_eight a b c d e f g h (suc (suc (suc (suc (suc (suc (suc (suc n)))))))) n0 n1 n2 n3 n4 n5 n6 n7 = refl
-

@@ -283,4 +283,3 @@ module _ (bs : List â„•) (r : MtcReader) (h : Shape bs r) (d : Direction) (v : â
       go n (no_sequence e z) = subst First (sym e) (turning refl refl (no_start d x.direction z), inl refl)
       go n (begins_one e z) = subst First (sym e) (held x.direction (a_start d x.direction z) refl refl refl refl refl, inl refl)
       go n (next_one y z e) = ended n e (follows bs r (first d) h z y)
-

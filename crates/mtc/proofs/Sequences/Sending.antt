@@ -48,4 +48,3 @@ sends_three g t d =
 pub sent_law : SentLaw
 sent_law g t Forward = sends_three g t Forward ∙ rw (moved_by_sum t (sequence_frames Forward) (sequence_frames Forward))
 sent_law g t Reverse = sends_three g t Reverse ∙ rw (moved_by_sum t (sequence_frames Reverse) (sequence_frames Reverse))
-

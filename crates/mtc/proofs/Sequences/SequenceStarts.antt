@@ -88,4 +88,3 @@ starts_after_last d bs r (going f k s c l n h) e =
     let w : f ≡ opposite d = other_way d f k s (same_piece _ _ (sym l ∙ e)) in
     let n' : r.direction ≡ Going (opposite d) = n ∙ ap Going w in
     subst (Starts d) (sym (λ i. control_with r.count r.first (e i) (n' i))) (starts_turned d r.count r.first)
-

@@ -88,4 +88,3 @@ module _ (r : MtcReader) (h : Sound r) where
 
   pub full_sound : (t : MtcTime) → Sound (after_full_message r t)
   full_sound t = rw as_is (informed_sound r h t)
-

@@ -102,4 +102,3 @@ report_labels r b =
 pub sequence_of_lem : (r : MtcReader) → sequence_of_label (raw_of r.nibbles) (direction_of r.direction) r.previous ≡ sequence_of r
 unfolding sequence_of
 sequence_of_lem r = refl
-

@@ -326,4 +326,3 @@ stream_law calls g t d valid =
       twenty_fourth = last_report calls g t d valid;
       others = no_other calls g t d valid;
     }
-

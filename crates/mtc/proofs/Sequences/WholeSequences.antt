@@ -237,4 +237,3 @@ module _ (v : Values) where
             ap (λ (x : MtcReader). run x (seven d v ++ rest)) (λ i. with s s.nibbles (ec i) s.first (el i) (ed i))
             ∙ turning_at s d rest;
       }
-

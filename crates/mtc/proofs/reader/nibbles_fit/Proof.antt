@@ -50,4 +50,3 @@ nibbles-fit-spec =
     loop-less
     loop-again
     returns-2)
-

@@ -146,4 +146,3 @@ full-message-spec 𝓤 𝓛 𝓜 𝓡 =
     (tables 𝓤 𝓛.H 𝓜 𝓡 code.env).C (tables 𝓤 𝓛.H 𝓜 𝓡 code.env).Λ #full-message code.function (code.unfolded 𝓤 𝓛.H 𝓜 𝓡)
     (full-message-meets 𝓛 𝓜.mem 𝓡.run (tables_of 𝓤 𝓛.H 𝓜 (tables 𝓤 𝓛.H 𝓜 𝓡 code.env))
     (cited 𝓤 𝓛.H (Informed 𝓛 𝓜.mem 𝓡.run) 𝓜 𝓡 code.env #informed informed-def.routine code.calls-mtc::reader::MtcReader::informed (informed-thm.met 𝓤 𝓛 𝓜 𝓡)))
-

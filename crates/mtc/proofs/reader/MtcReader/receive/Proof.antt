@@ -164,4 +164,3 @@ receive-spec 𝓤 𝓛 𝓜 𝓡 =
     (tables 𝓤 𝓛.H 𝓜 𝓡 code.env).C (tables 𝓤 𝓛.H 𝓜 𝓡 code.env).Λ #receive code.function (code.unfolded 𝓤 𝓛.H 𝓜 𝓡)
     (receive-meets 𝓛 𝓜.mem 𝓡.run (tables_of 𝓤 𝓛.H 𝓜 (tables 𝓤 𝓛.H 𝓜 𝓡 code.env))
     (cited 𝓤 𝓛.H (Step 𝓛 𝓜.mem 𝓡.run) 𝓜 𝓡 code.env #step step-def.routine code.calls-mtc::reader::MtcReader::step (step_thm.met 𝓤 𝓛 𝓜 𝓡)))
-

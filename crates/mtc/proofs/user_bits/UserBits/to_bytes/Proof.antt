@@ -78,4 +78,3 @@ to-bytes-spec =
     array-read-t40
     add-t42
     returns)
-
