@@ -56,4 +56,3 @@ command_written_exactly = writing.command_written_exactly
 -- A field is accepted exactly where it is said that it may be written.
 pub field_written_exactly : (source : List ℕ) (x : InfoField) → ((field_item source x).stop ≡ none) ↔ FieldWrites source x
 field_written_exactly = writing.field_written_exactly
-

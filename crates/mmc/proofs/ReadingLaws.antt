@@ -267,4 +267,3 @@ walk_places f kind pre s =
     Walks.walk_taken f kind (pre ++ s) pre s t refl (reads_of (pre ++ s)) room
     ∙ ap (λ (w : Walk R.Item). record { items = map f (item_places kind (length pre) w.items); stop = w.stop })
     (sym (Walks.walked kind [] s t))
-

@@ -530,4 +530,3 @@ pub walk_item_read : (kind : Kind) (body : List ℕ) (xs : List Item) (x : Item)
 walk_item_read kind body xs x ys e =
     let b = walk_item_bytes kind body xs x ys e in
     item_read kind body (joined kind xs) x b.0 (length (joined kind xs)) (walk_item_fits kind body xs x ys e) b.1 refl
-

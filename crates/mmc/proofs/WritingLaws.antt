@@ -368,4 +368,3 @@ pub fields_entries : (out : List ℕ) (xs : List Entry) → length xs ≤ 256
 fields_entries out xs few =
     holds_all out (entries_emission xs) (0 + length xs) (after_entries (fields_opened out) xs)
     (holds_entries out xs (sent []) 0 (fields_opened out) (holds_fields out) (omega arith))
-

@@ -134,4 +134,3 @@ pub string_left_lem : (kind : Kind) (device : ℕ) (gs : List (Given kind)) (out
     (closed_message (after_items kind (opened (opening_of kind device) out) gs).writing).bytes
 unfolding string_left string_state
 string_left_lem kind device gs out = refl
-

@@ -127,4 +127,3 @@ FieldWrites source (F.TimeCode f c) = InForm f c.negative c.final_byte × (allow
 FieldWrites source (F.Short f c) = InForm f c.negative c.final_byte × (short_allowed Fps30 c ≡ true)
 FieldWrites source (F.Other n d) =
     (is_inside source n ≡ true) × (is_inside source d ≡ true) × Writable Fields (part_of source n) (part_of source d)
-

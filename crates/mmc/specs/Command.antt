@@ -82,4 +82,3 @@ command_answer_of (A.Refused e) = refused (refusal_of e)
 
 abbrev pub next_command_of : NextCommand → Next MmcCommand
 next_command_of r = record { answer = command_answer_of r.answer; place = r.place }
-

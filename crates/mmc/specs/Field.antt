@@ -49,4 +49,3 @@ field_answer_of (A.Refused e) = refused (refusal_of e)
 
 abbrev pub next_field_of : NextField → Next InfoField
 next_field_of r = record { answer = field_answer_of r.answer; place = r.place }
-

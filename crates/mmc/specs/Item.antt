@@ -98,4 +98,3 @@ unfoldable pub field_item : List ℕ → InfoField → Emission
 field_item source (F.TimeCode f c) = time_code_item f c
 field_item source (F.Short f c) = short_code_item f c
 field_item source (F.Other n d) = other_item Fields source n d
-

@@ -20,4 +20,3 @@ field_length n = cond (within 1 32 n) (Fixed 5) (cond (within 32 64 n) (Fixed 2)
 unfoldable pub length_of : Kind → ℕ → Length
 length_of Commands n = command_length n
 length_of Fields n = field_length n
-

@@ -34,4 +34,3 @@ message_by true false true true device = refused (refusal 2)
 message_by true false true false device = gives (some (Responses device))
 message_by true false false empty device = gives none
 message_by false commands responses empty device = gives none
-

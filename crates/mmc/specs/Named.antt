@@ -51,4 +51,3 @@ by_rule Count d = check (leb (length d) 127) 2 then sent (length d ∷ []) then 
 -- A name, which is checked first for its form and then for its bytes, and the data by its rule.
 unfoldable pub named_item : Kind → List ℕ → List ℕ → Emission
 named_item kind name d = check (name_fits name) 2 then data_emission name then by_rule (length_of kind (last_of_name name)) d
-

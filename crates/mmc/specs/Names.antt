@@ -11,11 +11,11 @@ use Rattle.universal.specs.Emission.{sent}
 pub record NamesRead (d : List ℕ) : Type 0 where
   pub stop : command_by_name (P.byte_of P.Stop) d ≡ K.stop
   pub play : command_by_name (P.byte_of P.Play) d ≡ K.play
-  pub deferred_play : command_by_name (P.byte_of P.DeferredPlay) d ≡ K.deferredPlay
-  pub fast_forward : command_by_name (P.byte_of P.FastForward) d ≡ K.fastForward
+  pub deferred_play : command_by_name (P.byte_of P.DeferredPlay) d ≡ K.deferred_play
+  pub fast_forward : command_by_name (P.byte_of P.FastForward) d ≡ K.fast_forward
   pub rewind : command_by_name (P.byte_of P.Rewind) d ≡ K.rewind
-  pub record_strobe : command_by_name (P.byte_of P.RecordStrobe) d ≡ K.recordStrobe
-  pub record_exit : command_by_name (P.byte_of P.RecordExit) d ≡ K.recordExit
+  pub record_strobe : command_by_name (P.byte_of P.RecordStrobe) d ≡ K.record_strobe
+  pub record_exit : command_by_name (P.byte_of P.RecordExit) d ≡ K.record_exit
   pub pause : command_by_name (P.byte_of P.Pause) d ≡ K.pause
   pub reset : command_by_name (P.byte_of P.MmcReset) d ≡ K.reset
   pub write : command_by_name (P.byte_of P.Write) d ≡ K.write
@@ -33,4 +33,3 @@ pub record NamesSent (source : List ℕ) : Type 0 where
   pub record_exit : command_item source C.RecordExit ≡ sent (P.byte_of P.RecordExit ∷ [])
   pub pause : command_item source C.Pause ≡ sent (P.byte_of P.Pause ∷ [])
   pub reset : command_item source C.Reset ≡ sent (P.byte_of P.MmcReset ∷ [])
-

@@ -12,4 +12,3 @@ part_of bytes p = cond (is_inside bytes p) (take p.len (drop p.start bytes)) []
 
 abbrev pub part : ℕ → ℕ → Part
 part start len = record { start = start; len = len }
-

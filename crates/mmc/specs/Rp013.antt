@@ -106,4 +106,3 @@ pub record Message (kind : Kind) (device : ℕ) (string bytes : List ℕ) : Type
   pub seven_bits : (i : ℕ) → i < length string → get_or string i 0 ≤ 0x7F
   pub well_formed : WellFormed kind string
   pub joined : bytes ≡ envelope kind device string
-

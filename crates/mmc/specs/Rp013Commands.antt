@@ -133,4 +133,3 @@ field_bytes (SHORT f rate c) = (field_name f + 0x20) ∷ short_written c
 abbrev pub IsField : Field → Type 0
 IsField (FULL f c) = (allowed c ≡ true) × HasForm f c.negative c.final_byte
 IsField (SHORT f rate c) = (short_allowed rate c ≡ true) × HasForm f c.negative c.final_byte
-

@@ -86,4 +86,3 @@ next_as f n = record { answer = answer_as f n.answer; place = n.place }
 -- What is made of the bytes of an item's name and data, and of where they lie.
 abbrev pub parts_as : {A : Type 0} → (List ℕ → List ℕ → Part → Part → A) → List ℕ → ItemPlace → A
 parts_as make body l = make (part_of body l.name) (part_of body l.«data») l.name l.«data»
-

@@ -287,4 +287,3 @@ field_back source (F.Other n d) = read_field (part_of source n) (part_of source 
 abbrev pub back : (kind : Kind) → Given kind → ItemPlace → Meaning kind
 back Commands g l = command_of_case (command_back g.source g.meant) l.name l.«data»
 back Fields g l = field_of_case (field_back g.source g.meant) l.name l.«data»
-

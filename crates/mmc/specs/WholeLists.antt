@@ -143,4 +143,3 @@ pub record Repeats (r : Refusal) (s t : State) : Type 0 where
 pub record InLimits (w : Writing) : Type 0 where
   pub items : w.items ≤ 256
   pub position : w.at ≤ 40000
-

@@ -93,4 +93,3 @@ whole_message w room = answer_in (closed_message w).stop (w.at + 1) room
 
 unfoldable pub whole_fields : Writing → ℕ → Answer ℕ
 whole_fields w room = answer_in (closed_fields w).stop w.at room
-

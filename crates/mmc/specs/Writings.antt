@@ -88,4 +88,3 @@ body_of s = up_to_close (drop 4 s)
 abbrev pub message_of : Kind → ℕ → MmcMessage
 message_of Commands device = M.Commands device
 message_of Fields device = M.Responses device
-

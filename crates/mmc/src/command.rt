@@ -181,4 +181,3 @@ pub fn next_command(body: &[u8], place: usize) -> NextCommand
     };
     NextCommand { answer, place }
 }
-

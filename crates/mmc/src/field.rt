@@ -88,4 +88,3 @@ pub fn next_field(body: &[u8], place: usize) -> NextField
     };
     NextField { answer, place }
 }
-

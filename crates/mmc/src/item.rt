@@ -284,4 +284,3 @@ pub(crate) fn put_field(out: &mut [u8], at: usize, source: &[u8], field: InfoFie
         InfoField::Other { name, data } => put_other(out, at, source, name, data, Kind::Fields),
     }
 }
-

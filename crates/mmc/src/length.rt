@@ -47,4 +47,3 @@ pub(crate) fn length_of(kind: Kind, name: u8) -> Length
         Kind::Fields => field_length(name),
     }
 }
-

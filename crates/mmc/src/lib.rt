@@ -1,4 +1,6 @@
 // MIDI Machine Control (RP-013): command and field strings, read and written, over the time code fields of `codes`.
+#![tactic(auto)]
+
 pub mod command;
 mod field;
 mod item;

@@ -44,4 +44,3 @@ impl MmcMessage {
         ReadMmcMessage::NotThis
     }
 }
-

@@ -128,4 +128,3 @@ pub(crate) fn put_byte(out: &mut [u8], at: usize, byte: u8) -> Put
         checked: Checked::Accepted,
     }
 }
-

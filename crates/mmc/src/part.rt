@@ -37,4 +37,3 @@ impl Part {
         &bytes[start..end]
     }
 }
-

@@ -109,4 +109,3 @@ pub fn next_parts(body: &[u8], place: usize, kind: Kind) -> NextParts
         },
     }
 }
-

@@ -242,4 +242,3 @@ impl Writer {
         Written::Length(at)
     }
 }
-
