@@ -258,10 +258,6 @@ moved_numbered t z n r e er =
 
 -- ---- a few frames away in the same second
 
-pub was_true : (b : Bool) → not b ≡ false → b ≡ true
-was_true true e = refl
-was_true false e = sym e
-
 module _ (r : TimeCodeType) (h m s f : ℕ) (hh : h ≤ 23) (hm : m ≤ 59) (hs : s ≤ 59) (low : 2 ≤ f) where
   -- From the third number of a second on none is skipped.
   same_second_valid : f < frames_per_second r → T (is_valid (label r h m s f))

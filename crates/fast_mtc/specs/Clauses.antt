@@ -64,4 +64,3 @@ pub record SteadyLabel (ws : List ℕ) (raw : MtcTime) (d : Direction) : Type 0 
   pub most : raw.frames ≤ 27
   pub least : 1 ≤ raw.frames
   pub report : sequence_of_label raw d (time_in (get_or ws 11 0) (get_or ws 12 0)) ≡ steady d raw
-

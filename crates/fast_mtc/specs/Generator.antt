@@ -66,4 +66,3 @@ sent_by g p = record { time = g.time; direction = g.direction; last = Piece p; r
 unfoldable pub flat_byte : Answer ℕ → FlatByte
 flat_byte (gives b) = record { refusal = 0; byte = b }
 flat_byte (refused r) = record { refusal = r.number; byte = 0 }
-

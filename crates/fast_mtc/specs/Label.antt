@@ -7,4 +7,3 @@ use Rattle.labels.specs.declared.time.MtcTime.{MtcTime}
 unfoldable pub label_number : MtcTime → ℕ
 label_number t =
     t.hours + t.minutes * 256 + t.seconds * 65536 + t.frames * 16777216 + bits_of t.rate * 4294967296
-

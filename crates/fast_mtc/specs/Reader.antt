@@ -166,4 +166,3 @@ no_sequence = record { raw = no_time; current = no_time; direction = 0; disconti
 unfoldable pub flat_maybe_sequence : MaybeSequence → FlatMaybeSequence
 flat_maybe_sequence NoSequence = record { present = false; sequence = no_sequence }
 flat_maybe_sequence (Sequence s) = record { present = true; sequence = flat_sequence s }
-

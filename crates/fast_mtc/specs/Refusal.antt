@@ -6,4 +6,3 @@ use Rattle.universal.specs.Refusals.{Answer, gives, refused}
 unfoldable pub refusal_in : {A : Type 0} → Answer A → ℕ
 refusal_in (gives a) = 0
 refusal_in (refused r) = r.number
-

@@ -46,4 +46,3 @@ time_numbered n =
 -- All zeros, where there is no label.
 abbrev pub no_time : FlatTime
 no_time = record { hours = 0; minutes = 0; seconds = 0; frames = 0; rate = 0 }
-

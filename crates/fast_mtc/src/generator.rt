@@ -163,4 +163,3 @@ fn time_in(g: &[u8; 8]) -> MtcTime
         rate: TimeCodeType::from_bits(g[4]),
     }
 }
-

@@ -286,4 +286,3 @@ pub fn next_time(t: MtcTime, direction: Direction) -> MtcTime
         Direction::Reverse => two_earlier(t),
     }
 }
-

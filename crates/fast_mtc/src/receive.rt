@@ -282,4 +282,3 @@ fn after_7(r: &mut [u32; 15], byte: u8) -> u64
     r[LOCKED] = 0;
     go_nowhere(r, p, byte)
 }
-

@@ -238,4 +238,3 @@ fn steady(raw: MtcTime, direction: Direction) -> MtcSequence
         discontinuity: false,
     }
 }
-

@@ -122,4 +122,3 @@ pub fn flat_frame(q: QuarterFrame) -> FlatFrame
         value: q.value,
     }
 }
-

@@ -334,4 +334,3 @@ pub fn full_message(r: &mut [u32; 15], time: MtcTime)
     r[TIME_MARK] = rate_mark(rate);
     r[TIME] = label_word(time);
 }
-

@@ -118,4 +118,3 @@ applied_fits g device own c h = go (leb device 127 && leb own 127) (is_addressed
     go true true = acted_fits g c h
     go true false = h
     go false a = h
-

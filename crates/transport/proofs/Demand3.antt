@@ -96,4 +96,3 @@ ends_at gs a b c device out n h v k =
 pub demand3_written : Demand3Written
 demand3_written gs a b c device own out n g calls v k h o r =
     demand3 (ending_at gs a b c) device own out n g calls c.time h o r (ends_at gs a b c device out n h v k)
-

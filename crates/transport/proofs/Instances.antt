@@ -173,4 +173,3 @@ table =
 pub instances : map (λ (r : Row). r.given) table ≡ map (λ (r : Row). r.stated) table
 unfolding table group_bytes pieces events bytes_sent after_calls next_byte after_next_byte nibbles_fit is_sound or_fresh order_of number_of sequence_of after_piece report_of add_frames string_answer string_left string_state after_items opened_commands begun or_failed ready admitted W.writing_after closed_message whole_message command_item locate_target_item locate_field_item standard_item standard_fits standard_list is_valid opening overlay read_from walk_from next_command next split_at prefixes_at measured length_of command_length read_command command_by_name read_locate part_of is_inside
 instances = refl
-

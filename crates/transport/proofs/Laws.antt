@@ -13,4 +13,3 @@ pub use Rattle.transport.proofs.Acting.{applied_fits}
 -- A target: none where blank or still invalid; a valid label itself, a skipped one the least valid above it; always valid.
 pub use Rattle.transport.proofs.Acting.{blank_none, invalid_none, valid_some, valid_same, skipped_moved}
 pub use Rattle.transport.proofs.Obeying.{resolved_valid}
-

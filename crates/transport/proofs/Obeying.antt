@@ -159,4 +159,3 @@ locate_play device own g c t h k a e =
     mine g device own (LocateTarget c) h k a ∙ ap (locate_outcome g) e in
     ap (λ (o : Outcome). (applied o.generator device own Play).generator) l
     ∙ ap (λ (o : Outcome). o.generator) (mine (locate_outcome g (some t)).generator device own Play h k a)
-

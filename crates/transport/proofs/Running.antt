@@ -158,4 +158,3 @@ module _ (body : List ℕ) (device own place : ℕ) (g : MtcGenerator) (t : Turn
         ∙ ap (λ (x : ℕ). summary_after (commands + 1) (refusals + x) (obey_from (length body - commands) body device own (next_command body place).place (applied g device own c).generator))
         (ap one_refused (sym v.reply) ∙ sym q)
         ∙ rw (m, ← left, ← after_place)
-

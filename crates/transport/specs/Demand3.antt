@@ -162,4 +162,3 @@ RefusedPasses =
     (before behind : List MmcCommand) (c : MmcCommand) (device own : ℕ) (g : MtcGenerator) (r : Refusal)
     → (applied (applied_all device own g before) device own c).answer ≡ refused r
     → applied_all device own g (before ++ (c ∷ behind)) ≡ applied_all device own g (before ++ behind)
-

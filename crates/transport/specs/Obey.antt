@@ -77,4 +77,3 @@ summary r = summary_after 0 0 r
 -- The code's own form of it.
 abbrev pub obeyed_of : Obeyed → Summary
 obeyed_of o = summed_up o.generator o.commands o.refused (refusal_of o.stop)
-

@@ -102,4 +102,3 @@ applied g device own c =
     cond (leb device 127 && leb own 127)
     (cond (is_addressed device own) (acted g c) (record { generator = g; answer = gives not_mine }))
     (unchanged g 5)
-

@@ -1,4 +1,6 @@
 // The transport of a MIDI Machine Control recorder: commands applied to a quarter frame generator.
+#![tactic(auto)]
+
 mod run;
 mod transport;
 

@@ -102,4 +102,3 @@ pub fn obey(start: MtcGenerator, device_id: u8, own: u8, body: &[u8]) -> Obeyed
         refused += one_refused(reply);
     }
 }
-

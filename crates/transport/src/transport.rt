@@ -128,4 +128,3 @@ pub fn apply(generator: MtcGenerator, device_id: u8, own: u8, command: MmcComman
     }
     act(generator, command)
 }
-
