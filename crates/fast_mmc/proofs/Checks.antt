@@ -13,4 +13,3 @@ pub checked_number : {A : Type 0} (c : Checked) (a : A) → flat_stop (stop_of c
 unfolding flat_stop
 checked_number Accepted a = sym (in_gives a)
 checked_number {A} (Refused e) a = sym (in_refused A (refusal_of e))
-

@@ -349,4 +349,3 @@ words_as_commands device cs out o =
       ap (λ (x : State). whole_message x.writing (length out)) s ∙ sym (string_answer_lem Commands device (given_all cs) out),
       ap closed_out s ∙ sym (string_left_lem Commands device (given_all cs) out),
     )
-

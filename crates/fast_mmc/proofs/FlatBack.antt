@@ -108,4 +108,3 @@ kind_says u d =
     go true false true false device = refl
     go true false false e device = refl
     go false c r e device = refl
-

@@ -178,4 +178,3 @@ word_move_sent w e z a b c d =
     (item_of w (Move (byte_at 256 w) (byte_at 65536 w))
     (is_word w (Move (byte_at 256 w) (byte_at 65536 w)) (said_move w (omega (arith, e)) e) (omega (arith, e, z))))
     ∙ command_written_by_page (MOVE (byte_at 256 w) (byte_at 65536 w)) [] (Move (byte_at 256 w) (byte_at 65536 w)) (a, b, c, d) refl
-

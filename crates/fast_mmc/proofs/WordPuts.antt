@@ -357,4 +357,3 @@ opened_words device out₀ ws out a left h q =
     let e : opened_commands device ≡ sent (240 ∷ 127 ∷ device ∷ 6 ∷ []) = commands_opened device h in
     message_words device out₀ ws (open_writing 4 0) out a left (sym (ap begun e ∙ begun_after (sent (240 ∷ 127 ∷ device ∷ 6 ∷ []))))
     (q ∙ ap (λ (x : Emission). overlay out₀ 0 x.bytes) (sym e))
-

@@ -89,4 +89,3 @@ usual_of w i k =
     go false e =
         let l = leb-false 2 (byte_at 281474976710656 w) e in
         slow_valid _ _ _ _ _ i.hours i.minutes i.seconds l (k.slow l)
-

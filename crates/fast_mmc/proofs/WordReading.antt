@@ -120,11 +120,11 @@ pub alone_low : (r : ℕ) → r < 7 → AloneWord (r + 1) r
 unfolding command_word
 alone_low zero h = name_known 1 0 K.stop (λ d. (names_read d).stop) (λ n a. refl)
 alone_low (suc zero) h = name_known 2 1 K.play (λ d. (names_read d).play) (λ n a. refl)
-alone_low (suc (suc zero)) h = name_known 3 2 K.deferredPlay (λ d. (names_read d).deferred_play) (λ n a. refl)
-alone_low (suc (suc (suc zero))) h = name_known 4 3 K.fastForward (λ d. (names_read d).fast_forward) (λ n a. refl)
+alone_low (suc (suc zero)) h = name_known 3 2 K.deferred_play (λ d. (names_read d).deferred_play) (λ n a. refl)
+alone_low (suc (suc (suc zero))) h = name_known 4 3 K.fast_forward (λ d. (names_read d).fast_forward) (λ n a. refl)
 alone_low (suc (suc (suc (suc zero)))) h = name_known 5 4 K.rewind (λ d. (names_read d).rewind) (λ n a. refl)
-alone_low (suc (suc (suc (suc (suc zero))))) h = name_known 6 5 K.recordStrobe (λ d. (names_read d).record_strobe) (λ n a. refl)
-alone_low (suc (suc (suc (suc (suc (suc zero)))))) h = name_known 7 6 K.recordExit (λ d. (names_read d).record_exit) (λ n a. refl)
+alone_low (suc (suc (suc (suc (suc zero))))) h = name_known 6 5 K.record_strobe (λ d. (names_read d).record_strobe) (λ n a. refl)
+alone_low (suc (suc (suc (suc (suc (suc zero)))))) h = name_known 7 6 K.record_exit (λ d. (names_read d).record_exit) (λ n a. refl)
 alone_low (suc (suc (suc (suc (suc (suc (suc n))))))) h = absurd (omega arith)
 
 pub alone_first : (name r : ℕ) → r + 1 ≡ name → name < 8 → AloneWord name r
@@ -266,4 +266,3 @@ module _ (body : List ℕ) (place : ℕ) (l : place < length body) (k : command_
       (λ (b : List ℕ). command_word (command_of_case (read_command (part_of body (part place 1)) b) (part place 1) (part (place + 1 + 1) (get_or body (place + 1) 0))))
       t)
       ∙ sym (ap next_word (command_counted body place l k h f))
-

@@ -13,4 +13,3 @@ flat_reply (refused r) = r.number
 
 unfoldable pub flat_applied : Outcome → FlatApplied
 flat_applied o = record { generator = flat_generator o.generator; answer = flat_reply o.answer }
-

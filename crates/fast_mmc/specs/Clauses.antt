@@ -74,4 +74,3 @@ pub data PutOne (word writer : ℕ) (out : List ℕ) : ℕ → List ℕ → Type
   went_out : {after : ℕ} {left : List ℕ} → writer < after → after ≡ writer_after writer (word_item word)
       → left ≡ out_after (writing_at writer) out (word_item word)
       → PutOne word writer out after left
-

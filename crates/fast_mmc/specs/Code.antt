@@ -86,4 +86,3 @@ no_short = record { frames = 0; negative = false; status = false; last = 0 }
 unfoldable pub flat_name : MaybeName → ℕ
 flat_name NoName = 0
 flat_name (Name n) = n
-

@@ -75,4 +75,3 @@ mmc_kind (refused r) = r.number
 -- The message of such a number, with the device that the header gives.
 unfoldable pub mmc_of : ℕ → ℕ → FlatMmcMessage
 mmc_of device n = cond (eqb n 0) (flat_mmc 0 false device) (cond (eqb n 128) (flat_mmc 0 true device) (flat_mmc n false 0))
-

@@ -7,4 +7,3 @@ use Rattle.universal.specs.Refusals.{Answer, gives, refused, needed_of}
 unfoldable pub written_numbers : Answer ℕ → WrittenNumbers
 written_numbers (gives n) = record { refusal = 0; length = n }
 written_numbers (refused r) = record { refusal = r.number; length = needed_of r }
-

@@ -7,4 +7,3 @@ use Rattle.universal.specs.Refusals.{Refusal}
 unfoldable pub flat_stop : Option Refusal → ℕ
 flat_stop none = 0
 flat_stop (some r) = r.number
-

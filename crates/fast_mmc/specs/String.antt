@@ -107,4 +107,3 @@ flat_field_answer (refused r) place = record { refusal = r.number; field = coded
 
 unfoldable pub flat_next_field : Next InfoField → FlatNextField
 flat_next_field n = flat_field_answer n.answer n.place
-

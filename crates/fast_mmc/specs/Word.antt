@@ -144,4 +144,3 @@ OneWord (LocateTarget c) =
     × ((c.time.seconds < 256) × ((c.time.frames < 256) × (final_value c.final_byte < 256))))
 OneWord (Move a b) = (a < 256) × (b < 256)
 OneWord (Other n d) = ⊥
-

@@ -41,4 +41,3 @@ OneWords (c ∷ cs) = OneWord c × OneWords cs
 -- Commands that have no parts, as they are given to be written.
 abbrev pub given_all : List MmcCommand → List (S.Given Commands)
 given_all cs = map (S.given Commands []) cs
-

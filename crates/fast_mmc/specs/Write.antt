@@ -37,4 +37,3 @@ write_of_data d = command_item d (Write (part 0 (length d)))
 -- Another command, whose name and then its data stand at the front of a source.
 abbrev pub other_at_front : List ℕ → ℕ → ℕ → Emission
 other_at_front source name d = command_item source (Other (part 0 name) (part name d))
-

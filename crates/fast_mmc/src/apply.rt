@@ -34,4 +34,3 @@ pub fn flat_applied(a: Applied) -> FlatApplied
         answer: flat_reply(answer),
     }
 }
-

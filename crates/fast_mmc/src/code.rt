@@ -228,4 +228,3 @@ pub fn flat_short_bytes(written: ShortBytes) -> FlatShortBytes
         code: TwoBytes { bytes },
     }
 }
-

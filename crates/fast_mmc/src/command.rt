@@ -204,4 +204,3 @@ pub(crate) fn word_command(word: u64) -> MaybeCommand
     }
     MaybeCommand::Command(plain_command(word as u8))
 }
-

@@ -194,4 +194,3 @@ pub fn flat_user_bits(read: ReadUserBits) -> FlatReadUserBits
         bits: flat_bits(bits),
     }
 }
-

@@ -24,4 +24,3 @@ pub fn written_numbers(written: Written) -> WrittenNumbers
         },
     }
 }
-

@@ -88,4 +88,3 @@ pub fn put_other(
     let back = wrote.writer;
     flat_writer(back)
 }
-

@@ -14,4 +14,3 @@ pub fn flat_stop(checked: Checked) -> u8
         Checked::Refused(e) => e.number(),
     }
 }
-

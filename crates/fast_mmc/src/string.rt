@@ -288,4 +288,3 @@ pub fn flat_next_field(n: NextField) -> FlatNextField
     let answer = n.answer;
     flat_field_answer(answer, n.place)
 }
-

@@ -333,4 +333,3 @@ pub fn write_words(out: &mut [u8], device_id: u8, words: &[u64]) -> WrittenNumbe
     }
     put_words(out, words)
 }
-

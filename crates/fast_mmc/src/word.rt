@@ -242,4 +242,3 @@ pub fn next_word(body: &[u8], place: usize) -> NextWord
     }
     counted_word(body, place)
 }
-

@@ -39,4 +39,3 @@ pub fn flat_writer(w: Writer) -> FlatWriter
     let refusal = flat_stop(checked) as u64;
     at + items * 0x1_0000_0000 + refusal * 0x1_0000_0000_0000
 }
-

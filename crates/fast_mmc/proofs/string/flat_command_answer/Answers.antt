@@ -1,0 +1,11 @@
+-- `fast_mmc::string::flat_command_answer` meets its contract. Assumes nothing.
+use Rattle.fast_mmc.specs.String.{flat_command_answer}
+use Rattle.fast_mmc.proofs.string.flat_command_answer.Goals as goal
+
+pub returns-in-Command : goal.returns-in-Command
+unfolding flat_command_answer
+returns-in-Command c = rw (c.in-Command.is, c.flat_command.ensures)
+
+pub returns-in-Refused : goal.returns-in-Refused
+unfolding flat_command_answer
+returns-in-Refused c = rw (c.in-Refused.is, c.flat_values.ensures, c.number.ensures)

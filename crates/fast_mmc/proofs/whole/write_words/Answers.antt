@@ -1,0 +1,15 @@
+use Rattle.fast_mmc.proofs.WordPuts.{refused_words, opened_words}
+use Rattle.universal.proofs.Clauses.{value_and_out}
+use Rattle.fast_mmc.proofs.whole.write_words.Goals as goal
+
+pub returns-then-device_id-gt127 : goal.returns-then-device_id-gt127
+returns-then-device_id-gt127 c = value_and_out (refused_words _ _ _ c.if-device_id-gt127.true)
+
+pub returns-then-out-lt4 : goal.returns-then-out-lt4
+returns-then-out-lt4 c = value_and_out (opened_words _ _ _ _ _ _ c.if-device_id-gt127.false c.put_start.ensures (c.put_rest.ensures.value, c.put_rest.ensures.out_after))
+
+pub returns-then-words-gt-MOST_COMMANDS : goal.returns-then-words-gt-MOST_COMMANDS
+returns-then-words-gt-MOST_COMMANDS c = value_and_out (opened_words _ _ _ _ _ _ c.if-device_id-gt127.false c.put_start-2.ensures (c.put_rest-then-words-gt-MOST_COMMANDS.ensures.value, c.put_rest-then-words-gt-MOST_COMMANDS.ensures.out_after))
+
+pub returns : goal.returns
+returns c = value_and_out (opened_words _ _ _ _ _ _ c.if-device_id-gt127.false c.put_start-2.ensures (c.put_words.ensures.value, c.put_words.ensures.out_after))
