@@ -9,9 +9,9 @@ COMPARE = $(or $(CARGO_TARGET_DIR),compare/target)/release/compare
 C_FLAGS = -std=c11 -Wall -Wextra -Wpedantic -Werror -O2
 ARCHIVE = target/staticlib/libfimbrast.a
 
-# What the archive is made of: fimbrast and the crates that its line in crates.txt names. The folders stand here too, for a file that
+# What the archive is made of: fimbrast_c and the crates that its line in crates.txt names. The folders stand here too, for a file that
 # went away.
-ARCHIVE_CRATES := $(addprefix crates/,fimbrast $(shell sed -n 's/^fimbrast://p' crates.txt))
+ARCHIVE_CRATES := $(addprefix crates/,fimbrast_c $(shell sed -n 's/^fimbrast_c[^:]*://p' crates.txt))
 ARCHIVE_SOURCES := crates.txt $(shell find $(wildcard $(ARCHIVE_CRATES:=/src) $(ARCHIVE_CRATES:=/specs) $(ARCHIVE_CRATES:=/proofs)))
 # FIMBRAST_LIB names another folder that has an archive; then none is built for the Rust parts.
 LINKED = $(if $(FIMBRAST_LIB),,$(ARCHIVE))
@@ -22,39 +22,45 @@ MAKE_BINDINGS = --offline --quiet --manifest-path bindings/make_bindings/Cargo.t
 PART ?= mtc
 
 .NOTPARALLEL:
-.PHONY: test part run prove words library bindings bindings-made write-bindings c-example compare compare-long bench after-proof
+.PHONY: test part run program prove listed words library bindings bindings-made write-bindings c-example compare compare-long bench after-proof
 
-test: prove after-proof
-	@tail -n 1 target/gate.log
+test:
+	@.ci/run
 
 # One crate and those below it: proved, and their edits refused. PART=name says which.
 part:
-	@rt must-fail $(PART)
+	@.ci/judge target/part.log rt ci $(PART)
 
 # Says in plain words what becomes of the example strings, good and bad.
-run:
-	@mkdir -p target && { rt check mmc_check > target/run.log 2>&1 || { tail -n 20 target/run.log; exit 1; }; }
+run: program
 	@target/bin/mmc_check examples/strings.txt
 
-# Proves every crate from nothing, runs the programs, tries the edits that must be refused.
+# target/bin/mmc_check, proved as its sources are; rt runs what it builds, here for its page of help.
+program:
+	@mkdir -p target/bin
+	@cd crates/mmc_check && rt run -- --help > ../../target/run.log 2>&1 || { tail -n 20 ../../target/run.log; exit 1; }
+	@cp -f crates/mmc_check/out/mmc_check target/bin/mmc_check
+
+# Proves every crate, runs the programs, tries the edits that must be refused: the gate without what comes after the proof.
 prove:
-	@for d in crates/*/; do n=$$(basename "$$d"); \
-	  grep -Eq "^[[:space:]]*$$n[[:space:]]*:" crates.txt || { echo "crates/$$n is not in crates.txt"; exit 1; }; done
-	@rt fmt --check
-	@log=$$(mktemp) && { rt ci 2>&1 | tee "$$log"; } && mkdir -p target && mv "$$log" target/gate.log
-	@tail -n 1 target/gate.log | grep -Eq '^[1-9][0-9]* passed, 0 failed$$'
+	@.ci/judge target/gate.log rt ci
 
 # The library for C and Rust, and what it answers there; where cargo or the published Rust is missing, a line says what was left out.
 after-proof:
-	@$(MAKE) --no-print-directory words library c-example
+	@$(MAKE) --no-print-directory listed words library c-example
 	@if $(CARGO) --version >/dev/null 2>&1; then $(MAKE) --no-print-directory bindings-made bindings; \
 	  else echo "bindings/rust was not tested, the made files not made again, and old not compared with new: there is no cargo here"; fi
 	@if ! $(CARGO) --version >/dev/null 2>&1; then :; \
 	  elif [ -f "$(OLD)/mtc.rs" ]; then $(MAKE) --no-print-directory compare; \
 	  else echo "old was not compared with new: no mtc.rs in $(OLD); give its folder with OLD=.."; fi
 
+# Each crate has its line in crates.txt: without one it is not proved. A folder with nothing but what rt made is no crate.
+listed:
+	@for d in crates/*/; do n=$$(basename "$$d"); [ "$$(ls "$$d")" = out ] || \
+	  grep -Eq "^[[:space:]]*$$n([[:space:]][^:]*)?:" crates.txt || { echo "crates/$$n is not in crates.txt"; exit 1; }; done
+
 # What mmc_check says of the example strings and of the handbook's.
-words:
+words: program
 	@examples/check
 
 # target/staticlib/libfimbrast.a, for C and Rust to link.
@@ -63,9 +69,10 @@ library: $(ARCHIVE)
 
 # It is as old as the moment when its making began: a source that moves meanwhile is newer.
 $(ARCHIVE): $(ARCHIVE_SOURCES)
-	@mkdir -p target && touch target/staticlib.begun && { rt staticlib fimbrast > target/staticlib.log 2>&1 || \
-	  { tail -n 20 target/staticlib.log >&2; echo "$(ARCHIVE) could not be made" >&2; exit 1; }; }
-	@touch -r target/staticlib.begun $(ARCHIVE)
+	@mkdir -p $(@D) && touch target/staticlib.begun
+	@cd crates/fimbrast_c && rt lib > ../../target/staticlib.log 2>&1 || \
+	  { tail -n 20 ../../target/staticlib.log >&2; echo "$(ARCHIVE) could not be made" >&2; exit 1; }
+	@cp crates/fimbrast_c/out/libfimbrast_c.a $@.new && touch -r target/staticlib.begun $@.new && mv $@.new $@
 
 # The example and the header's layout, compiled without a warning, print what they should.
 c-example: $(ARCHIVE)
@@ -74,11 +81,12 @@ c-example: $(ARCHIVE)
 	  $(CC) $(C_FLAGS) bindings/c/$$p.c -Ibindings/c $(ARCHIVE) -o target/c/$$p && \
 	  target/c/$$p > target/c/$$p.out && diff target/c/$$p.out bindings/c/$$p.out || exit 1; done; echo "bindings/c: example and layout as expected"
 
-# What C and Rust are told of the library is what its source says: the made files are those that would be made now.
+# What C and Rust are told of the library is what its source says: the made files are those that would be made now. They are made
+# outside the checkout, where rt would refuse a Rattle file that no crate has.
 bindings-made:
 	@$(CARGO) test $(MAKE_BINDINGS)
-	@rm -rf target/made && $(CARGO) run $(MAKE_BINDINGS) -- . target/made
-	@for f in $$(cd target/made && find * -type f); do diff -u $$f target/made/$$f || \
+	@made=$$(mktemp -d) && trap 'rm -rf "$$made"' EXIT && $(CARGO) run $(MAKE_BINDINGS) -- . "$$made" && \
+	for f in $$(cd "$$made" && find * -type f); do diff -u $$f "$$made/$$f" || \
 	  { echo "$$f is not what the source makes: run \`make write-bindings\` and commit what it writes"; exit 1; }; done
 	@echo "bindings: the made files are those of the source"
 

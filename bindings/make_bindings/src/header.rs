@@ -1,6 +1,6 @@
 //! The C header, from its template: a line that begins with `@` stands for what is made.
 
-use crate::library::{Declared, Library, Module};
+use crate::library::{Declared, Library, Module, EXPORTS};
 use crate::parse::{Call, Field, Record, Type};
 use crate::passed::{scalar, Passed};
 use crate::refusals::Refusals;
@@ -64,7 +64,7 @@ impl<'a> Header<'a> {
         for module in &self.library.modules {
             if !self.modules.contains(&module.name.as_str()) {
                 return Err(format!(
-                    "crates/fimbrast/src/{}.rt has calls and no place in the header: give it one by a line `@module {}` in \
+                    "crates/{EXPORTS}/src/{}.rt has calls and no place in the header: give it one by a line `@module {}` in \
                      bindings/make_bindings/templates/fimbrast.h",
                     module.name, module.name
                 ));
@@ -221,7 +221,7 @@ mod tests {
     use crate::library::of;
 
     const CALL: &str = "// Parts.\n\n// A place.\n#[repr(C)]\npub struct FlatPlace {\n    pub bytes: [u8; 4],\n}\n\n// Reads.\n// More.\n\
-         #[no_mangle]\npub extern \"C\" fn fimbrast_place(place: &[u8; 4], out: &mut [u8]) -> FlatPlace\n{\n";
+         #[unsafe(no_mangle)]\npub extern \"C\" fn fimbrast_place(place: &[u8; 4], out: &mut [u8]) -> FlatPlace\n{\n";
 
     fn header(template: &str) -> Result<String, String> {
         let none = Refusals { all: Vec::new() };

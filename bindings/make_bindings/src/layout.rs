@@ -76,7 +76,7 @@ mod tests {
     use crate::library::of;
 
     const CALL: &str = "// Parts.\n\n// A place.\n#[repr(C)]\npub struct FlatPlace {\n    pub at: u8,\n    pub length: usize,\n    pub last: [u8; 3],\n}\n\n// A fresh one.\n\
-         #[no_mangle]\npub extern \"C\" fn fimbrast_fresh() -> FlatPlace\n{\n";
+         #[unsafe(no_mangle)]\npub extern \"C\" fn fimbrast_fresh() -> FlatPlace\n{\n";
 
     #[test]
     fn fields_lie_where_c_puts_them() {

@@ -9,8 +9,10 @@ use crate::passed::scalar;
 use crate::refusals::snake;
 use crate::version::{self, Version};
 
-/// The crate whose calls are exported.
-const CRATE: &str = "fimbrast";
+/// The crate that exports the calls.
+pub const EXPORTS: &str = "fimbrast_c";
+/// The crate that has them, under the same names.
+const CALLS: &str = "fimbrast";
 
 /// Records whose name for C and Rust is not their own without `Flat`.
 const NAMES: [(&str, &str); 5] = [
@@ -38,25 +40,28 @@ pub enum Declared<'a> {
 #[derive(Default)]
 pub struct Library {
     pub modules: Vec<Module>,
+    /// The calls that may be exported, as their own crate has them.
+    plain: Vec<Call>,
     records: BTreeMap<String, Record>,
     aliases: BTreeMap<String, Alias>,
 }
 
 impl Library {
-    /// Reads the exported crate and those that it is built over. The version's file is taken as it will be made.
+    /// Reads the exporting crate and those that it is built over. The version's files are taken as they will be made.
     pub fn read(root: &Path, version: &Version) -> Result<Self, String> {
         let mut library = Self::default();
         for name in crates(root)? {
             for path in sources(&root.join("crates").join(&name).join("src"))? {
-                let text = match path.ends_with(version::CODE) {
-                    true => version.code(),
-                    false => crate::read(&path)?,
+                let text = match &path {
+                    path if path.ends_with(version::CALLS) => version.calls(),
+                    path if path.ends_with(version::EXPORTS) => version.exports(),
+                    path => crate::read(path)?,
                 };
                 let file = parse::file(&text).map_err(|w| format!("{}: {w}", path.display()))?;
                 library.take(&name, &path, file)?;
             }
         }
-        library.checked()
+        library.checked()?.held()
     }
 
     fn take(&mut self, of: &str, path: &Path, file: File) -> Result<(), String> {
@@ -70,8 +75,14 @@ impl Library {
                 return Err(format!("there are two types {}", other.name));
             }
         }
-        if let (true, Some(call)) = (of != CRATE, file.calls.first()) {
-            return Err(format!("{of} exports {}, and only {CRATE} may", call.name));
+        if let (true, Some(call)) = (of != EXPORTS, file.calls.first()) {
+            return Err(format!(
+                "{of} exports {}, and only {EXPORTS} may",
+                call.name
+            ));
+        }
+        if of == CALLS {
+            self.plain.extend(file.plain);
         }
         if !file.calls.is_empty() {
             let name = path.file_stem().unwrap_or_default();
@@ -92,7 +103,7 @@ impl Library {
             return Err(format!("there are two calls {}", twice[0]));
         }
         if names.is_empty() {
-            return Err(format!("crates/{CRATE}/src exports no call"));
+            return Err(format!("crates/{EXPORTS}/src exports no call"));
         }
         if let Some(both) = self.aliases.keys().find(|n| self.records.contains_key(*n)) {
             return Err(format!("{both} is a record and another type too"));
@@ -106,6 +117,29 @@ impl Library {
         Ok(self)
     }
 
+    /// The library, where each export has the comment, the parameters, the answer and the clauses of the call that it stands for: the
+    /// prover does not miss a clause that was left out.
+    fn held(self) -> Result<Self, String> {
+        for call in self.calls() {
+            let name = &call.name;
+            let plain = self.plain.iter().find(|plain| plain.name == *name);
+            if plain.ok_or(format!("crates/{CALLS}/src has no {name} to export"))? != call {
+                return Err(format!(
+                    "{name} is not written in crates/{EXPORTS}/src as in crates/{CALLS}/src: comment, parameters, answer and clauses \
+                     must be the same"
+                ));
+            }
+        }
+        let is_exported = |plain: &&Call| self.calls().any(|call| call.name == plain.name);
+        match self.plain.iter().find(|plain| !is_exported(plain)) {
+            Some(left) => Err(format!(
+                "crates/{EXPORTS}/src does not export {}",
+                left.name
+            )),
+            None => Ok(self),
+        }
+    }
+
     /// Every exported call.
     pub fn calls(&self) -> impl Iterator<Item = &Call> {
         self.modules.iter().flat_map(|module| &module.calls)
@@ -114,7 +148,7 @@ impl Library {
     /// A module by its name.
     pub fn module(&self, name: &str) -> Result<&Module, String> {
         let found = self.modules.iter().find(|m| m.name == name);
-        found.ok_or(format!("the header's template has the module {name}, and crates/{CRATE}/src has no calls in it"))
+        found.ok_or(format!("the header's template has the module {name}, and crates/{EXPORTS}/src has no calls in it"))
     }
 
     /// The record or number of a name.
@@ -125,7 +159,7 @@ impl Library {
         match self.aliases.get(name) {
             Some(alias) => Ok(Declared::Alias(alias)),
             None => Err(format!(
-                "`{name}` is no number and no #[repr(C)] struct of the crates below {CRATE}"
+                "`{name}` is no number and no #[repr(C)] struct of the crates below {EXPORTS}"
             )),
         }
     }
@@ -201,17 +235,24 @@ impl Library {
     }
 }
 
-/// The exported crate and those that it is built over, as crates.txt has them.
+/// The exporting crate and those that it is built over, as crates.txt has them.
 fn crates(root: &Path) -> Result<Vec<String>, String> {
     let text = crate::read(&root.join("crates.txt"))?;
-    let line = text
-        .lines()
-        .find_map(|l| l.strip_prefix(CRATE)?.strip_prefix(':'));
-    let below = line.ok_or(format!("crates.txt has no line for {CRATE}"))?;
-    let all = below.split_whitespace().chain([CRATE]).map(str::to_string);
+    let line = text.lines().find_map(below);
+    let below = line.ok_or(format!("crates.txt has no line for {EXPORTS}"))?;
+    let all = below
+        .split_whitespace()
+        .chain([EXPORTS])
+        .map(str::to_string);
     Ok(all
         .filter(|name| root.join("crates").join(name).is_dir())
         .collect())
+}
+
+/// What the exporting crate's line says of those below it: `NAME staticlib: BELOW`.
+fn below(line: &str) -> Option<&str> {
+    let (name, below) = line.split_once(':')?;
+    (name.split_whitespace().next() == Some(EXPORTS)).then_some(below)
 }
 
 /// The Rattle files of a folder, in the order of their names.
@@ -233,6 +274,51 @@ fn sources(folder: &Path) -> Result<Vec<PathBuf>, String> {
 #[cfg(test)]
 pub fn of(text: &str) -> Result<Library, String> {
     let mut library = Library::default();
-    library.take(CRATE, Path::new("part.rt"), parse::file(text)?)?;
+    library.take(EXPORTS, Path::new("part.rt"), parse::file(text)?)?;
     library.checked()
+}
+
+#[cfg(test)]
+mod tests {
+    use super::*;
+
+    /// What is said of a library with these plain calls and these exports.
+    fn said(plain: &str, exported: &str) -> String {
+        let mut library = of(exported).unwrap();
+        let file = parse::file(plain).unwrap();
+        library.take(CALLS, Path::new("part.rt"), file).unwrap();
+        library
+            .held()
+            .map(|_| "held".to_string())
+            .unwrap_or_else(|why| why)
+    }
+
+    fn exported(notes: &str, clauses: &str) -> String {
+        format!("{notes}#[unsafe(no_mangle)]\npub extern \"C\" fn fimbrast_a(x: u8) -> u8\n{clauses}{{\n")
+    }
+
+    #[test]
+    fn an_export_is_what_it_stands_for() {
+        let plain = "// A.\npub fn fimbrast_a(x: u8) -> u8\n    ensures { result ≡ x }\n{\n}\n";
+        let whole = exported("// A.\n", "    ensures { result ≡ x }\n");
+        assert_eq!(said(plain, &whole), "held");
+        assert!(said(plain, &exported("// A.\n", "")).starts_with("fimbrast_a is not written"));
+        assert!(
+            said(plain, &exported("// B.\n", "    ensures { result ≡ x }\n"))
+                .starts_with("fimbrast_a is not written")
+        );
+        assert!(said("", &whole).ends_with("has no fimbrast_a to export"));
+        let more = format!("{plain}\n// B.\npub fn fimbrast_b() {{\n}}\n");
+        assert!(said(&more, &whole).ends_with("does not export fimbrast_b"));
+    }
+
+    #[test]
+    fn the_line_of_the_exporting_crate_is_found() {
+        assert_eq!(
+            below("fimbrast_c staticlib: mtc fimbrast"),
+            Some(" mtc fimbrast")
+        );
+        assert_eq!(below("fimbrast: mtc"), None);
+        assert_eq!(below("# fimbrast_c staticlib: mtc"), None);
+    }
 }

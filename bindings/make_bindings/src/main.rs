@@ -1,9 +1,9 @@
 //! Makes what C and Rust know of the library from its Rattle source: `make_bindings ROOT OUT`.
 //!
-//! It reads the exported calls of `crates/fimbrast/src`, the records and numbers that they pass, the refusals of
-//! `crates/universal/src/error.rt` and the version in `bindings/rust/Cargo.toml`, all under ROOT. Under OUT it writes the header,
-//! the Rust declarations, where the fields of the records lie, and the Rattle files that have the version. What it does not
-//! understand it refuses, and writes nothing.
+//! It reads the exported calls of `crates/fimbrast_c/src`, which it holds to those of `crates/fimbrast/src`, the records and numbers
+//! that they pass, the refusals of `crates/universal/src/error.rt` and the version in `bindings/rust/Cargo.toml`, all under ROOT.
+//! Under OUT it writes the header, the Rust declarations, where the fields of the records lie, and the Rattle files that have the
+//! version. What it does not understand it refuses, and writes nothing.
 
 mod header;
 mod layout;
@@ -59,7 +59,8 @@ fn made(root: &Path) -> Result<Vec<(&'static str, String)>, String> {
         ),
         ("bindings/c/layout.c", layout::program(LAYOUT, &library)?),
         ("bindings/c/layout.out", layout::expected(&library)?),
-        (version::CODE, version.code()),
+        (version::CALLS, version.calls()),
+        (version::EXPORTS, version.exports()),
         (version::DEFINITION, version.definition()),
     ])
 }

@@ -1,4 +1,5 @@
-//! A Rattle file's records, numbers and exported calls, with the comments over them. Contracts and bodies are passed over.
+//! A Rattle file's records, numbers and exported calls, with the comments over them, and its plain calls to hold these to. Bodies are
+//! passed over.
 
 /// A type as it is written.
 #[derive(Debug, Clone, PartialEq, Eq)]
@@ -33,13 +34,15 @@ pub struct Alias {
     pub kind: Type,
 }
 
-/// A `#[no_mangle] pub extern "C" fn`.
+/// A `#[unsafe(no_mangle)] pub extern "C" fn`, or a plain `pub fn`.
 #[derive(Debug, Clone, PartialEq, Eq)]
 pub struct Call {
     pub notes: Vec<String>,
     pub name: String,
     pub parameters: Vec<Field>,
     pub answer: Option<Type>,
+    /// Its clauses as they are written, in one line.
+    pub clauses: String,
 }
 
 /// What a file declares for C.
@@ -50,9 +53,15 @@ pub struct File {
     pub records: Vec<Record>,
     pub aliases: Vec<Alias>,
     pub calls: Vec<Call>,
+    /// Those that are not exported.
+    pub plain: Vec<Call>,
 }
 
+const RECORD: &str = "#[repr(C)]";
+const EXPORT: &str = "#[unsafe(no_mangle)]";
 const EXPORTED: &str = "pub extern \"C\" fn ";
+/// A function that one may export has this beginning.
+const PLAIN: &str = "pub fn fimbrast_";
 
 /// Reads a file; a refusal names the line.
 pub fn file(text: &str) -> Result<File, String> {
@@ -99,11 +108,20 @@ fn heading(text: &str) -> String {
 }
 
 /// Takes one item that begins with `line`, where it is one for C.
-fn item(line: &str, notes: Vec<String>, lines: &mut Lines, file: &mut File) -> Result<(), String> {
-    if line == "#[repr(C)]" {
-        file.records.push(record(notes, lines)?);
-    } else if line == "#[no_mangle]" {
-        file.calls.push(call(notes, lines)?);
+fn item<'a>(
+    line: &'a str,
+    notes: Vec<String>,
+    lines: &mut Lines<'a>,
+    file: &mut File,
+) -> Result<(), String> {
+    let (marks, line) = attributes(line, lines);
+    let is_marked = |mark: &str| marks.iter().any(|m| m == mark);
+    if is_marked(RECORD) {
+        file.records.push(record(line, notes, lines)?);
+    } else if is_marked(EXPORT) {
+        file.calls.push(call(EXPORTED, line, notes, lines)?);
+    } else if line.starts_with(PLAIN) {
+        file.plain.push(call("pub fn ", line, notes, lines)?);
     } else if let Some(alias) = line.strip_prefix("pub type ") {
         let whole = alias.strip_suffix(';').and_then(|a| a.split_once(" = "));
         let (name, kind) = whole.ok_or("a type that is not `pub type NAME = TYPE;`")?;
@@ -111,13 +129,28 @@ fn item(line: &str, notes: Vec<String>, lines: &mut Lines, file: &mut File) -> R
         let name = name.to_string();
         file.aliases.push(Alias { notes, name, kind });
     } else if line.contains("extern \"C\" fn") {
-        return Err("a call for C that is not marked #[no_mangle] on the line before".into());
+        return Err(format!("a call for C that is not marked {EXPORT}"));
     }
     Ok(())
 }
 
-fn record(notes: Vec<String>, lines: &mut Lines) -> Result<Record, String> {
-    let first = lines.next().unwrap_or_default();
+/// The attributes from `line` on, each as one text, and the line after them.
+fn attributes<'a>(line: &'a str, lines: &mut Lines<'a>) -> (Vec<String>, &'a str) {
+    let (mut all, mut line) = (Vec::new(), line);
+    while line.starts_with("#[") {
+        let mut text = line.to_string();
+        // A long one goes on over lines.
+        while text.matches('[').count() > text.matches(']').count() {
+            let Some(more) = lines.next() else { break };
+            text.push_str(more.trim());
+        }
+        all.push(text);
+        line = lines.next().unwrap_or_default();
+    }
+    (all, line)
+}
+
+fn record(first: &str, notes: Vec<String>, lines: &mut Lines) -> Result<Record, String> {
     let name = first
         .strip_prefix("pub struct ")
         .and_then(|rest| rest.strip_suffix(" {"))
@@ -154,10 +187,15 @@ fn field(notes: Vec<String>, pair: &str) -> Result<Field, String> {
     })
 }
 
-fn call(notes: Vec<String>, lines: &mut Lines) -> Result<Call, String> {
-    let text = signature(lines);
-    let rest = text.strip_prefix(EXPORTED);
-    let rest = rest.ok_or("no `pub extern \"C\" fn` stands below #[no_mangle]")?;
+fn call<'a>(
+    start: &str,
+    line: &'a str,
+    notes: Vec<String>,
+    lines: &mut Lines<'a>,
+) -> Result<Call, String> {
+    let (text, clauses) = signature(line, lines);
+    let rest = text.strip_prefix(start);
+    let rest = rest.ok_or(format!("no `{}` stands below {EXPORT}", start.trim_end()))?;
     let (name, rest) = rest.split_once('(').ok_or("a call without parameters")?;
     let (inside, after) = rest
         .rsplit_once(')')
@@ -177,26 +215,39 @@ fn call(notes: Vec<String>, lines: &mut Lines) -> Result<Call, String> {
         name: name.to_string(),
         parameters,
         answer,
+        clauses,
     })
 }
 
-/// The lines of a call up to its contract or its body, as one.
-fn signature(lines: &mut Lines) -> String {
-    let mut text = String::new();
-    while let Some(line) = lines.next() {
-        let line = line.trim();
-        if line.starts_with("ensures") || line.starts_with("requires") || line == "{" {
+/// The lines of a call up to its body: those before its clauses as one, and the clauses as one.
+fn signature<'a>(first: &'a str, lines: &mut Lines<'a>) -> (String, String) {
+    let (mut text, mut clauses) = (String::new(), Vec::new());
+    let mut next = Some(first);
+    while let Some(line) = next.map(str::trim) {
+        if line == "{" {
             break;
         }
-        text.push_str(line.trim_end_matches('{').trim_end());
-        if line.ends_with('{') {
-            break;
+        if is_clause(line) || !clauses.is_empty() {
+            clauses.push(line);
+        } else {
+            text.push_str(line.trim_end_matches('{').trim_end());
+            if line.ends_with('{') {
+                break;
+            }
+            if line.ends_with(',') {
+                text.push(' ');
+            }
         }
-        if line.ends_with(',') {
-            text.push(' ');
-        }
+        next = lines.next();
     }
-    text
+    (text, clauses.join(" "))
+}
+
+/// Whether a line begins a clause, and not a parameter whose name begins likewise.
+fn is_clause(line: &str) -> bool {
+    let after = |word| line.strip_prefix(word);
+    let rest = after("ensures").or(after("requires"));
+    rest.is_some_and(|rest| rest.starts_with([' ', '*', '{']))
 }
 
 /// The parts between commas that stand in no bracket.
@@ -250,7 +301,7 @@ pub fn written(text: &str) -> Result<Type, String> {
 mod tests {
     use super::*;
 
-    const FILE: &str = "// Labels, and more. Then this.\nuse a::B;\n\n// A label.\n// Of two lines.\n#[repr(C)]\npub struct FlatTime {\n    // 0 to 23.\n    pub hours: u8,\n    pub rest: [u8; 4],\n}\n\n// Reads.\n#[no_mangle]\npub extern \"C\" fn fimbrast_read(\n    time: &[u8; 5],\n    out: &mut [u8],\n) -> FlatTime\n    ensures { λ r. ⌜ r ≡ x ⌝ }\n{\n    1\n}\n";
+    const FILE: &str = "// Labels, and more. Then this.\nuse a::B;\n\n// A label.\n// Of two lines.\n#[repr(C)]\n#[derive(Drop)]\npub struct FlatTime {\n    // 0 to 23.\n    pub hours: u8,\n    pub rest: [u8; 4],\n}\n\n// Reads.\n#[unsafe(no_mangle)]\npub extern \"C\" fn fimbrast_read(\n    time: &[u8; 5],\n    out: &mut [u8],\n) -> FlatTime\n    ensures { result ≡ x }\n{\n    1\n}\n";
 
     fn named(name: &str) -> Type {
         Type::Named(name.into())
@@ -274,6 +325,23 @@ mod tests {
             to: Box::new(lent),
         };
         assert_eq!(call.parameters[1].kind, out);
+        assert_eq!(call.clauses, "ensures { result ≡ x }");
+    }
+
+    #[test]
+    fn an_attribute_stands_on_either_side_and_over_lines() {
+        let text = "// A.\n#[tactic(\n    auto,\n    using(b)\n)]\n#[unsafe(no_mangle)]\n#[inline]\npub extern \"C\" fn a(ensures_it: u8) {\n";
+        let call = &file(text).unwrap().calls[0];
+        assert_eq!((call.name.as_str(), call.notes.len()), ("a", 1));
+        assert_eq!(call.parameters[0].name, "ensures_it");
+    }
+
+    #[test]
+    fn a_plain_call_is_read_as_an_exported_one() {
+        let clauses = "    requires { x }\n    ensures value { y }\n    ensures out_after {\n        z\n    }\n{\n";
+        let plain = format!("// A.\npub fn fimbrast_a(x: u8)\n{clauses}");
+        let exported = format!("// A.\n#[unsafe(no_mangle)]\npub extern \"C\" fn fimbrast_a(\n    x: u8,\n)\n{clauses}");
+        assert_eq!(file(&plain).unwrap().plain, file(&exported).unwrap().calls);
     }
 
     #[test]
@@ -281,8 +349,9 @@ mod tests {
         let why = |text: &str| file(text).unwrap_err();
         assert!(why("#[repr(C)]\npub struct Pair(u8, u8);\n").contains("line 1: no `pub struct"));
         assert!(why("#[repr(C)]\npub struct A {\n    x: u8,\n}\n").contains("A has a field"));
-        assert!(why("#[no_mangle]\nfn a() {\n").contains("no `pub extern"));
+        assert!(why("#[unsafe(no_mangle)]\nfn a() {\n").contains("no `pub extern"));
         assert!(why("pub extern \"C\" fn a() {\n").contains("not marked"));
-        assert!(why("#[no_mangle]\npub extern \"C\" fn a(x: (u8, u8)) {\n").contains("`(u8, u8)`"));
+        let pair = "#[unsafe(no_mangle)]\npub extern \"C\" fn a(x: (u8, u8)) {\n";
+        assert!(why(pair).contains("`(u8, u8)`"));
     }
 }

@@ -141,7 +141,7 @@ mod tests {
     /// A file with a record of this field and a call with this parameter.
     fn source(field: &str, parameter: &str) -> String {
         format!(
-            "// A.\n#[repr(C)]\npub struct FlatPlace {{\n    pub x: {field},\n}}\n\n// B.\n#[no_mangle]\n\
+            "// A.\n#[repr(C)]\npub struct FlatPlace {{\n    pub x: {field},\n}}\n\n// B.\n#[unsafe(no_mangle)]\n\
              pub extern \"C\" fn fimbrast_b({parameter}) -> FlatPlace\n{{\n"
         )
     }

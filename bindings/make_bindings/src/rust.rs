@@ -291,8 +291,8 @@ mod tests {
     use super::*;
     use crate::library::of;
 
-    const CALL: &str = "// Parts.\n\n// A place.\n#[repr(C)]\npub struct FlatPlace {\n    pub bytes: [u8; 4],\n}\n\n// Reads.\n#[no_mangle]\n\
-         pub extern \"C\" fn fimbrast_read(place: &[u8; 4], data: &[u8]) -> FlatPlace\n{\n}\n\n// A fresh one.\n#[no_mangle]\n\
+    const CALL: &str = "// Parts.\n\n// A place.\n#[repr(C)]\npub struct FlatPlace {\n    pub bytes: [u8; 4],\n}\n\n// Reads.\n#[unsafe(no_mangle)]\n\
+         pub extern \"C\" fn fimbrast_read(place: &[u8; 4], data: &[u8]) -> FlatPlace\n{\n}\n\n// A fresh one.\n#[unsafe(no_mangle)]\n\
          pub extern \"C\" fn fimbrast_fresh() -> FlatPlace\n{\n";
 
     #[test]
@@ -311,7 +311,7 @@ mod tests {
 
     #[test]
     fn a_label_that_nobody_has_looked_at_is_refused() {
-        let text = "// Labels.\n\n// A label.\n#[repr(C)]\npub struct FlatTime {\n    pub rate: u8,\n}\n\n// Another.\n#[no_mangle]\n\
+        let text = "// Labels.\n\n// A label.\n#[repr(C)]\npub struct FlatTime {\n    pub rate: u8,\n}\n\n// Another.\n#[unsafe(no_mangle)]\n\
              pub extern \"C\" fn fimbrast_another() -> FlatTime\n{\n";
         let mut library = of(text).unwrap();
         assert!(each(&library, declaration).is_ok());

@@ -3,12 +3,15 @@
 /// Where it is written.
 pub const PLACE: &str = "bindings/rust/Cargo.toml";
 /// The Rattle calls that answer it.
-pub const CODE: &str = "crates/fimbrast/src/version.rt";
+pub const CALLS: &str = "crates/fimbrast/src/version.rt";
+/// Their exports.
+pub const EXPORTS: &str = "crates/fimbrast_c/src/version.rt";
 /// The definition that they are proved by.
 pub const DEFINITION: &str = "crates/fimbrast/specs/Version.antt";
 
-/// Their templates do not end as Rattle's files do: rt asks for a proof of each of those.
-const CODE_TEXT: &str = include_str!("../templates/version.code");
+/// Their templates do not end as Rattle's files do: rt refuses one of those outside of a crate.
+const CALLS_TEXT: &str = include_str!("../templates/version.calls");
+const EXPORTS_TEXT: &str = include_str!("../templates/version.exports");
 const DEFINITION_TEXT: &str = include_str!("../templates/version.definition");
 
 /// The three numbers of a version.
@@ -61,8 +64,13 @@ impl Version {
     }
 
     /// The Rattle file with the calls.
-    pub fn code(self) -> String {
-        self.filled(CODE_TEXT)
+    pub fn calls(self) -> String {
+        self.filled(CALLS_TEXT)
+    }
+
+    /// The file with their exports.
+    pub fn exports(self) -> String {
+        self.filled(EXPORTS_TEXT)
     }
 
     /// The file with the definition.
@@ -94,7 +102,8 @@ mod tests {
         let version = Version::parse("[package]\nversion = \"1.2.13\"\n").unwrap();
         assert_eq!(version.number(), 10_213);
         assert_eq!(version.symbol(), "fimbrast_version_1_2_13");
-        assert!(version.code().contains("fn fimbrast_version_1_2_13()"));
+        assert!(version.calls().contains("fn fimbrast_version_1_2_13()"));
+        assert!(version.exports().contains("fn fimbrast_version_1_2_13()"));
     }
 
     #[test]

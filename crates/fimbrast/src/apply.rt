@@ -10,8 +10,7 @@ use fast_mmc::string::{FlatCommand, command_of};
 use fast_mtc::generator::{FlatGenerator, generator_of};
 
 // `apply`: one command of a message for `device_id`, to the generator of the device `own`.
-#[unsafe(no_mangle)]
-pub extern "C" fn fimbrast_apply(
+pub fn fimbrast_apply(
     generator: FlatGenerator,
     device_id: u8,
     own: u8,
@@ -21,4 +20,3 @@ pub extern "C" fn fimbrast_apply(
 {
     flat_applied(transport::apply(generator_of(generator), device_id, own, command_of(command)))
 }
-

@@ -12,40 +12,35 @@ use fast_mmc::code::{
 use mmc::{ShortTimeCode, StandardTimeCode, TimeCodeStatus};
 
 // `short_name`: a field's name plus 20H, or 0 for one that has no short name.
-#[unsafe(no_mangle)]
-pub extern "C" fn fimbrast_short_name(field: u8) -> u8
+pub fn fimbrast_short_name(field: u8) -> u8
     ensures { result ≡ flat_name (short_name_of field) }
 {
     flat_name(mmc::short_name(field))
 }
 
 // `full_name`: the field of a short name, or 0 for what is none.
-#[unsafe(no_mangle)]
-pub extern "C" fn fimbrast_full_name(short_name: u8) -> u8
+pub fn fimbrast_full_name(short_name: u8) -> u8
     ensures { result ≡ flat_name (full_name short_name) }
 {
     flat_name(mmc::full_name(short_name))
 }
 
 // `TimeCodeStatus::from_byte`: the flags of a status byte.
-#[unsafe(no_mangle)]
-pub extern "C" fn fimbrast_status_read(byte: u8) -> FlatStatus
+pub fn fimbrast_status_read(byte: u8) -> FlatStatus
     ensures { result ≡ flat_status (read_status byte) }
 {
     flat_status(TimeCodeStatus::from_byte(byte))
 }
 
 // `TimeCodeStatus::to_byte`: the status byte of flags.
-#[unsafe(no_mangle)]
-pub extern "C" fn fimbrast_status_byte(status: FlatStatus) -> u8
+pub fn fimbrast_status_byte(status: FlatStatus) -> u8
     ensures { result ≡ status_byte (status_of status) }
 {
     status_of(status).to_byte()
 }
 
 // `StandardTimeCode::from_bytes`: each count is masked to its width.
-#[unsafe(no_mangle)]
-pub extern "C" fn fimbrast_code_read(bytes: FiveBytes) -> FlatCode
+pub fn fimbrast_code_read(bytes: FiveBytes) -> FlatCode
     ensures { result ≡ flat_code (read_standard (get_or bytes.bytes 0 0) (get_or bytes.bytes 1 0) (get_or bytes.bytes 2 0) (get_or bytes.bytes 3 0) (get_or bytes.bytes 4 0)) }
 {
     let five = bytes.bytes;
@@ -53,16 +48,14 @@ pub extern "C" fn fimbrast_code_read(bytes: FiveBytes) -> FlatCode
 }
 
 // `StandardTimeCode::to_bytes`: refuses subframes above 99 and a time that is not valid.
-#[unsafe(no_mangle)]
-pub extern "C" fn fimbrast_code_write(code: FlatCode) -> FlatCodeBytes
+pub fn fimbrast_code_write(code: FlatCode) -> FlatCodeBytes
     ensures { (result.refusal ≡ refusal_in (standard_bytes (code_of code))) × (result.code.bytes ≡ standard_left (code_of code)) }
 {
     flat_code_bytes(code_of(code).to_bytes())
 }
 
 // `ShortTimeCode::from_bytes`: the frames are masked to 5 bits.
-#[unsafe(no_mangle)]
-pub extern "C" fn fimbrast_short_code_read(bytes: TwoBytes) -> FlatShort
+pub fn fimbrast_short_code_read(bytes: TwoBytes) -> FlatShort
     ensures { result ≡ flat_short (read_short (get_or bytes.bytes 0 0) (get_or bytes.bytes 1 0)) }
 {
     let two = bytes.bytes;
@@ -70,42 +63,36 @@ pub extern "C" fn fimbrast_short_code_read(bytes: TwoBytes) -> FlatShort
 }
 
 // `ShortTimeCode::to_bytes`: refuses frames above 29 and subframes above 99.
-#[unsafe(no_mangle)]
-pub extern "C" fn fimbrast_short_code_write(code: FlatShort) -> FlatShortBytes
+pub fn fimbrast_short_code_write(code: FlatShort) -> FlatShortBytes
     ensures { (result.refusal ≡ refusal_in (short_bytes (short_of code))) × (result.code.bytes ≡ short_left (short_of code)) }
 {
     flat_short_bytes(short_of(code).to_bytes())
 }
 
 // `StandardTimeCode::short`: its frames, sign and last byte.
-#[unsafe(no_mangle)]
-pub extern "C" fn fimbrast_code_short(code: FlatCode) -> FlatShort
+pub fn fimbrast_code_short(code: FlatCode) -> FlatShort
     ensures { result ≡ flat_short (short_form (code_of code)) }
 {
     flat_short(code_of(code).short())
 }
 
 // `StandardTimeCode::with_short`: the code with the frames, sign and last byte of a short one.
-#[unsafe(no_mangle)]
-pub extern "C" fn fimbrast_code_with_short(code: FlatCode, short_code: FlatShort) -> FlatCode
+pub fn fimbrast_code_with_short(code: FlatCode, short_code: FlatShort) -> FlatCode
     ensures { result ≡ flat_code (with_short (code_of code) (short_of short_code)) }
 {
     flat_code(code_of(code).with_short(short_of(short_code)))
 }
 
 // `StandardTimeCode::to_subframes_form`: a status becomes subframes 00.
-#[unsafe(no_mangle)]
-pub extern "C" fn fimbrast_to_subframes_form(code: FlatCode) -> FlatCode
+pub fn fimbrast_to_subframes_form(code: FlatCode) -> FlatCode
     ensures { result ≡ flat_code (subframes_form (code_of code)) }
 {
     flat_code(code_of(code).to_subframes_form())
 }
 
 // `StandardTimeCode::to_status_form`: subframes become a status with this video field, marked as no time code.
-#[unsafe(no_mangle)]
-pub extern "C" fn fimbrast_to_status_form(code: FlatCode, video_field1: bool) -> FlatCode
+pub fn fimbrast_to_status_form(code: FlatCode, video_field1: bool) -> FlatCode
     ensures { result ≡ flat_code (status_form (code_of code) video_field1) }
 {
     flat_code(code_of(code).to_status_form(video_field1))
 }
-

@@ -32,8 +32,7 @@ fn counted(f: FlatFed, report: u64) -> FlatFed
 }
 
 // `MtcReader::receive` for each of the bytes, which must not overlap the reader.
-#[unsafe(no_mangle)]
-pub extern "C" fn fimbrast_feed(reader: &mut [u32; 15], bytes: &[u8]) -> FlatFed
+pub fn fimbrast_feed(reader: &mut [u32; 15], bytes: &[u8]) -> FlatFed
     ensures { (result ≡ flat_fed (fed (reader_in reader.old) bytes.now)) × (reader_in reader.new ≡ (fed (reader_in reader.old) bytes.now).reader) }
 {
     let mut f = FlatFed {
@@ -49,4 +48,3 @@ pub extern "C" fn fimbrast_feed(reader: &mut [u32; 15], bytes: &[u8]) -> FlatFed
     }
     f
 }
-

@@ -9,66 +9,57 @@ use fast_mtc::time::{FlatTime, flat_time, time_of};
 use mtc::{Direction, MtcGenerator};
 
 // `MtcGenerator::new`, forward: a running generator, whose first sequence encodes the time.
-#[unsafe(no_mangle)]
-pub extern "C" fn fimbrast_generator_forward(time: FlatTime) -> FlatGenerator
+pub fn fimbrast_generator_forward(time: FlatTime) -> FlatGenerator
     ensures { result ≡ flat_generator (started (time_of time) Direction.Forward) }
 {
     flat_generator(MtcGenerator::new(time_of(time), Direction::Forward))
 }
 
 // The same in reverse.
-#[unsafe(no_mangle)]
-pub extern "C" fn fimbrast_generator_reverse(time: FlatTime) -> FlatGenerator
+pub fn fimbrast_generator_reverse(time: FlatTime) -> FlatGenerator
     ensures { result ≡ flat_generator (started (time_of time) Direction.Reverse) }
 {
     flat_generator(MtcGenerator::new(time_of(time), Direction::Reverse))
 }
 
 // `MtcGenerator::next_byte`: the next data byte, or refusal 8 and byte 0 while stopped.
-#[unsafe(no_mangle)]
-pub extern "C" fn fimbrast_next_byte(generator: &mut [u8; 8]) -> FlatByte
+pub fn fimbrast_next_byte(generator: &mut [u8; 8]) -> FlatByte
     ensures { (result ≡ flat_byte (next_byte (generator_in generator.old))) × (generator_in generator.new ≡ after_next_byte (generator_in generator.old)) }
 {
     next_byte(generator)
 }
 
 // `MtcGenerator::set_running`: runs or stops it.
-#[unsafe(no_mangle)]
-pub extern "C" fn fimbrast_set_running(generator: FlatGenerator, running: bool) -> FlatGenerator
+pub fn fimbrast_set_running(generator: FlatGenerator, running: bool) -> FlatGenerator
     ensures { result ≡ flat_generator (with_running (generator_of generator) running) }
 {
     flat_generator(generator_of(generator).set_running(running))
 }
 
 // `MtcGenerator::set_direction`, forward. The next piece is the one beside the last in that direction.
-#[unsafe(no_mangle)]
-pub extern "C" fn fimbrast_set_forward(generator: FlatGenerator) -> FlatGenerator
+pub fn fimbrast_set_forward(generator: FlatGenerator) -> FlatGenerator
     ensures { result ≡ flat_generator (with_direction (generator_of generator) Direction.Forward) }
 {
     flat_generator(generator_of(generator).set_direction(Direction::Forward))
 }
 
 // The same in reverse.
-#[unsafe(no_mangle)]
-pub extern "C" fn fimbrast_set_reverse(generator: FlatGenerator) -> FlatGenerator
+pub fn fimbrast_set_reverse(generator: FlatGenerator) -> FlatGenerator
     ensures { result ≡ flat_generator (with_direction (generator_of generator) Direction.Reverse) }
 {
     flat_generator(generator_of(generator).set_direction(Direction::Reverse))
 }
 
 // `MtcGenerator::locate`: moves to the time. The next piece is the first of the direction.
-#[unsafe(no_mangle)]
-pub extern "C" fn fimbrast_locate(generator: FlatGenerator, time: FlatTime) -> FlatGenerator
+pub fn fimbrast_locate(generator: FlatGenerator, time: FlatTime) -> FlatGenerator
     ensures { result ≡ flat_generator (located (generator_of generator) (time_of time)) }
 {
     flat_generator(generator_of(generator).locate(time_of(time)))
 }
 
 // `MtcGenerator::time`: what the current or next sequence encodes.
-#[unsafe(no_mangle)]
-pub extern "C" fn fimbrast_generator_time(generator: FlatGenerator) -> FlatTime
+pub fn fimbrast_generator_time(generator: FlatGenerator) -> FlatTime
     ensures { result ≡ flat_time (generator_of generator).time }
 {
     flat_time(generator_of(generator).time())
 }
-

@@ -1,4 +1,6 @@
-// The library as a desk links it from C or Rust: every call on numbers, lent bytes and records of these.
+// The library as a desk links it: every call on numbers, lent bytes and records of these. `fimbrast_c` exports each for C and Rust.
+#![tactic(auto)]
+
 pub mod apply;
 pub mod code;
 pub mod feed;

@@ -22,24 +22,21 @@ use mtc::{FullMessage, UserBits};
 use universal::{MaybeSubId2, Universal};
 
 // `addressed`: a message for `device_id` is for the device `own`.
-#[unsafe(no_mangle)]
-pub extern "C" fn fimbrast_addressed(device_id: u8, own: u8) -> bool
+pub fn fimbrast_addressed(device_id: u8, own: u8) -> bool
     ensures { result ≡ is_addressed device_id own }
 {
     universal::addressed(device_id, own)
 }
 
 // `has_sub_id2`: messages of this family carry a Sub-ID#2.
-#[unsafe(no_mangle)]
-pub extern "C" fn fimbrast_has_sub_id2(real_time: bool, sub_id1: u8) -> bool
+pub fn fimbrast_has_sub_id2(real_time: bool, sub_id1: u8) -> bool
     ensures { result ≡ has_sub_id2 real_time sub_id1 }
 {
     universal::has_sub_id2(real_time, sub_id1)
 }
 
 // `Universal::write`: the whole message, F0H to F7H.
-#[unsafe(no_mangle)]
-pub extern "C" fn fimbrast_universal_write(
+pub fn fimbrast_universal_write(
     header: FlatUniversal,
     data: &[u8],
     out: &mut [u8],
@@ -51,20 +48,14 @@ pub extern "C" fn fimbrast_universal_write(
 }
 
 // `FullMessage::from_universal`: the full message of these parts.
-#[unsafe(no_mangle)]
-pub extern "C" fn fimbrast_full_message_read(header: FlatUniversal, data: &[u8]) -> FlatFullMessage
+pub fn fimbrast_full_message_read(header: FlatUniversal, data: &[u8]) -> FlatFullMessage
     ensures { result ≡ flat_full_message (full_message_from (universal_of header) «data».now) }
 {
     flat_full_message(FullMessage::from_universal(universal_of(header), data))
 }
 
 // `FullMessage::write`: the whole full message, F0H to F7H.
-#[unsafe(no_mangle)]
-pub extern "C" fn fimbrast_full_message_write(
-    device_id: u8,
-    time: FlatTime,
-    out: &mut [u8],
-) -> WrittenNumbers
+pub fn fimbrast_full_message_write(device_id: u8, time: FlatTime, out: &mut [u8]) -> WrittenNumbers
     ensures value { result ≡ written_numbers (answer (full_message_written (full_message device_id (time_of time))) (length out.old)) }
     ensures out_after { out.new ≡ overlay out.old 0 (full_message_written (full_message device_id (time_of time))).bytes }
 {
@@ -76,16 +67,14 @@ pub extern "C" fn fimbrast_full_message_write(
 }
 
 // `UserBits::from_universal`: the user bits of these parts.
-#[unsafe(no_mangle)]
-pub extern "C" fn fimbrast_user_bits_read(header: FlatUniversal, data: &[u8]) -> FlatReadUserBits
+pub fn fimbrast_user_bits_read(header: FlatUniversal, data: &[u8]) -> FlatReadUserBits
     ensures { result ≡ flat_user_bits (user_bits_from (universal_of header) «data».now) }
 {
     flat_user_bits(UserBits::from_universal(universal_of(header), data))
 }
 
 // `UserBits::write`: the whole user bits message, F0H to F7H.
-#[unsafe(no_mangle)]
-pub extern "C" fn fimbrast_user_bits_write(bits: FlatUserBits, out: &mut [u8]) -> WrittenNumbers
+pub fn fimbrast_user_bits_write(bits: FlatUserBits, out: &mut [u8]) -> WrittenNumbers
     ensures value { result ≡ written_numbers (answer (user_bits_written (user_bits_of bits)) (length out.old)) }
     ensures out_after { out.new ≡ overlay out.old 0 (user_bits_written (user_bits_of bits)).bytes }
 {
@@ -93,8 +82,7 @@ pub extern "C" fn fimbrast_user_bits_write(bits: FlatUserBits, out: &mut [u8]) -
 }
 
 // `UserBits::to_bytes`: the groups as `hhhhgggg ffffeeee ddddcccc bbbbaaaa`.
-#[unsafe(no_mangle)]
-pub extern "C" fn fimbrast_user_bits_bytes(bits: FlatUserBits) -> FourBytes
+pub fn fimbrast_user_bits_bytes(bits: FlatUserBits) -> FourBytes
     ensures { result.bytes ≡ group_bytes (user_bits_of bits).groups }
 {
     let bytes = user_bits_of(bits).to_bytes();
@@ -102,8 +90,7 @@ pub extern "C" fn fimbrast_user_bits_bytes(bits: FlatUserBits) -> FourBytes
 }
 
 // `MmcMessage::from_universal`: the machine control message of these parts.
-#[unsafe(no_mangle)]
-pub extern "C" fn fimbrast_mmc_message_read(header: FlatUniversal, data: &[u8]) -> FlatMmcMessage
+pub fn fimbrast_mmc_message_read(header: FlatUniversal, data: &[u8]) -> FlatMmcMessage
     ensures { result ≡ flat_mmc_message (message_from (universal_of header) «data».now) }
 {
     flat_mmc_message(MmcMessage::from_universal(universal_of(header), data))
@@ -111,8 +98,7 @@ pub extern "C" fn fimbrast_mmc_message_read(header: FlatUniversal, data: &[u8]) 
 
 // The same as one number, for a caller that has the device, which decides nothing: 0 commands, 128 responses, 255 another kind, any
 // other number a refusal.
-#[unsafe(no_mangle)]
-pub extern "C" fn fimbrast_mmc_kind(real_time: bool, sub_id1: u8, data: &[u8]) -> u8
+pub fn fimbrast_mmc_kind(real_time: bool, sub_id1: u8, data: &[u8]) -> u8
     ensures { result ≡ mmc_kind (message_from (header real_time 0 sub_id1 NoSubId2) «data».now) }
 {
     let parts = Universal {
@@ -123,4 +109,3 @@ pub extern "C" fn fimbrast_mmc_kind(real_time: bool, sub_id1: u8, data: &[u8]) -
     };
     mmc_kind(MmcMessage::from_universal(parts, data))
 }
-

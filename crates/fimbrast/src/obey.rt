@@ -34,15 +34,8 @@ fn flat_run(run: Obeyed) -> FlatRun
 }
 
 // `obey`: a message's data, read from the front to its end, each command applied as it is read.
-#[unsafe(no_mangle)]
-pub extern "C" fn fimbrast_obey(
-    generator: FlatGenerator,
-    device_id: u8,
-    own: u8,
-    body: &[u8],
-) -> FlatRun
+pub fn fimbrast_obey(generator: FlatGenerator, device_id: u8, own: u8, body: &[u8]) -> FlatRun
     ensures { result ≡ flat_run (obey body.now device_id own (generator_of generator)) }
 {
     flat_run(obey(generator_of(generator), device_id, own, body))
 }
-

@@ -21,32 +21,28 @@ pub type FlatReport = u64;
 pub type FlatEvent = u64;
 
 // `MtcReader::new`: not locked, and stopped.
-#[unsafe(no_mangle)]
-pub extern "C" fn fimbrast_reader_new() -> FlatReader
+pub fn fimbrast_reader_new() -> FlatReader
     ensures { reader_in result.words ≡ fresh }
 {
     FlatReader { words: fresh() }
 }
 
 // `MtcReader::receive`: takes one data byte.
-#[unsafe(no_mangle)]
-pub extern "C" fn fimbrast_receive(reader: &mut [u32; 15], byte: u8) -> FlatEvent
+pub fn fimbrast_receive(reader: &mut [u32; 15], byte: u8) -> FlatEvent
     ensures { (result ≡ flat_event (event_of (reader_in reader.old) byte)) × (reader_in reader.new ≡ after_byte (reader_in reader.old) byte) }
 {
     receive(reader, byte)
 }
 
 // `MtcReader::full_message`, with the message's time: the reader is then stopped at it.
-#[unsafe(no_mangle)]
-pub extern "C" fn fimbrast_reader_full_message(reader: &mut [u32; 15], time: FlatTime)
+pub fn fimbrast_reader_full_message(reader: &mut [u32; 15], time: FlatTime)
     ensures { reader_in reader.new ≡ after_full_message (reader_in reader.old) (time_of time) }
 {
     full_message(reader, time_of(time));
 }
 
 // `MtcReader::is_locked`: true after a full sequence, until a broken order, a turn or a full message.
-#[unsafe(no_mangle)]
-pub extern "C" fn fimbrast_is_locked(reader: FlatReader) -> bool
+pub fn fimbrast_is_locked(reader: FlatReader) -> bool
     ensures { result ≡ (reader_in reader.words).locked }
 {
     let words = reader.words;
@@ -54,8 +50,7 @@ pub extern "C" fn fimbrast_is_locked(reader: FlatReader) -> bool
 }
 
 // `MtcReader::is_running`: true after a data byte, false after a full message.
-#[unsafe(no_mangle)]
-pub extern "C" fn fimbrast_is_running(reader: FlatReader) -> bool
+pub fn fimbrast_is_running(reader: FlatReader) -> bool
     ensures { result ≡ (reader_in reader.words).running }
 {
     let words = reader.words;
@@ -63,8 +58,7 @@ pub extern "C" fn fimbrast_is_running(reader: FlatReader) -> bool
 }
 
 // `MtcReader::direction`: 0 forward, 1 reverse, 255 none.
-#[unsafe(no_mangle)]
-pub extern "C" fn fimbrast_reader_direction(reader: FlatReader) -> u8
+pub fn fimbrast_reader_direction(reader: FlatReader) -> u8
     ensures { result ≡ flat_way (reader_in reader.words).direction }
 {
     let words = reader.words;
@@ -72,8 +66,7 @@ pub extern "C" fn fimbrast_reader_direction(reader: FlatReader) -> u8
 }
 
 // `MtcReader::time`: the current time of the last full sequence, or the time of a full message after it.
-#[unsafe(no_mangle)]
-pub extern "C" fn fimbrast_reader_time(reader: FlatReader) -> FlatMaybeTime
+pub fn fimbrast_reader_time(reader: FlatReader) -> FlatMaybeTime
     ensures { result ≡ flat_maybe_time (reader_in reader.words).time }
 {
     let words = reader.words;
@@ -81,8 +74,7 @@ pub extern "C" fn fimbrast_reader_time(reader: FlatReader) -> FlatMaybeTime
 }
 
 // The reader field by field.
-#[unsafe(no_mangle)]
-pub extern "C" fn fimbrast_reader_parts(reader: FlatReader) -> FlatReaderFields
+pub fn fimbrast_reader_parts(reader: FlatReader) -> FlatReaderFields
     ensures { result ≡ reader_fields (reader_in reader.words) }
 {
     let words = reader.words;
@@ -91,11 +83,9 @@ pub extern "C" fn fimbrast_reader_parts(reader: FlatReader) -> FlatReaderFields
 
 // The report of a number with the labels of the reader that it left, before the reader gets anything more. It is none where the
 // number's lowest bit is 0.
-#[unsafe(no_mangle)]
-pub extern "C" fn fimbrast_report_parts(reader: FlatReader, report: FlatReport) -> FlatMaybeSequence
+pub fn fimbrast_report_parts(reader: FlatReader, report: FlatReport) -> FlatMaybeSequence
     ensures { result ≡ flat_maybe_sequence (report_in (reader_in reader.words) report) }
 {
     let words = reader.words;
     report_in(words, report)
 }
-

@@ -14,16 +14,14 @@ use fast_mtc::time::{
 use mtc::{MtcTime, QuarterFrame, TimeCodeType};
 
 // The frames of a counting second: 24, 25 or 30.
-#[unsafe(no_mangle)]
-pub extern "C" fn fimbrast_frames_per_second(rate: u8) -> u8
+pub fn fimbrast_frames_per_second(rate: u8) -> u8
     ensures { result ≡ frames_per_second (type_of rate) }
 {
     TimeCodeType::from_bits(rate).frames_per_second()
 }
 
 // `MtcTime::new`: 0, or 3 for a label that is not valid.
-#[unsafe(no_mangle)]
-pub extern "C" fn fimbrast_time_new(time: FlatTime) -> u8
+pub fn fimbrast_time_new(time: FlatTime) -> u8
     ensures { result ≡ refusal_in (new_time (time_of time)) }
 {
     let t = time_of(time);
@@ -32,67 +30,58 @@ pub extern "C" fn fimbrast_time_new(time: FlatTime) -> u8
 }
 
 // `MtcTime::is_valid`: each count is in its range, and drop-frame does not skip the number.
-#[unsafe(no_mangle)]
-pub extern "C" fn fimbrast_is_valid(time: FlatTime) -> bool
+pub fn fimbrast_is_valid(time: FlatTime) -> bool
     ensures { result ≡ is_valid (time_of time) }
 {
     time_of(time).is_valid()
 }
 
 // `MtcTime::next_valid`: frame 02 for a number that drop-frame skips, else the label itself.
-#[unsafe(no_mangle)]
-pub extern "C" fn fimbrast_next_valid(time: FlatTime) -> FlatTime
+pub fn fimbrast_next_valid(time: FlatTime) -> FlatTime
     ensures { result ≡ flat_time (next_valid (time_of time)) }
 {
     flat_time(time_of(time).next_valid())
 }
 
 // `MtcTime::to_frame_count`: the frames from 00:00:00:00 to the label.
-#[unsafe(no_mangle)]
-pub extern "C" fn fimbrast_to_frame_count(time: &[u8; 5]) -> u32
+pub fn fimbrast_to_frame_count(time: &[u8; 5]) -> u32
     ensures { result ≡ frame_count (time_at time.now 0) }
 {
     frame_count(time_in(time))
 }
 
 // `MtcTime::from_frame_count`: the label of a count, round midnight.
-#[unsafe(no_mangle)]
-pub extern "C" fn fimbrast_from_frame_count(count: u32, rate: u8) -> FlatTime
+pub fn fimbrast_from_frame_count(count: u32, rate: u8) -> FlatTime
     ensures { result ≡ flat_time (label_at count (type_of rate)) }
 {
     time_numbered(number_at(count, TimeCodeType::from_bits(rate)))
 }
 
 // `MtcTime::add_frames`: the label so many frames later, or earlier, round midnight.
-#[unsafe(no_mangle)]
-pub extern "C" fn fimbrast_add_frames(time: FlatTime, delta: i32) -> FlatTime
+pub fn fimbrast_add_frames(time: FlatTime, delta: i32) -> FlatTime
     ensures { result ≡ flat_time (add_frames (time_of time) delta) }
 {
     time_numbered(number_after(time_of(time), delta))
 }
 
 // `QuarterFrame::from_byte`: the piece and value of a data byte.
-#[unsafe(no_mangle)]
-pub extern "C" fn fimbrast_quarter_frame_read(byte: u8) -> FlatFrame
+pub fn fimbrast_quarter_frame_read(byte: u8) -> FlatFrame
     ensures { result ≡ flat_frame (from_byte byte) }
 {
     flat_frame(QuarterFrame::from_byte(byte))
 }
 
 // `QuarterFrame::to_byte`: the data byte of a piece and value.
-#[unsafe(no_mangle)]
-pub extern "C" fn fimbrast_quarter_frame_byte(frame: FlatFrame) -> u8
+pub fn fimbrast_quarter_frame_byte(frame: FlatFrame) -> u8
     ensures { result ≡ to_byte (frame_of frame) }
 {
     frame_of(frame).to_byte()
 }
 
 // `QuarterFrame::pieces`: the data bytes of pieces 0 to 7.
-#[unsafe(no_mangle)]
-pub extern "C" fn fimbrast_pieces(time: FlatTime) -> EightBytes
+pub fn fimbrast_pieces(time: FlatTime) -> EightBytes
     ensures { result.bytes ≡ pieces (time_of time) }
 {
     let bytes = QuarterFrame::pieces(time_of(time));
     EightBytes { bytes }
 }
-

@@ -3,16 +3,14 @@ ghost use Rattle.std.specs.Prelude.{◌≡◌};
 ghost use Rattle.fimbrast.specs.Version.{version};
 
 // The version as one number: 10,000 for each whole version, 100 for each minor one, and the patch.
-#[unsafe(no_mangle)]
-pub extern "C" fn fimbrast_version() -> u32
+pub fn fimbrast_version() -> u32
     ensures { result ≡ version }
 {
     200
 }
 
 // The same under a name that has the version. A program refers to it, so that an archive of another version does not link.
-#[unsafe(no_mangle)]
-pub extern "C" fn fimbrast_version_0_2_0() -> u32
+pub fn fimbrast_version_0_2_0() -> u32
     ensures { result ≡ version }
 {
     200

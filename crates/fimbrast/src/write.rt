@@ -14,8 +14,7 @@ use fast_mmc::write::{FlatWriter, flat_writer, writer_of};
 use fast_mmc::{WrittenNumbers, written_numbers};
 
 // `write_commands` opens: F0H, 7FH, the device, 06H.
-#[unsafe(no_mangle)]
-pub extern "C" fn fimbrast_open_commands(out: &mut [u8], device_id: u8) -> FlatWriter
+pub fn fimbrast_open_commands(out: &mut [u8], device_id: u8) -> FlatWriter
     ensures value { result ≡ flat_writer (begun (opened_commands device_id)) }
     ensures out_after { out.new ≡ overlay out.old 0 (opened_commands device_id).bytes }
 {
@@ -23,8 +22,7 @@ pub extern "C" fn fimbrast_open_commands(out: &mut [u8], device_id: u8) -> FlatW
 }
 
 // `write_responses` opens: F0H, 7FH, the device, 07H.
-#[unsafe(no_mangle)]
-pub extern "C" fn fimbrast_open_responses(out: &mut [u8], device_id: u8) -> FlatWriter
+pub fn fimbrast_open_responses(out: &mut [u8], device_id: u8) -> FlatWriter
     ensures value { result ≡ flat_writer (begun (opened_responses device_id)) }
     ensures out_after { out.new ≡ overlay out.old 0 (opened_responses device_id).bytes }
 {
@@ -32,16 +30,14 @@ pub extern "C" fn fimbrast_open_responses(out: &mut [u8], device_id: u8) -> Flat
 }
 
 // `write_info_fields` opens: it has no envelope, and no byte is put.
-#[unsafe(no_mangle)]
-pub extern "C" fn fimbrast_open_fields() -> FlatWriter
+pub fn fimbrast_open_fields() -> FlatWriter
     ensures { result ≡ flat_writer opened_fields }
 {
     flat_writer(mmc::open_fields())
 }
 
 // Any command by its record; its name and data are parts of the source.
-#[unsafe(no_mangle)]
-pub extern "C" fn fimbrast_put_command(
+pub fn fimbrast_put_command(
     writer: FlatWriter,
     out: &mut [u8],
     source: &[u8],
@@ -57,8 +53,7 @@ pub extern "C" fn fimbrast_put_command(
 
 // One command by its word, as `fimbrast_next_word` gives it. A number that is no word of a name alone, of a Locate or of a Move is
 // refused with 3, and nothing goes out of it.
-#[unsafe(no_mangle)]
-pub extern "C" fn fimbrast_put_word(writer: FlatWriter, out: &mut [u8], word: u64) -> FlatWriter
+pub fn fimbrast_put_word(writer: FlatWriter, out: &mut [u8], word: u64) -> FlatWriter
     ensures value { result ≡ writer_after writer (word_item word) }
     ensures out_after { out.new ≡ out_after (writing_at writer) out.old (word_item word) }
 {
@@ -66,8 +61,7 @@ pub extern "C" fn fimbrast_put_word(writer: FlatWriter, out: &mut [u8], word: u6
 }
 
 // A Write of these fields.
-#[unsafe(no_mangle)]
-pub extern "C" fn fimbrast_put_write(writer: FlatWriter, out: &mut [u8], data: &[u8]) -> FlatWriter
+pub fn fimbrast_put_write(writer: FlatWriter, out: &mut [u8], data: &[u8]) -> FlatWriter
     ensures value { result ≡ writer_after writer (write_of_data «data».now) }
     ensures out_after { out.new ≡ out_after (writing_at writer) out.old (write_of_data «data».now) }
 {
@@ -75,8 +69,7 @@ pub extern "C" fn fimbrast_put_write(writer: FlatWriter, out: &mut [u8], data: &
 }
 
 // Another command, whose name and then its data, of these lengths, stand at the front of the source.
-#[unsafe(no_mangle)]
-pub extern "C" fn fimbrast_put_other(
+pub fn fimbrast_put_other(
     writer: FlatWriter,
     out: &mut [u8],
     source: &[u8],
@@ -90,8 +83,7 @@ pub extern "C" fn fimbrast_put_other(
 }
 
 // Any field by its record; its name and data are parts of the source.
-#[unsafe(no_mangle)]
-pub extern "C" fn fimbrast_put_field(
+pub fn fimbrast_put_field(
     writer: FlatWriter,
     out: &mut [u8],
     source: &[u8],
@@ -106,8 +98,7 @@ pub extern "C" fn fimbrast_put_field(
 }
 
 // `write_commands` and `write_responses` close: F7H.
-#[unsafe(no_mangle)]
-pub extern "C" fn fimbrast_close_message(writer: FlatWriter, out: &mut [u8]) -> WrittenNumbers
+pub fn fimbrast_close_message(writer: FlatWriter, out: &mut [u8]) -> WrittenNumbers
     ensures value { result ≡ written_numbers (whole_message (writing_at writer) (length out.old)) }
     ensures out_after { out.new ≡ overlay out.old (writing_at writer).at (closed_message (writing_at writer)).bytes }
 {
@@ -115,8 +106,7 @@ pub extern "C" fn fimbrast_close_message(writer: FlatWriter, out: &mut [u8]) -> 
 }
 
 // `write_info_fields` closes: no byte is put, and the answer is the length.
-#[unsafe(no_mangle)]
-pub extern "C" fn fimbrast_close_fields(writer: FlatWriter, out: &[u8]) -> WrittenNumbers
+pub fn fimbrast_close_fields(writer: FlatWriter, out: &[u8]) -> WrittenNumbers
     ensures { result ≡ written_numbers (whole_fields (writing_at writer) (length out.now)) }
 {
     written_numbers(writer_of(writer).close_fields(out))
@@ -125,15 +115,9 @@ pub extern "C" fn fimbrast_close_fields(writer: FlatWriter, out: &[u8]) -> Writt
 // `write_commands` in one call: opened, given a command for each word, closed. A word is what `fimbrast_next_word` gives for a name
 // alone (the kinds 0 to 8), a Locate (10 and 11) or a Move (12). Each byte counts with all its bits: hours 40 are refused with 3. Any other number, one of a Write or of
 // another command too, is refused with 3, and nothing goes out of it.
-#[unsafe(no_mangle)]
-pub extern "C" fn fimbrast_write_words(
-    out: &mut [u8],
-    device_id: u8,
-    words: &[u64],
-) -> WrittenNumbers
+pub fn fimbrast_write_words(out: &mut [u8], device_id: u8, words: &[u64]) -> WrittenNumbers
     ensures value { result ≡ written_numbers (words_answer device_id words.now out.old) }
     ensures out_after { out.new ≡ words_left device_id words.now out.old }
 {
     fast_mmc::write_words(out, device_id, words)
 }
-

@@ -1,19 +1,19 @@
 // The version. `make write-bindings` makes this file from bindings/rust/Cargo.toml.
-ghost use mathlib.Core.Path.{_≡_};
-ghost use Rattle·fimbrast·specs.specs.Version.{version};
+ghost use Rattle.std.specs.Prelude.{◌≡◌};
+ghost use Rattle.fimbrast.specs.Version.{version};
 
 // The version as one number: 10,000 for each whole version, 100 for each minor one, and the patch.
-#[no_mangle]
+#[unsafe(no_mangle)]
 pub extern "C" fn fimbrast_version() -> u32
-    ensures { λ r. ⌜ r ≡ version ⌝ }
+    ensures { result ≡ version }
 {
-    @NUMBER@
+    fimbrast::version::fimbrast_version()
 }
 
 // The same under a name that has the version. A program refers to it, so that an archive of another version does not link.
-#[no_mangle]
-pub extern "C" fn @SYMBOL@() -> u32
-    ensures { λ r. ⌜ r ≡ version ⌝ }
+#[unsafe(no_mangle)]
+pub extern "C" fn fimbrast_version_0_2_0() -> u32
+    ensures { result ≡ version }
 {
-    @NUMBER@
+    fimbrast::version::fimbrast_version_0_2_0()
 }

@@ -1,0 +1,14 @@
+// A list of quarter frames given to a reader.
+ghost use Rattle.std.specs.Prelude.{◌≡◌};
+ghost use Rattle.fast_mtc.specs.Reader.{reader_in};
+ghost use Rattle.fimbrast.specs.Feed.{fed, flat_fed};
+
+use fimbrast::feed::FlatFed;
+
+// `MtcReader::receive` for each of the bytes, which must not overlap the reader.
+#[unsafe(no_mangle)]
+pub extern "C" fn fimbrast_feed(reader: &mut [u32; 15], bytes: &[u8]) -> FlatFed
+    ensures { (result ≡ flat_fed (fed (reader_in reader.old) bytes.now)) × (reader_in reader.new ≡ (fed (reader_in reader.old) bytes.now).reader) }
+{
+    fimbrast::feed::fimbrast_feed(reader, bytes)
+}
