@@ -112,7 +112,7 @@ fn full_message() -> bool {
     };
     match message.write(&mut out) {
         Written::Length(length) => {
-            length == 10 && check::same(&out, b"\x_f0\x7_f\x7_f\x01\x01\x61\x25\x34\x10\x_f7")
+            length == 10 && check::same(&out, b"\xF0\x7F\x7F\x01\x01\x61\x25\x34\x10\xF7")
         }
         Written::Refused(_) => false,
     }
