@@ -2,7 +2,7 @@
 // published example. Each is written as these bytes, and these bytes are read as what is written as them again.
 use crate::examples::is_length;
 use crate::strings::target;
-use crate::tally::{Tally, case, none};
+use crate::tally::{Tally, case, none, same_bytes};
 use crate::times::label;
 use mmc::{
     CommandAnswer, FieldAnswer, FinalByte, InfoField, MmcCommand, Part, ShortTimeCode,
@@ -16,7 +16,7 @@ fn begins(out: &[u8], bytes: &[u8]) -> bool {
     if end > out.len() {
         return false;
     }
-    check::same(&out[0..end], bytes)
+    same_bytes(&out[0..end], bytes)
 }
 
 // Commands to all devices.
@@ -194,4 +194,3 @@ pub(crate) fn formats() -> Tally {
     let t = plain(t, MmcCommand::Reset, b"\xF0\x7F\x7F\x06\x0D\xF7");
     fields(counted(t))
 }
-
