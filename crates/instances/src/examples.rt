@@ -1,6 +1,6 @@
 // Machine control strings: document 01's instances.
 use crate::strings::target;
-use crate::tally::{Tally, case, none};
+use crate::tally::{Tally, case, none, same_bytes};
 use crate::times::label;
 use mmc::{
     CommandAnswer, FinalByte, MmcCommand, StandardTimeCode, Writer, next_command, open_commands,
@@ -45,9 +45,9 @@ fn fourteen() -> bool {
     let mut out = [0xEEu8; 14];
     let written = locate_play(&mut out);
     is_length(written, 14)
-        && check::same(
+        && same_bytes(
             &out,
-            b"\x_f0\x7_f\x7_f\x06\x44\x06\x01\x21\x00\x00\x00\x00\x02\x_f7",
+            b"\xF0\x7F\x7F\x06\x44\x06\x01\x21\x00\x00\x00\x00\x02\xF7",
         )
 }
 
@@ -55,9 +55,9 @@ fn thirteen() -> bool {
     let mut out = [0xEEu8; 13];
     let written = locate_play(&mut out);
     needs(written, 14)
-        && check::same(
+        && same_bytes(
             &out,
-            b"\x_f0\x7_f\x7_f\x06\x44\x06\x01\x21\x00\x00\x00\x00\x02",
+            b"\xF0\x7F\x7F\x06\x44\x06\x01\x21\x00\x00\x00\x00\x02",
         )
 }
 
@@ -122,7 +122,7 @@ fn alone(out: &mut [u8], command: MmcCommand) -> Written {
 fn field_seven_written() -> bool {
     let mut out = [0xEEu8; 9];
     let written = alone(&mut out, MmcCommand::LocateField { register: 7 });
-    is_refused(written, 3) && check::same(&out, b"\x_f0\x7_f\x7_f\x06\xEE\xEE\xEE\xEE\xEE")
+    is_refused(written, 3) && same_bytes(&out, b"\xF0\x7F\x7F\x06\xEE\xEE\xEE\xEE\xEE")
 }
 
 // Subframes 100 are refused with the bytes before them emitted.
@@ -136,7 +136,7 @@ fn hundred() -> bool {
         final_byte: FinalByte::Subframes(100),
     };
     let written = alone(&mut out, MmcCommand::LocateTarget(code));
-    is_refused(written, 3) && check::same(&out, b"\x_f0\x7_f\x7_f\x06\x44\x06\x01\xEE\xEE")
+    is_refused(written, 3) && same_bytes(&out, b"\xF0\x7F\x7F\x06\x44\x06\x01\xEE\xEE")
 }
 
 pub(crate) fn examples() -> Tally {
@@ -154,4 +154,3 @@ pub(crate) fn examples() -> Tally {
     let t = case(t, field_seven_written());
     case(t, hundred())
 }
-

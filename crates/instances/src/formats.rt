@@ -2,7 +2,7 @@
 // published example. Each is written as these bytes, and these bytes are read as what is written as them again.
 use crate::examples::is_length;
 use crate::strings::target;
-use crate::tally::{Tally, case, none};
+use crate::tally::{Tally, case, none, same_bytes};
 use crate::times::label;
 use mmc::{
     CommandAnswer, FieldAnswer, FinalByte, InfoField, MmcCommand, Part, ShortTimeCode,
@@ -16,7 +16,7 @@ fn begins(out: &[u8], bytes: &[u8]) -> bool {
     if end > out.len() {
         return false;
     }
-    check::same(&out[0..end], bytes)
+    same_bytes(&out[0..end], bytes)
 }
 
 // Commands to all devices.
@@ -115,7 +115,7 @@ fn fields(tally: Tally) -> Tally {
             field: 0x01,
             code: code(status()),
         },
-        b"\x_f0\x7_f\x01\x07\x01\x21\x02\x03\x24\x50\x_f7",
+        b"\xF0\x7F\x01\x07\x01\x21\x02\x03\x24\x50\xF7",
     );
     let t = field(
         t,
@@ -123,7 +123,7 @@ fn fields(tally: Tally) -> Tally {
             field: 0x08,
             code: code(FinalByte::Subframes(5)),
         },
-        b"\x_f0\x7_f\x01\x07\x08\x21\x02\x03\x04\x05\x_f7",
+        b"\xF0\x7F\x01\x07\x08\x21\x02\x03\x04\x05\xF7",
     );
     let t = field(
         t,
@@ -135,7 +135,7 @@ fn fields(tally: Tally) -> Tally {
                 final_byte: status(),
             },
         },
-        b"\x_f0\x7_f\x01\x07\x21\x24\x50\x_f7",
+        b"\xF0\x7F\x01\x07\x21\x24\x50\xF7",
     );
     field(
         t,
@@ -147,7 +147,7 @@ fn fields(tally: Tally) -> Tally {
                 final_byte: FinalByte::Subframes(5),
             },
         },
-        b"\x_f0\x7_f\x01\x07\x28\x44\x05\x_f7",
+        b"\xF0\x7F\x01\x07\x28\x44\x05\xF7",
     )
 }
 
@@ -157,19 +157,19 @@ fn counted(tally: Tally) -> Tally {
         tally,
         MmcCommand::Write(Part { start: 0, len: 6 }),
         b"\x08\x21\x02\x03\x04\x05",
-        b"\x_f0\x7_f\x7_f\x06\x40\x06\x08\x21\x02\x03\x04\x05\x_f7",
+        b"\xF0\x7F\x7F\x06\x40\x06\x08\x21\x02\x03\x04\x05\xF7",
     );
     let t = command(
         t,
         MmcCommand::LocateField { register: 0x08 },
         b"",
-        b"\x_f0\x7_f\x7_f\x06\x44\x02\x00\x08\x_f7",
+        b"\xF0\x7F\x7F\x06\x44\x02\x00\x08\xF7",
     );
     let t = command(
         t,
         target(label(1, 2, 3, 4, 1), false),
         b"",
-        b"\x_f0\x7_f\x7_f\x06\x44\x06\x01\x21\x02\x03\x04\x00\x_f7",
+        b"\xF0\x7F\x7F\x06\x44\x06\x01\x21\x02\x03\x04\x00\xF7",
     );
     command(
         t,
@@ -178,20 +178,19 @@ fn counted(tally: Tally) -> Tally {
             source: 0x01,
         },
         b"",
-        b"\x_f0\x7_f\x7_f\x06\x4_c\x02\x08\x01\x_f7",
+        b"\xF0\x7F\x7F\x06\x4C\x02\x08\x01\xF7",
     )
 }
 
 pub(crate) fn formats() -> Tally {
-    let t = plain(none(), MmcCommand::Stop, b"\x_f0\x7_f\x7_f\x06\x01\x_f7");
-    let t = plain(t, MmcCommand::Play, b"\x_f0\x7_f\x7_f\x06\x02\x_f7");
-    let t = plain(t, MmcCommand::DeferredPlay, b"\x_f0\x7_f\x7_f\x06\x03\x_f7");
-    let t = plain(t, MmcCommand::FastForward, b"\x_f0\x7_f\x7_f\x06\x04\x_f7");
-    let t = plain(t, MmcCommand::Rewind, b"\x_f0\x7_f\x7_f\x06\x05\x_f7");
-    let t = plain(t, MmcCommand::RecordStrobe, b"\x_f0\x7_f\x7_f\x06\x06\x_f7");
-    let t = plain(t, MmcCommand::RecordExit, b"\x_f0\x7_f\x7_f\x06\x07\x_f7");
-    let t = plain(t, MmcCommand::Pause, b"\x_f0\x7_f\x7_f\x06\x09\x_f7");
-    let t = plain(t, MmcCommand::Reset, b"\x_f0\x7_f\x7_f\x06\x0_d\x_f7");
+    let t = plain(none(), MmcCommand::Stop, b"\xF0\x7F\x7F\x06\x01\xF7");
+    let t = plain(t, MmcCommand::Play, b"\xF0\x7F\x7F\x06\x02\xF7");
+    let t = plain(t, MmcCommand::DeferredPlay, b"\xF0\x7F\x7F\x06\x03\xF7");
+    let t = plain(t, MmcCommand::FastForward, b"\xF0\x7F\x7F\x06\x04\xF7");
+    let t = plain(t, MmcCommand::Rewind, b"\xF0\x7F\x7F\x06\x05\xF7");
+    let t = plain(t, MmcCommand::RecordStrobe, b"\xF0\x7F\x7F\x06\x06\xF7");
+    let t = plain(t, MmcCommand::RecordExit, b"\xF0\x7F\x7F\x06\x07\xF7");
+    let t = plain(t, MmcCommand::Pause, b"\xF0\x7F\x7F\x06\x09\xF7");
+    let t = plain(t, MmcCommand::Reset, b"\xF0\x7F\x7F\x06\x0D\xF7");
     fields(counted(t))
 }
-

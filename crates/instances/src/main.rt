@@ -1,5 +1,7 @@
 // Runs document 01's instances, RP-004/008's published examples, RP-013's formats and demand 3 through the public calls, and writes
 // a line for each group.
+#![tactic(auto)]
+
 mod demand3;
 mod examples;
 mod formats;
@@ -11,16 +13,18 @@ mod tally;
 mod times;
 
 use crate::tally::report;
+use std::io;
 
-fn main() {
-    report(b"labels", times::times());
-    report(b"quarter frames", quarter_frames::quarter_frames());
-    report(b"strings", examples::examples());
-    report(b"formats of RP-013", formats::formats());
+fn main(rt: HostRuntime) -> io::Result<()> {
+    report(&rt, "labels", times::times())?;
+    report(&rt, "quarter frames", quarter_frames::quarter_frames())?;
+    report(&rt, "strings", examples::examples())?;
+    report(&rt, "formats of RP-013", formats::formats())?;
     report(
-        b"demand 3, every list of up to four calls",
+        &rt,
+        "demand 3, every list of up to four calls",
         demand3::short_lists(),
-    );
-    report(b"demand 3, longer lists", demand3::long_lists());
-    report(b"demand 3, edges and commands before", demand3::edges());
+    )?;
+    report(&rt, "demand 3, longer lists", demand3::long_lists())?;
+    report(&rt, "demand 3, edges and commands before", demand3::edges())
 }

@@ -1,6 +1,6 @@
 // Quarter frames, full messages and user bits: document 01's instances and RP-004/008's published examples.
 use crate::reader::give_byte;
-use crate::tally::{Tally, case, none};
+use crate::tally::{Tally, case, none, same_bytes};
 use crate::times::{label, same};
 use mtc::{
     Direction, FullMessage, MaybeSequence, MaybeTime, MtcGenerator, MtcReader, QuarterFrame,
@@ -14,7 +14,7 @@ const PIECES: [u8; 8] = [0x00, 0x11, 0x24, 0x33, 0x45, 0x52, 0x61, 0x76];
 fn pieces_are() -> bool {
     let pieces = QuarterFrame::pieces(label(1, 37, 52, 16, 3));
     let bytes = PIECES;
-    check::same(&pieces, &bytes)
+    same_bytes(&pieces, &bytes)
 }
 
 // A reader that got the eight pieces forward.
@@ -112,7 +112,7 @@ fn full_message() -> bool {
     };
     match message.write(&mut out) {
         Written::Length(length) => {
-            length == 10 && check::same(&out, b"\x_f0\x7_f\x7_f\x01\x01\x61\x25\x34\x10\x_f7")
+            length == 10 && same_bytes(&out, b"\xF0\x7F\x7F\x01\x01\x61\x25\x34\x10\xF7")
         }
         Written::Refused(_) => false,
     }
@@ -125,7 +125,7 @@ fn user_bits() -> bool {
         flags: 0,
     };
     let bytes = bits.to_bytes();
-    check::same(&bytes, b"\x87\x65\x43\x21")
+    same_bytes(&bytes, b"\x87\x65\x43\x21")
 }
 
 pub(crate) fn quarter_frames() -> Tally {
@@ -137,4 +137,3 @@ pub(crate) fn quarter_frames() -> Tally {
     let t = case(t, full_message());
     case(t, user_bits())
 }
-

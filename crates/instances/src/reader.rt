@@ -19,4 +19,3 @@ pub(crate) fn give_message(mut reader: MtcReader, message: FullMessage) -> MtcRe
     reader.full_message(message);
     reader
 }
-

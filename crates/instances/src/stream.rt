@@ -6,7 +6,7 @@ use mtc::{
 };
 
 // A reader, the pieces of its last seven bytes (three bits each) and how many bytes came since the last full message, to seven.
-#[derive(Drop)]
+#[derive(Clone, Copy)]
 pub(crate) struct Listener {
     pub(crate) reader: MtcReader,
     pub(crate) pieces: u32,
@@ -109,7 +109,7 @@ fn right(number: u8, event: MtcEvent, time: MtcTime, direction: Direction, first
 }
 
 // The generator's next byte, given to the reader: whether it was sent and answered rightly.
-#[derive(Drop)]
+#[derive(Clone, Copy)]
 struct Turn {
     generator: MtcGenerator,
     reader: MtcReader,

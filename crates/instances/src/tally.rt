@@ -1,6 +1,9 @@
 // A group's count of cases and of failures, and its line.
+ghost use Rattle.std.specs.Prelude.{◌≡◌, ◌↔◌, true};
 
-#[derive(Drop)]
+use std::io;
+
+#[derive(Clone, Copy)]
 pub(crate) struct Tally {
     pub(crate) cases: u64,
     pub(crate) failures: u64,
@@ -27,12 +30,16 @@ pub(crate) fn case(tally: Tally, right: bool) -> Tally {
     }
 }
 
+// The bytes of a buffer are the expected ones: what most cases come down to.
+pub(crate) fn same_bytes(a: &[u8], b: &[u8]) -> bool
+    ensures { (result ≡ true) ↔ (a.now ≡ b.now) }
+{
+    a == b
+}
+
 // Writes a group's line.
-pub(crate) fn report(name: &[u8], tally: Tally) {
-    io::write_all(1, name);
-    io::write_all(1, b": ");
-    io::print_decimal(1, tally.cases);
-    io::write_all(1, b" cases, ");
-    io::print_decimal(1, tally.failures);
-    io::write_all(1, b" failures\n");
+pub(crate) fn report(rt: &impl Print, name: &str, tally: Tally) -> io::Result<()> {
+    let cases = tally.cases;
+    let failures = tally.failures;
+    println!(rt; "{name}: {cases} cases, {failures} failures")
 }

@@ -27,7 +27,7 @@ const LOCATES: u8 = 3;
 
 // A reading: its place, whether it has ended, whether it was split to its end, whether nothing was refused, the generator with
 // what was done to it, and what the desk's writer makes of it.
-#[derive(Drop)]
+#[derive(Clone, Copy)]
 struct Run {
     place: usize,
     ended: bool,
@@ -73,106 +73,112 @@ fn name_of(command: MmcCommand) -> u8 {
     }
 }
 
-fn say_other(name: &[u8], data: &[u8]) {
+fn say_other(rt: &impl Print, name: &[u8], data: &[u8]) {
     if name.len() == 1 {
         let byte = name[0];
-        say_command_name(byte);
-        say(b" (");
-        say_byte(byte);
-        say(b"), not read further");
+        say_command_name(rt, byte);
+        say(rt, b" (");
+        say_byte(rt, byte);
+        say(rt, b"), not read further");
     } else {
-        say(b"Command of an extended set");
+        say(rt, b"Command of an extended set");
     }
-    say_parts(name, data);
+    say_parts(rt, name, data);
 }
 
-fn say_size(data: Part) {
-    say(b", ");
-    say_count(data.len as u64, b"byte");
-    say(b" of fields");
+fn say_size(rt: &impl Print, data: Part) {
+    say(rt, b", ");
+    say_count(rt, data.len as u64, b"byte");
+    say(rt, b" of fields");
 }
 
-fn say_register(register: u8) {
-    say(b" to ");
-    say_field_name(register);
+fn say_register(rt: &impl Print, register: u8) {
+    say(rt, b" to ");
+    say_field_name(rt, register);
 }
 
-fn say_target(code: StandardTimeCode) {
-    say(b" ");
-    say_code(code);
+fn say_target(rt: &impl Print, code: StandardTimeCode) {
+    say(rt, b" ");
+    say_code(rt, code);
 }
 
-fn say_move(destination: u8, source: u8) {
-    say_register(destination);
-    say(b" from ");
-    say_field_name(source);
+fn say_move(rt: &impl Print, destination: u8, source: u8) {
+    say_register(rt, destination);
+    say(rt, b" from ");
+    say_field_name(rt, source);
 }
 
 // What a command carries.
-fn say_values(body: &[u8], command: MmcCommand) {
+fn say_values(rt: &impl Print, body: &[u8], command: MmcCommand) {
     match command {
-        MmcCommand::Write(data) => say_size(data),
-        MmcCommand::LocateField { register } => say_register(register),
-        MmcCommand::LocateTarget(code) => say_target(code),
+        MmcCommand::Write(data) => say_size(rt, data),
+        MmcCommand::LocateField { register } => say_register(rt, register),
+        MmcCommand::LocateTarget(code) => say_target(rt, code),
         MmcCommand::Move {
             destination,
             source,
-        } => say_move(destination, source),
-        MmcCommand::Other { name, data } => say_other(name.of(body), data.of(body)),
+        } => say_move(rt, destination, source),
+        MmcCommand::Other { name, data } => say_other(rt, name.of(body), data.of(body)),
         _ => {}
     }
 }
 
-fn say_command(body: &[u8], command: MmcCommand) {
+fn say_command(rt: &impl Print, body: &[u8], command: MmcCommand) {
     let name = name_of(command);
     if name > 0 {
-        say_command_name(name);
+        say_command_name(rt, name);
     }
-    say_values(body, command);
-    say(b". ");
+    say_values(rt, body, command);
+    say(rt, b". ");
 }
 
 // Where the generator was located; a target that drop-frame skips was moved.
-fn say_located(command: MmcCommand, generator: MtcGenerator) {
+fn say_located(rt: &impl Print, command: MmcCommand, generator: MtcGenerator) {
     let MmcCommand::LocateTarget(code) = command else {
         return;
     };
     let target = code.time;
-    say_label(generator.time());
+    say_label(rt, generator.time());
     if !target.is_valid() {
-        say(b", since drop-frame skips ");
-        say_label(target);
+        say(rt, b", since drop-frame skips ");
+        say_label(rt, target);
     }
-    say(b", and stopped");
+    say(rt, b", and stopped");
 }
 
-fn say_effect(effect: u8) {
+fn say_effect(rt: &impl Print, effect: u8) {
     say_entry(
+        rt,
         b"The transport is unchanged;Stopped;Running forward;Located at ;",
         effect,
     );
 }
 
-fn say_done(command: MmcCommand, generator: MtcGenerator) {
-    say_effect(effect_of(command));
-    say_located(command, generator);
-    say(b".\n");
+fn say_done(rt: &impl Print, command: MmcCommand, generator: MtcGenerator) {
+    say_effect(rt, effect_of(command));
+    say_located(rt, command, generator);
+    say(rt, b".\n");
 }
 
 // What the transport answered. True where the command was done.
-fn say_answer(answer: TransportAnswer, command: MmcCommand, generator: MtcGenerator) -> bool {
+fn say_answer(
+    rt: &impl Print,
+    answer: TransportAnswer,
+    command: MmcCommand,
+    generator: MtcGenerator,
+) -> bool {
     match answer {
         TransportAnswer::Done => {
-            say_done(command, generator);
+            say_done(rt, command, generator);
             true
         }
         TransportAnswer::NotMine => {
-            say(b"Not mine.\n");
+            say(rt, b"Not mine.\n");
             false
         }
         TransportAnswer::Refused(e) => {
-            say_refusal(e);
-            say(b". The transport is unchanged.\n");
+            say_refusal(rt, e);
+            say(rt, b". The transport is unchanged.\n");
             false
         }
     }
@@ -186,28 +192,28 @@ fn is_refused(answer: TransportAnswer) -> bool {
 }
 
 // The fields of a Write, on lines of their own. True where all is well, also for another command.
-fn fields_are_good(body: &[u8], command: MmcCommand) -> bool {
+fn fields_are_good(rt: &impl Print, body: &[u8], command: MmcCommand) -> bool {
     match command {
         MmcCommand::Write(data) => {
             let first = std::num::wrapping_add_usize(FIRST, data.start);
-            read_write(first, data.of(body))
+            read_write(rt, first, data.of(body))
         }
         _ => true,
     }
 }
 
 // The string is cut short: what was read before it has acted.
-fn say_cut_at(place: usize, error: SysexError) {
-    say_cut(b"  ", FIRST, place, error);
+fn say_cut_at(rt: &impl Print, place: usize, error: SysexError) {
+    say_cut(rt, b"  ", FIRST, place, error);
     if place == 0 {
-        say(b"  Nothing is done.\n");
+        say(rt, b"  Nothing is done.\n");
     } else {
-        say(b"  What stands before it is done.\n");
+        say(rt, b"  What stands before it is done.\n");
     }
 }
 
 // The reading has ended: at the end of the string, or cut short.
-fn ended(run: Run, error: SysexError) -> Run {
+fn ended(rt: &impl Print, run: Run, error: SysexError) -> Run {
     let mut r = run;
     r.ended = true;
     r.whole = match error {
@@ -215,13 +221,13 @@ fn ended(run: Run, error: SysexError) -> Run {
         _ => false,
     };
     if !r.whole {
-        say_cut_at(run.place, error);
+        say_cut_at(rt, run.place, error);
     }
     r
 }
 
 // What became of a command: the generator, whether it was done, and whether nothing was refused.
-#[derive(Drop)]
+#[derive(Clone, Copy)]
 struct Obeyed {
     generator: MtcGenerator,
     done: bool,
@@ -230,14 +236,15 @@ struct Obeyed {
 
 // One command, what the transport answered to it, and the generator that it left.
 fn say_obeyed(
+    rt: &impl Print,
     command: MmcCommand,
     answer: TransportAnswer,
     generator: MtcGenerator,
     body: &[u8],
 ) -> Obeyed {
-    say_command(body, command);
-    let done = say_answer(answer, command, generator);
-    let fields = fields_are_good(body, command);
+    say_command(rt, body, command);
+    let done = say_answer(rt, answer, command, generator);
+    let fields = fields_are_good(rt, body, command);
     Obeyed {
         generator,
         done,
@@ -269,7 +276,7 @@ fn with_command(run: Run, command: MmcCommand, obeyed: Obeyed, next: usize, body
     after(run, obeyed, effect_of(command), written, next)
 }
 
-fn one(run: Run, device_id: u8, own: u8, body: &[u8]) -> Run {
+fn one(rt: &impl Print, run: Run, device_id: u8, own: u8, body: &[u8]) -> Run {
     let place = run.place;
     let before = run.generator;
     let turn = obey_next(before, device_id, own, body, place);
@@ -277,10 +284,10 @@ fn one(run: Run, device_id: u8, own: u8, body: &[u8]) -> Run {
     let next = turn.place;
     let answer = turn.answer;
     match answer {
-        TurnAnswer::Ended(e) => ended(run, e),
+        TurnAnswer::Ended(e) => ended(rt, run, e),
         TurnAnswer::Command { command, reply } => {
-            say_place(b"  ", FIRST, place);
-            let obeyed = say_obeyed(command, reply, left, body);
+            say_place(rt, b"  ", FIRST, place);
+            let obeyed = say_obeyed(rt, command, reply, left, body);
             with_command(run, command, obeyed, next, body)
         }
     }
@@ -299,7 +306,7 @@ fn idle() -> MtcGenerator {
 }
 
 // All commands of a string. Each takes a byte at least, so no string uses up the turns.
-fn all(device_id: u8, own: u8, body: &[u8]) -> Run {
+fn all(rt: &impl Print, device_id: u8, own: u8, body: &[u8]) -> Run {
     let mut run = Run {
         place: 0,
         ended: false,
@@ -310,52 +317,53 @@ fn all(device_id: u8, own: u8, body: &[u8]) -> Run {
         located: false,
         writing: begin_commands(device_id),
     };
-    let mut turns = u64::MAX;
-    while turns > 0 && !run.ended {
-        turns -= 1;
-        run = one(run, device_id, own, body);
+    for _ in 0..u64::MAX {
+        if run.ended {
+            break;
+        }
+        run = one(rt, run, device_id, own, body);
     }
     run
 }
 
 // The time of a generator that was located, after a word.
-fn say_located_at(word: &[u8], generator: MtcGenerator, located: bool) {
+fn say_located_at(rt: &impl Print, word: &[u8], generator: MtcGenerator, located: bool) {
     if located {
-        say(word);
-        say_time(generator.time());
+        say(rt, word);
+        say_time(rt, generator.time());
     }
 }
 
-fn say_state(generator: MtcGenerator, located: bool) {
+fn say_state(rt: &impl Print, generator: MtcGenerator, located: bool) {
     if generator.running {
-        say(b"running forward");
-        say_located_at(b" from ", generator, located);
+        say(rt, b"running forward");
+        say_located_at(rt, b" from ", generator, located);
     } else {
-        say(b"stopped");
-        say_located_at(b" at ", generator, located);
+        say(rt, b"stopped");
+        say_located_at(rt, b" at ", generator, located);
     }
-    say(b".\n");
+    say(rt, b".\n");
 }
 
-fn say_end(run: Run) {
+fn say_end(rt: &impl Print, run: Run) {
     let generator = run.generator;
     if !run.moved {
         return;
     }
-    say(b"  In the end: ");
-    say_state(generator, run.located);
+    say(rt, b"  In the end: ");
+    say_state(rt, generator, run.located);
     if generator.running && run.located {
-        say_frames(generator);
+        say_frames(rt, generator);
     }
 }
 
 // A message of commands. True where nothing is refused.
-pub(crate) fn read_commands(device_id: u8, own: u8, body: &[u8]) -> bool {
-    let run = all(device_id, own, body);
-    say_end(run);
+pub(crate) fn read_commands(rt: &impl Print, device_id: u8, own: u8, body: &[u8]) -> bool {
+    let run = all(rt, device_id, own, body);
+    say_end(rt, run);
     if !run.whole {
         return false;
     }
     let writing = run.writing;
-    end_message(writing, body) && run.good
+    end_message(rt, writing, body) && run.good
 }

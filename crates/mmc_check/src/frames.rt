@@ -4,45 +4,45 @@ use crate::say::{digit, say};
 use crate::times::say_label;
 use mtc::{MaybeSequence, MtcGenerator, MtcReader, MtcSequence, NextByte};
 
-#[derive(Drop)]
+#[derive(Clone, Copy)]
 struct Stream {
     generator: MtcGenerator,
     reader: MtcReader,
 }
 
-fn say_report(s: MtcSequence) {
+fn say_report(rt: &impl Print, s: MtcSequence) {
     let raw = s.raw;
     let current = s.current;
-    say(b"  reads ");
-    say_label(raw);
-    say(b", the time is ");
-    say_label(current);
+    say(rt, b"  reads ");
+    say_label(rt, raw);
+    say(rt, b", the time is ");
+    say_label(rt, current);
     if s.discontinuity {
-        say(b", a jump");
+        say(rt, b", a jump");
     }
-    say(b"\n");
+    say(rt, b"\n");
 }
 
-fn say_data(byte: u8) {
+fn say_data(rt: &impl Print, byte: u8) {
     let text = [b' ', digit(byte / 16), digit(byte)];
-    say(&text);
+    say(rt, &text);
 }
 
 // A data byte goes into the reader, which may report.
-fn received(before: MtcReader, data: u8) -> MtcReader {
-    say_data(data);
+fn received(rt: &impl Print, before: MtcReader, data: u8) -> MtcReader {
+    say_data(rt, data);
     let stepped = before.step(data);
     let event = stepped.event;
     let reader = stepped.reader;
     let sequence = event.sequence;
     if let MaybeSequence::Sequence(report) = sequence {
-        say_report(report);
+        say_report(rt, report);
     }
     reader
 }
 
 // One data byte goes out and into the reader.
-fn one(s: Stream) -> Stream {
+fn one(rt: &impl Print, s: Stream) -> Stream {
     let from = s.generator;
     let before = s.reader;
     let sent = from.next_byte();
@@ -50,26 +50,27 @@ fn one(s: Stream) -> Stream {
     let byte = sent.byte;
     let reader = match byte {
         NextByte::Refused(e) => {
-            say_refusal(e);
+            say_refusal(rt, e);
             before
         }
-        NextByte::Byte(data) => received(before, data),
+        NextByte::Byte(data) => received(rt, before, data),
     };
     Stream { generator, reader }
 }
 
-pub(crate) fn say_frames(generator: MtcGenerator) {
-    say(b"  The first 24 quarter frames, and what a fresh reader makes of them:\n");
+pub(crate) fn say_frames(rt: &impl Print, generator: MtcGenerator) {
+    say(
+        rt,
+        b"  The first 24 quarter frames, and what a fresh reader makes of them:\n",
+    );
     let mut s = Stream {
         generator,
         reader: MtcReader::new(),
     };
-    let mut i: u64 = 0;
-    while i < 24 {
+    for i in 0..24u64 {
         if i % 8 == 0 {
-            say(b"   ");
+            say(rt, b"   ");
         }
-        s = one(s);
-        i += 1;
+        s = one(rt, s);
     }
 }

@@ -1,8 +1,9 @@
 // An input read to its end: hexadecimal text, or the bytes themselves.
-use crate::say::{say, say_count, say_number};
+use crate::say::{say, say_count, say_failed, say_number};
 use crate::stream::{Place, Stream, end, fresh, take};
 use crate::text;
 use crate::text::{Reading, end_text, take_text};
+use std::io::Read;
 
 // The form of an input: not yet known, text, or bytes.
 pub(crate) const UNKNOWN: u8 = 0;
@@ -12,7 +13,7 @@ pub(crate) const TEXT: u8 = 1;
 pub(crate) const BYTES: u8 = 2;
 
 // The form, the reading, the bytes read so far, and whether the input has ended.
-#[derive(Drop)]
+#[derive(Clone, Copy)]
 struct Input {
     form: u8,
     reading: Reading,
@@ -59,29 +60,39 @@ fn has_mark(chunk: &[u8]) -> bool {
     chunk[0] == 0xEF && chunk[1] == 0xBB && chunk[2] == 0xBF
 }
 
-fn take_bytes(s: Stream, chunk: &[u8], count: u64, message: &mut [u8; 65536]) -> Stream {
+fn take_bytes(
+    rt: &impl Print,
+    s: Stream,
+    chunk: &[u8],
+    count: u64,
+    message: &mut [u8; 65536],
+) -> Stream {
     let mut stream = s;
     let mut at = count;
-    let mut i: usize = 0;
-    while i < chunk.len() {
+    for byte in chunk {
         at = std::num::wrapping_add_u64(at, 1);
-        stream = take(stream, chunk[i], Place { line: 0, at }, message);
-        i += 1;
+        stream = take(rt, stream, *byte, Place { line: 0, at }, message);
     }
     stream
 }
 
-fn take_chunk(input: Input, form: u8, chunk: &[u8], message: &mut [u8; 65536]) -> Input {
+fn take_chunk(
+    rt: &impl Print,
+    input: Input,
+    form: u8,
+    chunk: &[u8],
+    message: &mut [u8; 65536],
+) -> Input {
     let from = input.reading;
     let text = from.text;
     let stream = from.stream;
     let count = std::num::wrapping_add_u64(input.count, chunk.len() as u64);
     let reading = if form == TEXT {
-        take_text(from, chunk, message)
+        take_text(rt, from, chunk, message)
     } else {
         Reading {
             text,
-            stream: take_bytes(stream, chunk, input.count, message),
+            stream: take_bytes(rt, stream, chunk, input.count, message),
         }
     };
     Input {
@@ -93,22 +104,22 @@ fn take_chunk(input: Input, form: u8, chunk: &[u8], message: &mut [u8; 65536]) -
 }
 
 // The first chunk tells the form, unless that was given.
-fn take_first(input: Input, chunk: &[u8], message: &mut [u8; 65536]) -> Input {
+fn take_first(rt: &impl Print, input: Input, chunk: &[u8], message: &mut [u8; 65536]) -> Input {
     let form = form_of(chunk);
     if chunk.len() >= 3 && form == TEXT && has_mark(chunk) {
-        return take_chunk(input, form, &chunk[3..], message);
+        return take_chunk(rt, input, form, &chunk[3..], message);
     }
-    take_chunk(input, form, chunk, message)
+    take_chunk(rt, input, form, chunk, message)
 }
 
-fn ended(input: Input, message: &mut [u8; 65536]) -> Input {
+fn ended(rt: &impl Print, input: Input, message: &mut [u8; 65536]) -> Input {
     let from = input.reading;
     let text = from.text;
     let stream = from.stream;
     let last = if input.form == TEXT {
-        end_text(from, message)
+        end_text(rt, from, message)
     } else {
-        end(stream)
+        end(rt, stream)
     };
     Input {
         form: input.form,
@@ -118,25 +129,32 @@ fn ended(input: Input, message: &mut [u8; 65536]) -> Input {
     }
 }
 
-// One read.
-fn read_some(fd: i32, input: Input, message: &mut [u8; 65536]) -> Input {
-    let mut chunk = io::large_buffer();
-    let got = libc::read(fd, &mut chunk);
-    if got > 0 {
-        let n = io::count(got, &chunk);
-        if input.form == UNKNOWN {
-            return take_first(input, &chunk[..n], message);
+// One read. One that fails ends the input.
+fn read_some<R: Read>(
+    rt: &HostRuntime,
+    from: &mut R,
+    input: Input,
+    message: &mut [u8; 65536],
+) -> Input {
+    let mut chunk = [0u8; 65536];
+    match from.read(&mut chunk) {
+        Ok(0) => ended(rt, input, message),
+        Ok(n) => {
+            if input.form == UNKNOWN {
+                return take_first(rt, input, &chunk[..n], message);
+            }
+            take_chunk(rt, input, input.form, &chunk[..n], message)
         }
-        return take_chunk(input, input.form, &chunk[..n], message);
+        Err(error) => {
+            say_failed(&rt.stderr(), b"mmc_check: reading", error);
+            say(rt, b"The input could not be read to its end.\n");
+            ended(rt, input, message)
+        }
     }
-    if got < 0 {
-        os::fail(b"mmc_check: reading");
-        say(b"The input could not be read to its end.\n");
-    }
-    ended(input, message)
 }
 
-fn read_all(fd: i32, form: u8, own: u8) -> Stream {
+// No input takes so many reads.
+fn read_all<R: Read>(rt: &HostRuntime, from: &mut R, form: u8, own: u8) -> Stream {
     let mut message = [0u8; 65536];
     let mut input = Input {
         form,
@@ -147,26 +165,27 @@ fn read_all(fd: i32, form: u8, own: u8) -> Stream {
         count: 0,
         ended: false,
     };
-    let mut turns = u64::MAX;
-    while turns > 0 && !input.ended {
-        turns -= 1;
-        input = read_some(fd, input, &mut message);
+    for _ in 0..u64::MAX {
+        if input.ended {
+            break;
+        }
+        input = read_some(rt, from, input, &mut message);
     }
     let last = input.reading;
     last.stream
 }
 
 // Reads an input to its end, and says last how many messages it has.
-pub(crate) fn check(fd: i32, form: u8, own: u8) {
-    let stream = read_all(fd, form, own);
-    say_count(stream.messages, b"message");
-    say(b", ");
-    say_number(stream.faulty);
-    say(b" faulty");
+pub(crate) fn check<R: Read>(rt: &HostRuntime, from: &mut R, form: u8, own: u8) {
+    let stream = read_all(rt, from, form, own);
+    say_count(rt, stream.messages, b"message");
+    say(rt, b", ");
+    say_number(rt, stream.faulty);
+    say(rt, b" faulty");
     if stream.outside > 0 {
-        say(b"; ");
-        say_count(stream.outside, b"place");
-        say(b" without a message");
+        say(rt, b"; ");
+        say_count(rt, stream.outside, b"place");
+        say(rt, b" without a message");
     }
-    say(b".\n");
+    say(rt, b".\n");
 }

@@ -1,4 +1,6 @@
 // Says in plain words what becomes of machine control strings: who each is for, what it asks, and where it is refused.
+#![tactic(auto)]
+
 mod commands;
 mod fields;
 mod frames;
@@ -13,6 +15,6 @@ mod text;
 mod times;
 mod writing;
 
-fn main() {
-    options::run();
+fn main(rt: HostRuntime) {
+    options::run(&rt);
 }

@@ -1,12 +1,16 @@
 // The words of the command line: options first, then each file in its order.
+ghost use Rattle.std.specs.Prelude.{◌≤◌, IfSome};
+
 use crate::input::{BYTES, TEXT, UNKNOWN, check};
-use crate::say::say;
-use libc::{STDERR_FILENO, STDIN_FILENO};
+use crate::say::{say, say_failed};
 use mmc::Part;
+use std::env::{Env, FillError};
+use std::fs::File;
+use std::io;
 use universal::ALL_DEVICES;
 
 // The own device, the form of the inputs, whether a file is named, whether the next word is a device, and whether to go on.
-#[derive(Drop)]
+#[derive(Clone, Copy)]
 struct Options {
     own: u8,
     form: u8,
@@ -136,8 +140,9 @@ fn device(word: &[u8]) -> u64 {
     number(word, false)
 }
 
-fn help() {
+fn help(rt: &impl Print) {
     say(
+        rt,
         b"mmc_check [--device N] [--text | --bytes] [FILE ..]\n\
         \n\
         Says what becomes of MIDI Machine Control strings: who each is for, what it\n\
@@ -159,19 +164,20 @@ fn help() {
     );
 }
 
-fn complain(word: &[u8], what: &[u8]) {
-    io::write_all(STDERR_FILENO, b"mmc_check: ");
-    io::write_all(STDERR_FILENO, word);
-    io::write_all(STDERR_FILENO, what);
+fn complain(rt: &HostRuntime, word: &[u8], what: &[u8]) {
+    let stderr = rt.stderr();
+    say(&stderr, b"mmc_check: ");
+    say(&stderr, word);
+    say(&stderr, what);
 }
 
 // The word after --device.
-fn with_device(o: Options, word: &[u8]) -> Options {
+fn with_device(rt: &HostRuntime, o: Options, word: &[u8]) -> Options {
     let mut p = o;
     let n = device(word);
     p.waits = false;
     if n > 255 {
-        complain(word, b": no device; write 5, 0x05 or 05H\n");
+        complain(rt, word, b": no device; write 5, 0x05 or 05H\n");
         p.good = false;
         return p;
     }
@@ -180,10 +186,10 @@ fn with_device(o: Options, word: &[u8]) -> Options {
 }
 
 // One word.
-fn with_word(o: Options, word: &[u8]) -> Options {
+fn with_word(rt: &HostRuntime, o: Options, word: &[u8]) -> Options {
     let mut p = o;
     if o.waits {
-        return with_device(o, word);
+        return with_device(rt, o, word);
     }
     match kind_of(word) {
         FILE => p.named = true,
@@ -191,19 +197,30 @@ fn with_word(o: Options, word: &[u8]) -> Options {
         AS_TEXT => p.form = TEXT,
         AS_BYTES => p.form = BYTES,
         HELP => {
-            help();
+            help(rt);
             p.good = false;
         }
         _ => {
-            complain(word, b": no such option; --help lists them\n");
+            complain(rt, word, b": no such option; --help lists them\n");
             p.good = false;
         }
     }
     p
 }
 
+// A word by its number, at the start of a buffer, and its length: 0 where the buffer is too short. None after the last word.
+fn word_at(rt: &impl Env, number: usize, word: &mut [u8; 4096]) -> Option<usize>
+    ensures { IfSome result (λ n. n ≤ 4096) }
+{
+    match rt.arg(number, word) {
+        Ok(n) => Some(n),
+        Err(FillError::TooLong) => Some(0),
+        Err(FillError::NotPresent) => None,
+    }
+}
+
 // All words but the program's own name, to the first that ends it.
-fn read_options() -> Options {
+fn read_options(rt: &HostRuntime) -> Options {
     let mut o = Options {
         own: ALL_DEVICES,
         form: UNKNOWN,
@@ -211,71 +228,79 @@ fn read_options() -> Options {
         waits: false,
         good: true,
     };
-    let count = os::arg_count();
-    let mut i: usize = 1;
-    while i < count && o.good {
-        let mut word = io::buffer();
-        let n = os::arg(i, &mut word);
-        o = with_word(o, &word[..n]);
-        i += 1;
+    for i in 1..usize::MAX {
+        if !o.good {
+            break;
+        }
+        let mut word = [0u8; 4096];
+        let Some(n) = word_at(rt, i, &mut word) else {
+            break;
+        };
+        o = with_word(rt, o, &word[..n]);
     }
     o
 }
 
-fn check_file(o: Options, path: &[u8]) {
+// Opens a file by its name, which must be text.
+fn open_file(rt: &HostRuntime, path: &[u8]) -> io::Result<File> {
+    match str::from_utf8(path) {
+        Ok(name) => File::open(rt, name),
+        Err(_) => Err(io::Error::other("its name is not UTF-8")),
+    }
+}
+
+fn check_file(rt: &HostRuntime, o: Options, path: &[u8]) {
     if same(path, b"-") {
-        check(STDIN_FILENO, o.form, o.own);
+        check(rt, &mut rt.reader(), o.form, o.own);
         return;
     }
-    say(path);
-    say(b":\n");
-    let fd = os::open_read(path);
-    if fd < 0 {
-        os::fail(path);
-        say(b"It cannot be read.\n");
-        return;
+    say(rt, path);
+    say(rt, b":\n");
+    match open_file(rt, path) {
+        Ok(mut file) => check(rt, &mut file, o.form, o.own),
+        Err(error) => {
+            say_failed(&rt.stderr(), path, error);
+            say(rt, b"It cannot be read.\n");
+        }
     }
-    check(fd, o.form, o.own);
-    libc::close(fd);
 }
 
 // One word again: a file is read, and the word after --device passed over. Answers whether the next one is such a word.
-fn with_file(o: Options, word: &[u8], waits: bool) -> bool {
+fn with_file(rt: &HostRuntime, o: Options, word: &[u8], waits: bool) -> bool {
     if waits {
         return false;
     }
     let kind = kind_of(word);
     if kind == FILE {
-        check_file(o, word);
+        check_file(rt, o, word);
     }
     kind == DEVICE
 }
 
-fn check_files(o: Options) {
-    let count = os::arg_count();
+fn check_files(rt: &HostRuntime, o: Options) {
     let mut waits = false;
-    let mut i: usize = 1;
-    while i < count {
-        let mut word = io::buffer();
-        let n = os::arg(i, &mut word);
-        waits = with_file(o, &word[..n], waits);
-        i += 1;
+    for i in 1..usize::MAX {
+        let mut word = [0u8; 4096];
+        let Some(n) = word_at(rt, i, &mut word) else {
+            break;
+        };
+        waits = with_file(rt, o, &word[..n], waits);
     }
 }
 
 // Does what the command line asks.
-pub(crate) fn run() {
-    let o = read_options();
+pub(crate) fn run(rt: &HostRuntime) {
+    let o = read_options(rt);
     if !o.good {
         return;
     }
     if o.waits {
-        complain(b"--device", b": the number is missing\n");
+        complain(rt, b"--device", b": the number is missing\n");
         return;
     }
     if o.named {
-        check_files(o);
+        check_files(rt, o);
         return;
     }
-    check(STDIN_FILENO, o.form, o.own);
+    check(rt, &mut rt.reader(), o.form, o.own);
 }

@@ -2,8 +2,9 @@
 use crate::say::{say, say_entry, say_number};
 use universal::SysexError;
 
-fn say_words(number: u8) {
+fn say_words(rt: &impl Print, number: u8) {
     say_entry(
+        rt,
         b";a byte above 7FH in a name or data;a length that the format does not allow;\
         a value outside its field;the buffer is too small;a device above 127;\
         a part that is not inside the source;\
@@ -14,10 +15,10 @@ fn say_words(number: u8) {
 }
 
 // "Refused, 2: ..", without an end.
-pub(crate) fn say_refusal(error: SysexError) {
+pub(crate) fn say_refusal(rt: &impl Print, error: SysexError) {
     let n = error.number();
-    say(b"Refused, ");
-    say_number(n as u64);
-    say(b": ");
-    say_words(n);
+    say(rt, b"Refused, ");
+    say_number(rt, n as u64);
+    say(rt, b": ");
+    say_words(rt, n);
 }

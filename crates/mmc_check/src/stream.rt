@@ -12,7 +12,7 @@ const EOX: u8 = 0xF7;
 const MOST: usize = 65_536;
 
 // Where a byte stands: in a text by line and column, else by its number; all are counted from 1.
-#[derive(Drop)]
+#[derive(Clone, Copy)]
 pub(crate) struct Place {
     pub(crate) line: u64,
     pub(crate) at: u64,
@@ -20,7 +20,7 @@ pub(crate) struct Place {
 
 // The own device; the bytes of the open message that were kept, 0 where none is open, and those that were not; the bytes
 // outside a message, and the first of them; where these or the message begin; and the counts.
-#[derive(Drop)]
+#[derive(Clone, Copy)]
 pub(crate) struct Stream {
     pub(crate) own: u8,
     pub(crate) length: usize,
@@ -49,33 +49,33 @@ pub(crate) fn fresh(own: u8) -> Stream {
 }
 
 // A line of a text, or a byte of another input; the column only where it is not the first.
-pub(crate) fn say_where(place: Place) {
+pub(crate) fn say_where(rt: &impl Print, place: Place) {
     if place.line == 0 {
-        say(b"Byte ");
-        say_number(place.at);
+        say(rt, b"Byte ");
+        say_number(rt, place.at);
     } else {
-        say(b"Line ");
-        say_number(place.line);
+        say(rt, b"Line ");
+        say_number(rt, place.line);
         if place.at > 1 {
-            say(b", column ");
-            say_number(place.at);
+            say(rt, b", column ");
+            say_number(rt, place.at);
         }
     }
-    say(b": ");
+    say(rt, b": ");
 }
 
 // Bytes outside a message get one line together.
-fn without_stray(s: Stream) -> Stream {
+fn without_stray(rt: &impl Print, s: Stream) -> Stream {
     let mut t = s;
     let start = s.start;
     if s.stray == 0 {
         return t;
     }
-    say_where(start);
-    say_count(s.stray, b"byte");
-    say(b" outside a message, from ");
-    say_byte(s.first);
-    say(b" on. Passed over.\n");
+    say_where(rt, start);
+    say_count(rt, s.stray, b"byte");
+    say(rt, b" outside a message, from ");
+    say_byte(rt, s.first);
+    say(rt, b" on. Passed over.\n");
     t.stray = 0;
     t.outside = std::num::wrapping_add_u64(s.outside, 1);
     t
@@ -91,8 +91,8 @@ fn with_stray(s: Stream, byte: u8, place: Place) -> Stream {
     t
 }
 
-fn begun(s: Stream, place: Place, message: &mut [u8; 65536]) -> Stream {
-    let mut t = without_stray(s);
+fn begun(rt: &impl Print, s: Stream, place: Place, message: &mut [u8; 65536]) -> Stream {
+    let mut t = without_stray(rt, s);
     t.over = 0;
     t.start = place;
     with_byte(t, SOX, message)
@@ -122,85 +122,111 @@ fn counted(s: Stream, good: bool) -> Stream {
     t
 }
 
-fn say_too_long(s: Stream) {
-    say(b"a message of ");
-    say_count(std::num::wrapping_add_u64(s.length as u64, s.over), b"byte");
-    say(b". At most 65536 are read; it is passed over.\n");
+fn say_too_long(rt: &impl Print, s: Stream) {
+    say(rt, b"a message of ");
+    say_count(
+        rt,
+        std::num::wrapping_add_u64(s.length as u64, s.over),
+        b"byte",
+    );
+    say(rt, b". At most 65536 are read; it is passed over.\n");
 }
 
 // The open message has its F7H.
-fn finished(s: Stream, message: &[u8]) -> Stream {
+fn finished(rt: &impl Print, s: Stream, message: &[u8]) -> Stream {
     let length = s.length;
     let start = s.start;
-    say_where(start);
+    say_where(rt, start);
     if s.over > 0 {
-        say_too_long(s);
+        say_too_long(rt, s);
         return counted(s, false);
     }
     let whole = Part {
         start: 0,
         len: length,
     };
-    counted(s, read_message(whole.of(message), s.own))
+    counted(s, read_message(rt, whole.of(message), s.own))
 }
 
 // A byte above 7FH that is not F7H stands in the open message.
-fn cut(s: Stream, byte: u8) -> Stream {
+fn cut(rt: &impl Print, s: Stream, byte: u8) -> Stream {
     let start = s.start;
     let read = std::num::wrapping_add_u64(s.length as u64, s.over);
-    say_where(start);
-    say(b"a message that is not whole: its byte ");
-    say_number(std::num::wrapping_add_u64(read, 1));
-    say(b" is ");
-    say_byte(byte);
-    say(b". Refused, 1: a byte above 7FH in a name or data. Nothing of it is done.\n");
+    say_where(rt, start);
+    say(rt, b"a message that is not whole: its byte ");
+    say_number(rt, std::num::wrapping_add_u64(read, 1));
+    say(rt, b" is ");
+    say_byte(rt, byte);
+    say(
+        rt,
+        b". Refused, 1: a byte above 7FH in a name or data. Nothing of it is done.\n",
+    );
     counted(s, false)
 }
 
 // A real time byte may stand anywhere and belongs to no message.
-fn passed(s: Stream, byte: u8, place: Place) -> Stream {
-    say_where(place);
-    say(b"the real time byte ");
-    say_byte(byte);
-    say(b" stands inside a message. Passed over; the message goes on.\n");
+fn passed(rt: &impl Print, s: Stream, byte: u8, place: Place) -> Stream {
+    say_where(rt, place);
+    say(rt, b"the real time byte ");
+    say_byte(rt, byte);
+    say(
+        rt,
+        b" stands inside a message. Passed over; the message goes on.\n",
+    );
     s
 }
 
 // A byte while no message is open.
-fn outside(s: Stream, byte: u8, place: Place, message: &mut [u8; 65536]) -> Stream {
+fn outside(
+    rt: &impl Print,
+    s: Stream,
+    byte: u8,
+    place: Place,
+    message: &mut [u8; 65536],
+) -> Stream {
     if byte == SOX {
-        return begun(s, place, message);
+        return begun(rt, s, place, message);
     }
     with_stray(s, byte, place)
 }
 
 // The next byte of the stream.
-pub(crate) fn take(s: Stream, byte: u8, place: Place, message: &mut [u8; 65536]) -> Stream {
+pub(crate) fn take(
+    rt: &impl Print,
+    s: Stream,
+    byte: u8,
+    place: Place,
+    message: &mut [u8; 65536],
+) -> Stream {
     if s.length == 0 {
-        return outside(s, byte, place, message);
+        return outside(rt, s, byte, place, message);
     }
     if byte < 0x80 {
         return with_byte(s, byte, message);
     }
     if byte == EOX {
         let t = with_byte(s, byte, message);
-        return finished(t, message);
+        return finished(rt, t, message);
     }
     if byte > EOX {
-        return passed(s, byte, place);
+        return passed(rt, s, byte, place);
     }
-    outside(cut(s, byte), byte, place, message)
+    outside(rt, cut(rt, s, byte), byte, place, message)
 }
 
 // The stream ends here, or the line: a message does not go on past it.
-pub(crate) fn end(s: Stream) -> Stream {
+pub(crate) fn end(rt: &impl Print, s: Stream) -> Stream {
     let start = s.start;
     if s.length == 0 {
-        return without_stray(s);
+        return without_stray(rt, s);
     }
-    say_where(start);
-    say(b"a message that is not whole: it ends after ");
-    say_count(std::num::wrapping_add_u64(s.length as u64, s.over), b"byte");
-    say(b" without F7H. Nothing of it is done.\n");
+    say_where(rt, start);
+    say(rt, b"a message that is not whole: it ends after ");
+    say_count(
+        rt,
+        std::num::wrapping_add_u64(s.length as u64, s.over),
+        b"byte",
+    );
+    say(rt, b" without F7H. Nothing of it is done.\n");
     counted(s, false)
 }

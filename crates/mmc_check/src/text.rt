@@ -5,7 +5,7 @@ use crate::stream::{Place, Stream, end, say_where, take};
 
 // The line and column of the next character, the digit that waits for its second, what stands before it, and whether the rest
 // of the line is passed over.
-#[derive(Drop)]
+#[derive(Clone, Copy)]
 pub(crate) struct Text {
     pub(crate) line: u64,
     pub(crate) column: u64,
@@ -15,7 +15,7 @@ pub(crate) struct Text {
 }
 
 // A text with the stream of its bytes.
-#[derive(Drop)]
+#[derive(Clone, Copy)]
 pub(crate) struct Reading {
     pub(crate) text: Text,
     pub(crate) stream: Stream,
@@ -99,94 +99,100 @@ fn skipping(r: Reading) -> Reading {
 }
 
 // A whole byte goes to the stream; its first digit is the character before this one.
-fn with_byte(r: Reading, byte: u8, word: u8, message: &mut [u8; 65536]) -> Reading {
+fn with_byte(
+    rt: &impl Print,
+    r: Reading,
+    byte: u8,
+    word: u8,
+    message: &mut [u8; 65536],
+) -> Reading {
     let mut text = r.text;
     let stream = r.stream;
     let place = before(text);
     text.word = word;
     Reading {
         text,
-        stream: take(stream, byte, place, message),
+        stream: take(rt, stream, byte, place, message),
     }
 }
 
 // Something that is no byte: the stream counts it among what stands outside a message.
-fn refused(r: Reading) -> Reading {
-    say(b". The rest of the line is passed over.\n");
+fn refused(rt: &impl Print, r: Reading) -> Reading {
+    say(rt, b". The rest of the line is passed over.\n");
     let mut stream = r.stream;
     let text = r.text;
     stream.outside = std::num::wrapping_add_u64(stream.outside, 1);
     skipping(Reading { text, stream })
 }
 
-fn say_character(c: u8) {
+fn say_character(rt: &impl Print, c: u8) {
     if c > b' ' && c < 0x7F {
         let text = [b'\'', c, b'\''];
-        say(&text);
+        say(rt, &text);
         return;
     }
     let text = [b'b', b'y', b't', b'e', b' ', digit(c / 16), digit(c), b'H'];
-    say(&text);
+    say(rt, &text);
 }
 
-fn wrong(r: Reading, c: u8) -> Reading {
+fn wrong(rt: &impl Print, r: Reading, c: u8) -> Reading {
     let text = r.text;
-    say_where(here(text));
-    say_character(c);
-    say(b" is no hexadecimal digit");
-    refused(r)
+    say_where(rt, here(text));
+    say_character(rt, c);
+    say(rt, b" is no hexadecimal digit");
+    refused(rt, r)
 }
 
 // A digit of this value.
-fn with_digit(r: Reading, low: u8, message: &mut [u8; 65536]) -> Reading {
+fn with_digit(rt: &impl Print, r: Reading, low: u8, message: &mut [u8; 65536]) -> Reading {
     let text = r.text;
     let high = text.high % 16;
     let word = text.word;
     match word {
-        ONE => with_byte(r, high * 16 + low % 16, PAIRS, message),
-        ODD => with_byte(r, high * 16 + low % 16, PAIRS, message),
+        ONE => with_byte(rt, r, high * 16 + low % 16, PAIRS, message),
+        ODD => with_byte(rt, r, high * 16 + low % 16, PAIRS, message),
         PAIRS => with_word(r, ODD, low),
         _ => with_word(r, ONE, low),
     }
 }
 
 // The word ends before this character: one digit alone is a byte, half a pair is none.
-fn word_ended(r: Reading, message: &mut [u8; 65536]) -> Reading {
+fn word_ended(rt: &impl Print, r: Reading, message: &mut [u8; 65536]) -> Reading {
     let text = r.text;
     let word = text.word;
     match word {
         NONE => r,
         PAIRS => with_word(r, NONE, 0),
-        ONE => with_byte(r, text.high, NONE, message),
+        ONE => with_byte(rt, r, text.high, NONE, message),
         _ => {
-            say_where(before(text));
-            say(b"half a byte: a digit is missing");
-            refused(r)
+            say_where(rt, before(text));
+            say(rt, b"half a byte: a digit is missing");
+            refused(rt, r)
         }
     }
 }
 
 // A letter x is right only in 0x, and H only after digits.
-fn with_letter(r: Reading, c: u8, message: &mut [u8; 65536]) -> Reading {
+fn with_letter(rt: &impl Print, r: Reading, c: u8, message: &mut [u8; 65536]) -> Reading {
     let text = r.text;
     if c == b'x' || c == b'X' {
         if text.word == ONE && text.high == 0 {
             return with_word(r, PREFIX, 0);
         }
-        return wrong(r, c);
+        return wrong(rt, r, c);
     }
     if c == b'h' || c == b'H' {
         if text.word == ONE || text.word == PAIRS {
-            return word_ended(r, message);
+            return word_ended(rt, r, message);
         }
-        return wrong(r, c);
+        return wrong(rt, r, c);
     }
-    wrong(r, c)
+    wrong(rt, r, c)
 }
 
 // The line ends, and with it the message.
-fn line_ended(r: Reading, message: &mut [u8; 65536]) -> Reading {
-    let whole = word_ended(r, message);
+fn line_ended(rt: &impl Print, r: Reading, message: &mut [u8; 65536]) -> Reading {
+    let whole = word_ended(rt, r, message);
     let text = whole.text;
     let stream = whole.stream;
     Reading {
@@ -197,33 +203,33 @@ fn line_ended(r: Reading, message: &mut [u8; 65536]) -> Reading {
             word: NONE,
             skips: false,
         },
-        stream: end(stream),
+        stream: end(rt, stream),
     }
 }
 
-fn with_character(r: Reading, c: u8, message: &mut [u8; 65536]) -> Reading {
+fn with_character(rt: &impl Print, r: Reading, c: u8, message: &mut [u8; 65536]) -> Reading {
     let text = r.text;
     let low = value(c);
     if text.skips {
         return r;
     }
     if low != NO_DIGIT {
-        return with_digit(r, low, message);
+        return with_digit(rt, r, low, message);
     }
     if is_blank(c) {
-        return word_ended(r, message);
+        return word_ended(rt, r, message);
     }
     if c == b'#' {
-        return skipping(word_ended(r, message));
+        return skipping(word_ended(rt, r, message));
     }
-    with_letter(r, c, message)
+    with_letter(rt, r, c, message)
 }
 
-fn next(r: Reading, c: u8, message: &mut [u8; 65536]) -> Reading {
+fn next(rt: &impl Print, r: Reading, c: u8, message: &mut [u8; 65536]) -> Reading {
     if c == b'\n' {
-        return line_ended(r, message);
+        return line_ended(rt, r, message);
     }
-    let after = with_character(r, c, message);
+    let after = with_character(rt, r, c, message);
     let mut text = after.text;
     let stream = after.stream;
     text.column = std::num::wrapping_add_u64(text.column, 1);
@@ -231,18 +237,21 @@ fn next(r: Reading, c: u8, message: &mut [u8; 65536]) -> Reading {
 }
 
 // The characters of a chunk.
-pub(crate) fn take_text(r: Reading, chunk: &[u8], message: &mut [u8; 65536]) -> Reading {
+pub(crate) fn take_text(
+    rt: &impl Print,
+    r: Reading,
+    chunk: &[u8],
+    message: &mut [u8; 65536],
+) -> Reading {
     let mut reading = r;
-    let mut i: usize = 0;
-    while i < chunk.len() {
-        reading = next(reading, chunk[i], message);
-        i += 1;
+    for c in chunk {
+        reading = next(rt, reading, *c, message);
     }
     reading
 }
 
 // The text ends, perhaps without an end of its last line.
-pub(crate) fn end_text(r: Reading, message: &mut [u8; 65536]) -> Stream {
-    let last = line_ended(r, message);
+pub(crate) fn end_text(rt: &impl Print, r: Reading, message: &mut [u8; 65536]) -> Stream {
+    let last = line_ended(rt, r, message);
     last.stream
 }

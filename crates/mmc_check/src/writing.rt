@@ -8,7 +8,7 @@ use universal::{SysexError, Written};
 pub(crate) const FIRST: usize = 5;
 
 // The writer, and the place of the item that it got last.
-#[derive(Drop)]
+#[derive(Clone, Copy)]
 pub(crate) struct Writing {
     pub(crate) writer: Writer,
     pub(crate) at: usize,
@@ -70,47 +70,47 @@ pub(crate) fn with_field(w: Writing, body: &[u8], field: InfoField, at: usize) -
     Writing { writer: after, at }
 }
 
-fn say_unwritten(error: SysexError) {
-    say(b"The desk would not write this. ");
-    say_refusal(error);
+fn say_unwritten(rt: &impl Print, error: SysexError) {
+    say(rt, b"The desk would not write this. ");
+    say_refusal(rt, error);
 }
 
 // The place where the writer refused; none where the whole has a wrong length.
-fn say_at(w: Writing, first: usize, body: &[u8]) {
+fn say_at(rt: &impl Print, w: Writing, first: usize, body: &[u8]) {
     let writer = w.writer;
     if has_failed(writer) {
-        say(b", at byte ");
-        say_number(std::num::wrapping_add_u64(first as u64, w.at as u64));
+        say(rt, b", at byte ");
+        say_number(rt, std::num::wrapping_add_u64(first as u64, w.at as u64));
     } else {
-        say(b": the body has ");
-        say_count(body.len() as u64, b"byte");
-        say(b", and may have 1 to 48");
+        say(rt, b": the body has ");
+        say_count(rt, body.len() as u64, b"byte");
+        say(rt, b", and may have 1 to 48");
     }
-    say(b".\n");
+    say(rt, b".\n");
 }
 
 // Closes a message. Says what was refused, and answers whether nothing was.
-pub(crate) fn end_message(w: Writing, body: &[u8]) -> bool {
+pub(crate) fn end_message(rt: &impl Print, w: Writing, body: &[u8]) -> bool {
     let writer = w.writer;
     let mut out = [0u8; 64];
     let Written::Refused(error) = writer.close_message(&mut out) else {
         return true;
     };
-    say(b"  ");
-    say_unwritten(error);
-    say_at(w, FIRST, body);
+    say(rt, b"  ");
+    say_unwritten(rt, error);
+    say_at(rt, w, FIRST, body);
     false
 }
 
 // Closes the fields of a Write, likewise. They have at most 127 bytes, so the buffer is never too small.
-pub(crate) fn end_fields(w: Writing, first: usize, data: &[u8]) -> bool {
+pub(crate) fn end_fields(rt: &impl Print, w: Writing, first: usize, data: &[u8]) -> bool {
     let writer = w.writer;
     let out = [0u8; 128];
     let Written::Refused(error) = writer.close_fields(&out) else {
         return true;
     };
-    say(b"    ");
-    say_unwritten(error);
-    say_at(w, first, data);
+    say(rt, b"    ");
+    say_unwritten(rt, error);
+    say_at(rt, w, first, data);
     false
 }

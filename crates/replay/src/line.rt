@@ -1,9 +1,10 @@
 // Standard input, a line at a time: the bytes of a case, from its pairs of digits.
 use crate::calls::replay;
 use crate::tally::add;
+use std::io::Read;
 
 // A line so far: how many bytes it has, and its state: the first digit of a pair, or one of these.
-#[derive(Drop)]
+#[derive(Clone, Copy)]
 struct Line {
     length: usize,
     state: u8,
@@ -83,34 +84,22 @@ fn finish(line: Line, bytes: &[u8; 2048], counts: &mut [u64; 256]) {
 
 fn take(chunk: &[u8], from: Line, bytes: &mut [u8; 2048], counts: &mut [u64; 256]) -> Line {
     let mut line = from;
-    let mut i: usize = 0;
-    while i < chunk.len() {
-        let byte = chunk[i];
-        if byte == b'\n' {
+    for byte in chunk {
+        if *byte == b'\n' {
             finish(line, bytes, counts);
             line = Line {
                 length: 0,
                 state: EMPTY,
             };
         } else {
-            line = step(line, byte, bytes);
+            line = step(line, *byte, bytes);
         }
-        i = i + 1;
     }
     line
 }
 
-// One read. At the end of the input the last line may lack its end; a read that fails counts as a line that is no case.
-fn read_some(line: Line, bytes: &mut [u8; 2048], counts: &mut [u64; 256]) -> Line {
-    let mut chunk = io::buffer();
-    let got = libc::read(0, &mut chunk);
-    if got > 0 {
-        let n = io::count(got, &chunk);
-        return take(&chunk[..n], line, bytes, counts);
-    }
-    if got < 0 {
-        add(counts, 0, false);
-    }
+// The input has ended: its last line may lack its end.
+fn ended(line: Line, bytes: &[u8; 2048], counts: &mut [u64; 256]) -> Line {
     if line.state != EMPTY {
         finish(line, bytes, counts);
     }
@@ -120,17 +109,34 @@ fn read_some(line: Line, bytes: &mut [u8; 2048], counts: &mut [u64; 256]) -> Lin
     }
 }
 
+// One read. One that fails counts as a line that is no case, and ends the input.
+fn read_some<R: Read>(
+    input: &mut R,
+    line: Line,
+    bytes: &mut [u8; 2048],
+    counts: &mut [u64; 256],
+) -> Line {
+    let mut chunk = [0u8; 4096];
+    match input.read(&mut chunk) {
+        Ok(0) => ended(line, bytes, counts),
+        Ok(n) => take(&chunk[..n], line, bytes, counts),
+        Err(_) => {
+            add(counts, 0, false);
+            ended(line, bytes, counts)
+        }
+    }
+}
+
 // Reads standard input to its end, in at most a million reads; more count as a line that is no case.
-pub(crate) fn read_all(counts: &mut [u64; 256]) {
+pub(crate) fn read_all(rt: &impl Input, counts: &mut [u64; 256]) {
+    let mut input = rt.reader();
     let mut bytes = [0u8; 2048];
     let mut line = Line {
         length: 0,
         state: EMPTY,
     };
-    let mut turns: u64 = 0;
-    while turns < 1000000 {
-        turns = turns + 1;
-        line = read_some(line, &mut bytes, counts);
+    for _ in 0..1_000_000u32 {
+        line = read_some(&mut input, line, &mut bytes, counts);
         if line.state == ENDED {
             return;
         }

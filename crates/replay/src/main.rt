@@ -1,4 +1,6 @@
 // Replays the stored sample of the published Rust's answers through the public calls, and writes a line for each call.
+#![tactic(auto)]
+
 mod calls;
 mod case;
 mod line;
@@ -11,11 +13,13 @@ mod times;
 mod writers;
 
 use crate::tally::report;
+use std::io;
 
-fn main() {
+fn main(rt: HostRuntime) -> io::Result<()> {
     let mut counts = [0u64; 256];
-    line::read_all(&mut counts);
+    line::read_all(&rt, &mut counts);
     report(
+        &rt,
         b"MtcTime::new, is_valid;next_valid;to_frame_count;from_frame_count;add_frames;frames_per_second;\
         |QuarterFrame::from_byte;QuarterFrame::to_byte;QuarterFrame::pieces;\
         |MtcGenerator::new;next_byte;set_running;set_direction;locate;MtcGenerator::time;\
@@ -29,6 +33,6 @@ fn main() {
         |Commands::next;InfoFields::next;\
         |write_commands;write_responses;write_info_fields;",
         &counts,
-    );
-    tally::report_all(&counts);
+    )?;
+    tally::report_all(&rt, &counts)
 }

@@ -1,4 +1,5 @@
 // The counts: cases at a call's number, failures 128 above it. Number 0 stands for the lines that are no case, 127 for all lines.
+use std::io;
 
 // One more at a call's number, and one more failure unless it was right; and the same for all lines.
 pub(crate) fn add(counts: &mut [u64; 256], call: u8, right: bool) {
@@ -12,27 +13,22 @@ pub(crate) fn add(counts: &mut [u64; 256], call: u8, right: bool) {
     counts[255] = std::num::wrapping_add_u64(counts[255], 1);
 }
 
-fn line(name: &[u8], cases: u64, failures: u64) {
-    io::write_all(1, name);
-    io::write_all(1, b": ");
-    io::print_decimal(1, cases);
-    io::write_all(1, b" cases, ");
-    io::print_decimal(1, failures);
-    io::write_all(1, b" failures\n");
+fn line(rt: &impl Print, name: &[u8], cases: u64, failures: u64) -> io::Result<()> {
+    rt.write_all(name)?;
+    println!(rt; ": {cases} cases, {failures} failures")
 }
 
 // Writes a line for each name, in the order of the calls from 1 on: a semicolon ends a name, and a bar stands before the name
 // of a call that is the first of its sixteen.
-pub(crate) fn report(names: &[u8], counts: &[u64; 256]) {
+pub(crate) fn report(rt: &impl Print, names: &[u8], counts: &[u64; 256]) -> io::Result<()> {
     let mut call: u8 = 1;
     let mut start: usize = 0;
-    let mut i: usize = 0;
-    while i < names.len() {
+    for i in 0..names.len() {
         let byte = names[i];
         if byte == b';' {
             let at = (call % 128) as usize;
             if start <= i {
-                line(&names[start..i], counts[at], counts[at + 128]);
+                line(rt, &names[start..i], counts[at], counts[at + 128])?;
             }
             call = call % 128 + 1;
             start = i + 1;
@@ -41,14 +37,13 @@ pub(crate) fn report(names: &[u8], counts: &[u64; 256]) {
             call = call % 128 / 16 * 16 + 16;
             start = i + 1;
         }
-        i = i + 1;
     }
+    Ok(())
 }
 
 // Writes how many lines were no case, and the line of all lines together.
-pub(crate) fn report_all(counts: &[u64; 256]) {
-    io::write_all(1, b"unreadable lines: ");
-    io::print_decimal(1, counts[0]);
-    io::write_all(1, b"\n");
-    line(b"all", counts[127], counts[255]);
+pub(crate) fn report_all(rt: &impl Print, counts: &[u64; 256]) -> io::Result<()> {
+    let unreadable = counts[0];
+    println!(rt; "unreadable lines: {unreadable}")?;
+    line(rt, b"all", counts[127], counts[255])
 }

@@ -171,4 +171,3 @@ give-byte-spec 𝓤 𝓛 𝓜 𝓡 =
     (tables 𝓤 𝓛.H 𝓜 𝓡 code.env).C (tables 𝓤 𝓛.H 𝓜 𝓡 code.env).Λ #give-byte code.function (code.unfolded 𝓤 𝓛.H 𝓜 𝓡)
     (give-byte-meets 𝓛 𝓜.mem 𝓡.run (tables_of 𝓤 𝓛.H 𝓜 (tables 𝓤 𝓛.H 𝓜 𝓡 code.env))
     (cited 𝓤 𝓛.H (Receiving 𝓛 𝓜.mem 𝓡.run) 𝓜 𝓡 code.env #receive receive-def.routine code.calls-mtc::reader::MtcReader::receive (receive-thm.met 𝓤 𝓛 𝓜 𝓡)))
-

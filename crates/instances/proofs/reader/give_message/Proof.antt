@@ -146,4 +146,3 @@ give-message-spec 𝓤 𝓛 𝓜 𝓡 =
     (tables 𝓤 𝓛.H 𝓜 𝓡 code.env).C (tables 𝓤 𝓛.H 𝓜 𝓡 code.env).Λ #give-message code.function (code.unfolded 𝓤 𝓛.H 𝓜 𝓡)
     (give-message-meets 𝓛 𝓜.mem 𝓡.run (tables_of 𝓤 𝓛.H 𝓜 (tables 𝓤 𝓛.H 𝓜 𝓡 code.env))
     (cited 𝓤 𝓛.H (Informing 𝓛 𝓜.mem 𝓡.run) 𝓜 𝓡 code.env #full-message full-message-def.routine code.calls-mtc::reader::MtcReader::full-message (full-message-thm.met 𝓤 𝓛 𝓜 𝓡)))
-
