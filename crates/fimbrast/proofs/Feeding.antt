@@ -199,4 +199,3 @@ feeds r sound bs =
       last = i.last;
       labels = whole_from (unfed r) sound bs (report_back NoSequence r r (refl, refl));
     }
-

@@ -94,4 +94,3 @@ pub record Feeds (r : MtcReader) (bs : List ℕ) : Type 0 where
   pub discontinuities : (fed r bs).discontinuities ≡ total jump (events r bs)
   pub last : (fed r bs).last ≡ last_report NoSequence (events r bs)
   pub labels : report_in (fed r bs).reader (flat_report (fed r bs).last) ≡ (fed r bs).last
-

@@ -11,4 +11,3 @@ flat_summary s =
 
 unfoldable pub flat_run : Run → FlatRun
 flat_run r = flat_summary (summary r)
-

@@ -1,0 +1,11 @@
+-- `fimbrast::write::fimbrast_close_message` meets its contract. Assumes nothing.
+use mathlib.Core.Path.{ap, ◌∙◌}
+use Rattle.fast_mmc.specs.Numbers.{written_numbers}
+use Rattle.fimbrast.proofs.write.fimbrast_close_message.Goals as goal
+
+pub returns : goal.returns
+returns c =
+    record {
+      value = c.written_numbers.ensures ∙ ap written_numbers (rw c.writer_of.ensures at c.close_message.ensures.result_value);
+      out_after = rw c.writer_of.ensures at c.close_message.ensures.out_after;
+    }

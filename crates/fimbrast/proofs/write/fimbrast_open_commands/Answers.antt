@@ -1,0 +1,11 @@
+-- `fimbrast::write::fimbrast_open_commands` meets its contract. Assumes nothing.
+use mathlib.Core.Path.{ap, ◌∙◌}
+use Rattle.fast_mmc.specs.Write.{flat_writer}
+use Rattle.fimbrast.proofs.write.fimbrast_open_commands.Goals as goal
+
+pub returns : goal.returns
+returns c =
+    record {
+      value = c.flat_writer.ensures ∙ ap flat_writer c.open_commands.ensures.result_value;
+      out_after = c.open_commands.ensures.out_after;
+    }

@@ -1,0 +1,12 @@
+use Rattle.std.proofs.Common.{◌-◌}
+use Rattle.instances.proofs.demand3.short_list.Reads as reads
+use Rattle.instances.proofs.demand3.short_list.Lts as lts
+use Rattle.instances.proofs.demand3.call.Reads as call-reads
+use Rattle.instances.proofs.stream.fresh.Reads as fresh-reads
+use Rattle.instances.proofs.demand3.short_list.Given as goal
+
+abbrev pub invariant-loop-rest : goal.invariant-loop-rest
+invariant-loop-rest l = Unit
+
+abbrev pub decreases-loop-rest : goal.decreases-loop-rest
+decreases-loop-rest l = l.rest

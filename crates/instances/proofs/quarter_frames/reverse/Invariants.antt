@@ -1,0 +1,12 @@
+use Rattle.std.proofs.Common.{◌≤◌}
+use Rattle.instances.proofs.quarter_frames.reverse.Reads as reads
+use Rattle.instances.proofs.quarter_frames.reverse.Lts as lts
+use Rattle.instances.proofs.reader.give_byte.Reads as give-byte-reads
+use Rattle.mtc.proofs.reader.MtcReader.new.Reads as new-reads
+use Rattle.instances.proofs.quarter_frames.reverse.Given as goal
+
+abbrev pub invariant-loop-left : goal.invariant-loop-left
+invariant-loop-left l = l.left ≤ 8
+
+abbrev pub decreases-loop-left : goal.decreases-loop-left
+decreases-loop-left l = l.left
