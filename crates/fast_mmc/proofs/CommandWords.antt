@@ -17,7 +17,7 @@ use Rattle.codes.specs.declared.time_code.FinalByte.TheVariants.{Subframes, Stat
 use Rattle.codes.specs.TimeCode.{bit, flag, read_status, read_final, final_value, read_standard}
 use Rattle.codes.proofs.Laws.{standard_parts}
 use Rattle.mmc.specs.declared.length.Kind.TheVariants.{Commands}
-use Rattle.mmc.specs.Strings.{Given, given}
+use Rattle.mmc.specs.Strings.{given}
 use Rattle.mmc.specs.Write.{Writing, opened_commands, begun, admitted, whole_message}
 use Rattle.mmc.specs.Write as W
 use Rattle.mmc.specs.Writings.{State, after_items, string_answer, string_left}

@@ -1,8 +1,8 @@
 -- Reading a word: the bytes of a time code, a name alone, and the next command of a string. Assumes nothing.
 use Prim.Native.Nat.{ℕ, zero, suc, ◌+◌, ◌-◌, ◌*◌, ◌/◌, ◌%◌, ◌≤◌, ◌<◌}
-use mathlib.Core.Path.{◌≡◌, refl, sym, ap, ap₂, subst, ◌∙◌}
+use mathlib.Core.Path.{◌≡◌, refl, sym, ap, subst, ◌∙◌}
 use mathlib.Core.Bool.{Bool, true, false, cond, true≢false}
-use mathlib.Core.Logic.{◌⊎◌, inl, inr, ⊎_elim}
+use mathlib.Core.Logic.{⊎_elim}
 use mathlib.Core.List.{List, [], ◌∷◌}
 use native.Mathlib.Nat.{lt_irrefl}
 use native.Mathlib.Omega.{arith}
@@ -17,19 +17,18 @@ use Rattle.mmc.specs.declared.length.Length.TheVariants.{Fixed, Count}
 use Rattle.mmc.specs.declared.part.Part.{Part}
 use Rattle.mmc.specs.declared.split.PartsAnswer.{PartsAnswer}
 use Rattle.mmc.specs.declared.split.PartsAnswer.TheVariants.{Found, Refused}
-use Rattle.fast_mmc.specs.declared.word.NextWord.{NextWord}
 use Rattle.mmc.specs.Command as K
 use Rattle.mmc.specs.Command.{CommandCase, command_by_name, read_command, command_of_case, next_command}
 use Rattle.mmc.specs.Length.{command_length, within}
 use Rattle.mmc.specs.Part.{part, part_of}
-use Rattle.mmc.specs.Split.{Next, next, next_parts_of}
+use Rattle.mmc.specs.Split.{next, next_parts_of}
 use Rattle.codes.specs.declared.time_code.FinalByte.TheVariants.{Subframes, Status}
 use Rattle.codes.specs.TimeCode.{bit, flag, read_status, read_final, final_value, read_standard}
 use Rattle.labels.specs.Time.{bits_of, rate_at, type_of}
 use Rattle.fast_mmc.specs.Code.{is_status}
 use Rattle.fast_mmc.specs.Word.{four_marks, target_bytes, target_word, command_word, answer_word, next_word}
 use Rattle.fast_mmc.specs.Clauses.{AloneWord, ShortWord, longer, alone_word}
-use Rattle.universal.specs.Refusals.{gives, refused, refusal_of}
+use Rattle.universal.specs.Refusals.{refusal_of}
 use Rattle.universal.specs.declared.error.SysexError.{SysexError}
 use Rattle.codes.proofs.Laws.{standard_parts}
 use Rattle.mmc.proofs.ReadingLaws.{command_length_lem, names_read, unknown_byte, below_range, by_byte, part_inside, command_refused, command_prefixed, command_end, command_alone, command_no_count, command_few_data, command_counted}

@@ -1,12 +1,12 @@
 -- Events and reports as numbers: as the code makes them, what is read off them, and that nothing of a report is lost. Assumes nothing.
-use Prim.Native.Nat.{ℕ, zero, suc, ◌+◌, ◌*◌, ◌/◌, ◌%◌, ◌≤◌, ◌<◌}
-use mathlib.Core.Bool.{Bool, true, false, cond}
-use mathlib.Core.Path.{◌≡◌, refl, sym, ap, ◌∙◌}
+use Prim.Native.Nat.{ℕ, zero, suc, ◌+◌, ◌*◌, ◌/◌, ◌%◌, ◌≤◌}
+use mathlib.Core.Bool.{Bool, true, false}
+use mathlib.Core.Path.{◌≡◌, refl}
 use native.Mathlib.Omega.{arith}
 use borrow.Author.Tests.{ne_eqb}
 use lib.Dec.{lit≤}
 use Rattle.fast_mtc.specs.Generator.{direction_at, flat_direction, is_set}
-use Rattle.fast_mtc.specs.Reader.{bit_of, flat_report, flat_event, label_or, report_in}
+use Rattle.fast_mtc.specs.Reader.{bit_of, flat_report, flat_event, report_in}
 use Rattle.mtc.proofs.Laws.{report_labels}
 use Rattle.mtc.specs.Reader.{event_with, ReportLabels, after_byte, event_of, or_fresh}
 use Rattle.mtc.specs.declared.generator.Direction.{Direction}
@@ -117,4 +117,3 @@ pub kept_back : (s : MtcSequence) (before left : MtcReader) → ReportLabels NoS
     → report_in before (flat_report (Sequence s)) ≡ Sequence s → report_in left (flat_report (Sequence s)) ≡ Sequence s
 unfolding report_in
 kept_back s before left h e = rw (h.0, h.1) e
-

@@ -6,7 +6,6 @@ use Rattle.fast_mtc.specs.Generator.{direction_at, flat_direction, piece_at, fla
 use Rattle.fast_mtc.specs.Time.{time_of, time_numbered, flat_time}
 use Rattle.mtc.specs.Reader.{piece_fits}
 use Rattle.labels.specs.St12.{is_valid}
-use Rattle.labels.specs.Time.{bits_of, type_of}
 use Rattle.fast_mtc.specs.Label.{label_number}
 use Rattle.fast_mtc.proofs.LabelShortWays.{number_bytes}
 use Rattle.labels.proofs.Laws.{rate_back}
@@ -16,8 +15,6 @@ use Rattle.mtc.specs.declared.generator.MaybePiece.{MaybePiece}
 use Rattle.mtc.specs.declared.generator.MaybePiece.TheVariants.{NoPiece, Piece}
 use Rattle.mtc.specs.declared.generator.MtcGenerator.{MtcGenerator}
 use Rattle.labels.specs.declared.time.MtcTime.{MtcTime}
-use Rattle.labels.specs.declared.time.TimeCodeType.{TimeCodeType}
-use Rattle.labels.specs.declared.time.TimeCodeType.TheVariants.{Fps24, Fps25, Fps30Drop, Fps30}
 
 pub time_back : (t : MtcTime) → time_of (flat_time t) ≡ t
 unfolding time_of flat_time
@@ -46,4 +43,3 @@ unfolding time_numbered flat_time
 number_time t v =
     let b = number_bytes t v in
     rw (b.0, b.1.0, b.1.1.0, b.1.1.1.0, b.1.1.1.1)
-

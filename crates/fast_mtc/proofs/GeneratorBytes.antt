@@ -1,7 +1,7 @@
 -- The generator as bytes: what a store to some of the bytes does to the generator that they stand for. Assumes nothing.
-use Prim.Native.Nat.{ℕ, zero, suc, ◌≤◌, ◌<◌}
+use Prim.Native.Nat.{ℕ, ◌≤◌, ◌<◌}
 use mathlib.Core.Bool.{true, false}
-use mathlib.Core.List.{List, [], ◌∷◌}
+use mathlib.Core.List.{List}
 use mathlib.Core.Path.{◌≡◌, refl, sym, subst, ap, ◌∙◌}
 use native.Mathlib.Omega.{arith}
 use borrow.Author.Tests.{le-leb, lt-leb, eq-eqb, ne_eqb}
@@ -107,4 +107,3 @@ pub stopped_in : (bs : List ℕ) → get_or bs 7 0 ≡ 0
     → (record { refusal = 8; byte = 0 } ≡ flat_byte (next_byte (generator_in bs))) × (generator_in bs ≡ after_next_byte (generator_in bs))
 unfolding flat_byte
 stopped_in bs e = let s = stopped_refuses (generator_in bs) (still bs e) in (ap flat_byte s.0, s.1)
-

@@ -2,7 +2,6 @@
 -- Assumes nothing.
 use Prim.Native.Nat.{ℕ, ◌+◌, ◌-◌, ◌*◌, ◌/◌, ◌%◌, ◌≤◌, ◌<◌}
 use mathlib.Core.Path.{◌≡◌, refl, sym, subst, ap, ◌∙◌}
-use mathlib.Core.Bool.{Bool, true, false, not}
 use mathlib.Core.Logic.{inr}
 use native.Mathlib.Nat.{mod-eq_of_lt, mul-le-mul_left}
 use native.Mathlib.Omega.{arith}
@@ -13,9 +12,9 @@ use mir.Val.{Fits}
 use Rattle.labels.specs.declared.time.MtcTime.{MtcTime}
 use Rattle.labels.specs.declared.time.TimeCodeType.{TimeCodeType}
 use Rattle.labels.specs.declared.time.TimeCodeType.TheVariants.{Fps24, Fps25, Fps30Drop, Fps30}
-use Rattle.labels.specs.St12.{label, frames_per_second, is_drop_frame, is_valid}
+use Rattle.labels.specs.St12.{label, frames_per_second, is_valid}
 use Rattle.labels.specs.Time.{bits_of, type_of, day_of, formula, frame_count, label_at_second, label_at, mod_z, add_frames}
-use Rattle.labels.proofs.Laws.{count_by_formula, count_below, even_label, drop_split, label_round, moved_by_count, moved_by_sum, moved_by_none, moved_valid, two_later, frames_later, in_range_valid, mod_below, valid_widths, bits_small, rate_back, fps_small, day_positive, day_small}
+use Rattle.labels.proofs.Laws.{count_by_formula, count_below, even_label, drop_split, label_round, moved_by_count, moved_by_sum, moved_by_none, moved_valid, two_later, frames_later, in_range_valid, mod_below, valid_widths, bits_small, rate_back, fps_small}
 use Rattle.fast_mtc.specs.Label.{label_number}
 
 -- ---- rates by their bits
@@ -288,4 +287,3 @@ pub two_earlier : (r : TimeCodeType) (h m s f : ℕ) → h ≤ 23 → m ≤ 59 �
 two_earlier r h m s f hh hm hs low k =
     let back : f - 2 + 2 ≡ f = omega arith in
     sym (ap (λ (n : ℕ). add_frames (label r h m s n) (negsuc 1)) (sym back) ∙ two_before r h m s (f - 2) hh hm hs (omega arith) (omega arith))
-

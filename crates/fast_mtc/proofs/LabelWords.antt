@@ -3,7 +3,6 @@ use Prim.Native.Nat.{ℕ, ◌+◌, ◌*◌, ◌/◌, ◌%◌, ◌≤◌}
 use mathlib.Core.Bool.{true}
 use mathlib.Core.Path.{◌≡◌, refl, ap}
 use native.Mathlib.Omega.{arith}
-use lib.Dec.{lit≤}
 use Rattle.fast_mtc.specs.Generator.{is_set}
 use Rattle.fast_mtc.specs.Reader.{label_in, time_in}
 use Rattle.labels.specs.Time.{bits_of, rate_at, type_of}
@@ -50,4 +49,3 @@ marked t m w em e = rw (em, mark_set t.rate, mark_rate t.rate, e)
 -- Two bits of a mark are its rate.
 pub rate_in : (m : ℕ) → type_of (m / 2 % 4) ≡ type_of (m / 2)
 rate_in m = let e : m / 2 % 4 % 4 ≡ m / 2 % 4 = omega arith in ap rate_at e
-

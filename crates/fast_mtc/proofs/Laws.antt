@@ -19,4 +19,3 @@ in_gives a = refl
 pub in_refused : (A : Type 0) (r : Refusal) → refusal_in {A = A} (refused r) ≡ r.number
 unfolding refusal_in
 in_refused A r = refl
-

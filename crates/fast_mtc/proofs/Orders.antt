@@ -1,15 +1,15 @@
 -- The order of a reader's words: how a piece stands to those before it, by the order alone. It is finite, so the law is one computed
 -- test over every order and piece. Assumes nothing.
-use Prim.Native.Nat.{ℕ, zero, suc, ◌+◌, ◌-◌, ◌%◌, ◌≤◌, ◌<◌}
+use Prim.Native.Nat.{ℕ, zero, suc, ◌+◌, ◌%◌, ◌≤◌, ◌<◌}
 use mathlib.Core.Bool.{Bool, true, false, cond, ◌&&◌}
-use mathlib.Core.Path.{◌≡◌, refl, ap, ◌∙◌}
+use mathlib.Core.Path.{◌≡◌, refl}
 use native.Mathlib.Omega.{arith}
 use borrow.Author.Tests.{ltb-true, ltb-false, le-ltb, eqb-true, eqb-false, ne_eqb}
 use lib.Dec.{T, ltb, eqb, lit≤, le→leb}
 use Rattle.mtc.specs.Reader.{Control, Standing, ordered, order_after, piece_fits}
 use Rattle.mtc.specs.declared.generator.Direction.TheVariants.{Forward, Reverse}
 use Rattle.mtc.specs.declared.generator.MaybePiece.{MaybePiece}
-use Rattle.mtc.specs.declared.generator.MaybePiece.TheVariants.{NoPiece, Piece}
+use Rattle.mtc.specs.declared.generator.MaybePiece.TheVariants.{Piece}
 use Rattle.mtc.specs.declared.reader.MaybeDirection.{MaybeDirection}
 use Rattle.mtc.specs.declared.reader.MaybeDirection.TheVariants.{NoDirection, Going}
 use Rattle.fast_mtc.specs.Reader.{way_in, last_in, count_in, first_in}
@@ -162,4 +162,3 @@ last_fits k =
     (fits (ltb k 16) _ _ (piece_fits_mod (k + 1))
     (fits (ltb k 24) _ _ (piece_fits_mod (k + 7))
     (fits (ltb k 32) _ _ (piece_fits_mod (k + 1)) (fits (ltb k 40) _ _ (piece_fits_mod k) (fits (eqb k 40) _ _ tt (fits (eqb k 41) _ _ tt tt))))))
-

@@ -1,12 +1,11 @@
 -- A piece that is not the next one of a sequence, by the words: what the stores of each way through `receive` leave is the plain
 -- reader's. Assumes nothing.
 use Prim.Native.Nat.{ℕ, ◌+◌, ◌*◌, ◌%◌, ◌≤◌, ◌<◌}
-use mathlib.Core.Bool.{Bool, true, false, cond, ◌&&◌}
+use mathlib.Core.Bool.{true, false}
 use mathlib.Core.List.{List}
 use mathlib.Core.Path.{◌≡◌, refl, sym, subst, ap, ◌∙◌}
 use native.Mathlib.Omega.{arith}
 use borrow.Author.Tests.{eq-eqb, ne_eqb, lt-ltb, le-ltb}
-use lib.Dec.{ltb, eqb, lit≤}
 use lib.ListN.{length, get_or, set, length-set}
 use Rattle.mtc.proofs.Laws.{as_is}
 use Rattle.mtc.specs.QuarterFrame.{piece_of, value_of}
@@ -19,11 +18,10 @@ use Rattle.mtc.specs.declared.reader.MaybeTime.TheVariants.{Time}
 use Rattle.mtc.specs.declared.reader.MtcReader.{MtcReader}
 use Rattle.labels.specs.Time.{bits_of}
 use Rattle.labels.specs.declared.time.MtcTime.{MtcTime}
-use Rattle.fast_mtc.specs.Generator.{is_set}
 use Rattle.fast_mtc.specs.Clauses.{Received, FirstKept, PassedPiece, StoppedOrder}
 use Rattle.fast_mtc.specs.Reader.{way_in, last_in, count_in, first_in, nibbles_in, label_in, time_in, reader_in, flat_event}
 use Rattle.fast_mtc.proofs.LabelWords.{marked}
-use Rattle.fast_mtc.proofs.Orders.{standing_in, standing_none, order_first_small}
+use Rattle.fast_mtc.proofs.Orders.{standing_none, order_first_small}
 use Rattle.fast_mtc.proofs.ReceivedPieces.{Alike, words_pass, words_kept, stand_in, count_at, own_order, sound_in}
 use Rattle.fast_mtc.proofs.SpelledLists.{spelled, by_words, piece_cases}
 
@@ -421,4 +419,3 @@ pub informs : (ws : List ℕ) (t : MtcTime) (o f m w : ℕ) → length ws ≡ 15
     → reader_in (set (set (set (set (set (set ws 8 o) 9 f) 10 0) 11 0) 13 m) 14 w) ≡ after_full_message (reader_in ws) t
 informs ws t o f m w e s ef em ew =
     informs_in ws t o f m w e s ef (marked t m w em ew) ∙ sym (ap (λ (r : MtcReader). informed r t) (as_is (reader_in ws) (sound_in ws)))
-

@@ -1,25 +1,23 @@
 -- A data byte by the words: what the stores of each way through `receive` leave is the plain reader's. Assumes nothing.
-use Prim.Native.Nat.{ℕ, zero, suc, ◌+◌, ◌-◌, ◌*◌, ◌/◌, ◌%◌, ◌≤◌, ◌<◌}
+use Prim.Native.Nat.{ℕ, zero, suc, ◌+◌, ◌-◌, ◌%◌, ◌≤◌, ◌<◌}
 use mathlib.Core.Bool.{Bool, true, false, cond, ◌&&◌}
-use mathlib.Core.List.{List, [], ◌∷◌}
+use mathlib.Core.List.{List}
 use mathlib.Core.Path.{◌≡◌, refl, sym, subst, ap, ◌∙◌}
 use native.Mathlib.Omega.{arith}
-use borrow.Author.Tests.{eq-eqb, ne_eqb, lt-ltb, le-ltb, eqb-false}
-use lib.Dec.{T, ltb, eqb, lit≤}
+use borrow.Author.Tests.{eq-eqb, ne_eqb, lt-ltb, le-ltb}
+use lib.Dec.{eqb}
 use lib.ListN.{length, get_or, set}
 use Rattle.mtc.proofs.Laws.{Sound, sound_by, piece_stands}
 use Rattle.mtc.specs.QuarterFrame.{piece_of, value_of}
-use Rattle.mtc.specs.Reader.{Standing, control, ordered, order_after, starts, number_after, stored, completed, reader_by_number, report_by_number, event_with, sequence_of, after_byte, event_of}
+use Rattle.mtc.specs.Reader.{Standing, control, ordered, order_after, starts, number_after, stored, completed, reader_by_number, event_with, sequence_of}
 use Rattle.mtc.specs.declared.generator.Direction.TheVariants.{Forward, Reverse}
-use Rattle.mtc.specs.declared.generator.MaybePiece.TheVariants.{NoPiece, Piece}
 use Rattle.mtc.specs.declared.reader.MaybeDirection.{MaybeDirection}
-use Rattle.mtc.specs.declared.reader.MaybeDirection.TheVariants.{NoDirection, Going}
+use Rattle.mtc.specs.declared.reader.MaybeDirection.TheVariants.{Going}
 use Rattle.mtc.specs.declared.reader.MaybeSequence.TheVariants.{NoSequence, Sequence}
 use Rattle.mtc.specs.declared.reader.MtcReader.{MtcReader}
-use Rattle.fast_mtc.specs.Generator.{is_set}
-use Rattle.fast_mtc.specs.Clauses.{Received, FirstKept, PassedPiece, SequenceEnded}
+use Rattle.fast_mtc.specs.Clauses.{Received, PassedPiece, SequenceEnded}
 use Rattle.fast_mtc.specs.Reader.{way_in, last_in, count_in, first_in, nibbles_in, reader_in, flat_event}
-use Rattle.fast_mtc.proofs.Orders.{standing_in, standing, standing_none, order_count_small, order_first_small, last_fits}
+use Rattle.fast_mtc.proofs.Orders.{standing_in, standing, order_count_small, order_first_small, last_fits}
 use Rattle.fast_mtc.proofs.SpelledLists.{spelled, by_words, piece_cases}
 
 -- ---- any words stand for a sound reader
@@ -256,4 +254,3 @@ module _ (ws : List ℕ) (b p : ℕ) (e : length ws ≡ 15) (ep : p ≡ piece_of
     pub next_reverse_ends : (x : ℕ) (left : List ℕ) → p ≡ 0 → SequenceEnded 0 (reverse_words p) x left → Received ws b x left
     next_reverse_ends x left h q =
         reverse_ends ws b e above x left (sym ep ∙ h) (subst (λ (n : ℕ). SequenceEnded 0 (reverse_words n) x left) ep q)
-

@@ -5,8 +5,7 @@ use mathlib.Core.Bool.{Bool, true, false, not}
 use mathlib.Core.List.{List}
 use mathlib.Core.Path.{◌≡◌, refl, sym, ap, ◌∙◌}
 use native.Mathlib.Omega.{arith}
-use borrow.Author.Tests.{eq-eqb, ne_eqb, eqb-true}
-use lib.Dec.{T, eqb, lit≤}
+use borrow.Author.Tests.{eq-eqb, ne_eqb}
 use lib.IntN.{pos, negsuc}
 use lib.ListN.{length, get_or, set}
 use Rattle.fast_mtc.specs.Generator.{is_set}
@@ -24,7 +23,7 @@ use Rattle.labels.specs.Time.{add_frames, bits_of, raw_time}
 use Rattle.labels.specs.declared.time.MtcTime.{MtcTime}
 use Rattle.mtc.proofs.Laws.{sequence_of_lem}
 use Rattle.mtc.specs.Generator.{final}
-use Rattle.mtc.specs.Reader.{raw_of, direction_of, sequence_of_label, same_time, jumps, sequence_of, completed, event_with}
+use Rattle.mtc.specs.Reader.{raw_of, direction_of, sequence_of_label, same_time, jumps, sequence_of, event_with}
 use Rattle.mtc.specs.declared.generator.Direction.{Direction}
 use Rattle.mtc.specs.declared.generator.Direction.TheVariants.{Forward, Reverse}
 use Rattle.mtc.specs.declared.reader.MaybeDirection.{MaybeDirection}
@@ -32,7 +31,6 @@ use Rattle.mtc.specs.declared.reader.MaybeDirection.TheVariants.{Going}
 use Rattle.mtc.specs.declared.reader.MaybeSequence.TheVariants.{Sequence}
 use Rattle.mtc.specs.declared.reader.MaybeTime.{MaybeTime}
 use Rattle.mtc.specs.declared.reader.MaybeTime.TheVariants.{NoTime, Time}
-use Rattle.mtc.specs.declared.reader.MtcReader.{MtcReader}
 use Rattle.mtc.specs.declared.reader.MtcSequence.{MtcSequence}
 
 same_time_self : (t : MtcTime) → same_time t t ≡ true
@@ -205,4 +203,3 @@ pub is_reported : (ws : List ℕ) (n : ℕ) (m u : MaybeTime) (a b : FlatTime) �
     → record { present = true; sequence = record { raw = a; current = b; direction = n / 2 % 2; discontinuity = is_set (n / 4 % 2) } } ≡ flat_maybe_sequence (report_in (reader_in ws) n)
 unfolding flat_maybe_sequence flat_sequence report_in
 is_reported ws n m u a b h em ea eu eb = rw (ea, eb, em, eu, ne_eqb (n % 2) 0 h, direction_low n)
-

@@ -7,7 +7,7 @@ use Rattle.fast_mtc.specs.declared.words.FlatReaderFields.{FlatReaderFields}
 use Rattle.fast_mtc.specs.declared.report.FlatMaybeSequence.{FlatMaybeSequence}
 use Rattle.fast_mtc.specs.declared.report.FlatSequence.{FlatSequence}
 use Rattle.labels.specs.St12.{label}
-use Rattle.labels.specs.Time.{bits_of, type_of}
+use Rattle.labels.specs.Time.{type_of}
 use Rattle.mtc.specs.declared.generator.Direction.TheVariants.{Forward, Reverse}
 use Rattle.mtc.specs.declared.generator.MaybePiece.{MaybePiece}
 use Rattle.mtc.specs.declared.generator.MaybePiece.TheVariants.{NoPiece, Piece}

@@ -85,4 +85,3 @@ pub two_later : (r : TimeCodeType) (h m s f : ℕ) → h ≤ 23 → m ≤ 59 →
 two_later r h m s f hh hm hs hf =
     frames_later r h m s f 2 hh hm hs hf
     (facts_valid (label r h m s (f + 2)) (record { hours = hh; minutes = hm; seconds = hs; frames = hf; kept = past_skipped r h m s f }))
-

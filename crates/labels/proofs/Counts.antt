@@ -11,7 +11,7 @@ use Rattle.labels.specs.declared.time.MtcTime.{MtcTime}
 use Rattle.labels.specs.declared.time.TimeCodeType.{TimeCodeType}
 use Rattle.labels.specs.declared.time.TimeCodeType.TheVariants.{Fps24, Fps25, Fps30Drop, Fps30}
 use Rattle.labels.specs.St12.{label, frames_per_second, is_skipped, is_valid}
-use Rattle.labels.specs.Time.{day_of, formula, frame_count, with_skipped, label_at_second, numbered, label_at}
+use Rattle.labels.specs.Time.{day_of, formula, frame_count, with_skipped, numbered, label_at}
 use Rattle.labels.proofs.Rates.{fps_positive, fps_small, day_positive}
 use Rattle.labels.proofs.Validity.{NotDropped, skipped_kept, kept_skipped, InRange, valid_facts, facts_valid}
 
@@ -246,4 +246,3 @@ label_valid n r =
       frames = mod-lt m (fps_positive r);
       kept = never_skipped_at r (n % day_of r);
     })
-

@@ -136,4 +136,3 @@ mod_sum (negsuc m) (negsuc n) e =
     ∙ ap (λ (x : ℕ). x % suc e) whole
     ∙ add-mod (suc m * e) (suc n * e) (suc e)
     ∙ ap₂ (λ (x y : ℕ). (x + y) % suc e) (sym (neg_mod m e)) (sym (neg_mod n e))
-

@@ -1,19 +1,19 @@
 -- ST 12-1's label after a valid label is the label one count on, which moving by 1 gives. Assumes nothing.
-use Prim.Native.Nat.{ℕ, zero, suc, ◌+◌, ◌-◌, ◌*◌, ◌/◌, ◌%◌, ◌≤◌, ◌<◌}
-use mathlib.Core.Path.{◌≡◌, refl, sym, ap, subst, ◌∙◌}
+use Prim.Native.Nat.{ℕ, suc, ◌+◌, ◌*◌, ◌%◌, ◌≤◌, ◌<◌}
+use mathlib.Core.Path.{◌≡◌, refl, sym, ap, ◌∙◌}
 use mathlib.Core.Bool.{Bool, true, false, not, cond, ◌&&◌}
-use mathlib.Core.Logic.{◌⊎◌, inl, inr}
+use mathlib.Core.Logic.{inl, inr}
 use native.Mathlib.Nat.{mod_self, zero-mod}
 use native.Mathlib.Omega.{arith}
-use borrow.Author.Tests.{ltb-true, ltb-false, eqb-true, eqb-false, eq-eqb, ne_eqb}
+use borrow.Author.Tests.{ltb-true, ltb-false, eqb-true, eqb-false}
 use lib.Dec.{T, ltb, eqb, lit<, lit≤}
-use lib.IntN.{ℤ, pos}
+use lib.IntN.{pos}
 use Rattle.labels.specs.declared.time.MtcTime.{MtcTime}
 use Rattle.labels.specs.declared.time.TimeCodeType.{TimeCodeType}
 use Rattle.labels.specs.declared.time.TimeCodeType.TheVariants.{Fps24, Fps25, Fps30Drop, Fps30}
 use Rattle.labels.specs.St12.{label, frames_per_second, is_skipped, is_valid, carried, past_skipped, label_after}
 use Rattle.labels.specs.Time.{day_of, formula, frame_count, label_at, mod_z, add_frames}
-use Rattle.labels.proofs.Counts.{label_of_count, count_is_formula, formula_below}
+use Rattle.labels.proofs.Counts.{label_of_count, count_is_formula}
 use Rattle.labels.proofs.Moves.{label_mod}
 use Rattle.labels.proofs.LabelOrder.{next_valid_same}
 use Rattle.labels.proofs.Validity.{NotDropped, skipped_kept, kept_skipped, InRange, valid_facts, facts_valid}
@@ -227,4 +227,3 @@ moved_by_one t v =
     let small : 1 % day_of t.rate ≡ 1 = one_small t.rate in
     ap (λ (n : ℕ). label_at (frame_count t + n) t.rate) small
     ∙ sym (after_carry t.rate t.hours t.minutes t.seconds t.frames (valid_facts t v))
-

@@ -91,4 +91,3 @@ next_valid_least t x h m =
 
 pub next_valid_same : (t : MtcTime) → is_skipped t ≡ false → next_valid t ≡ t
 next_valid_same t k = rw k
-

@@ -166,4 +166,3 @@ in_range_valid = Validity.in_range_valid
 -- 00:00:00:00 is a label of every rate.
 pub zero_valid : (r : TimeCodeType) → T (is_valid (label r 0 0 0 0))
 zero_valid = Validity.zero_valid
-

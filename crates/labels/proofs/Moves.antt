@@ -1,22 +1,17 @@
 -- Moving a label by a signed distance: always to a valid label, by sums, by nothing, and by one to ST 12-1's label after it.
 -- Assumes nothing.
-use Prim.Native.Nat.{ℕ, zero, suc, ◌+◌, ◌-◌, ◌*◌, ◌/◌, ◌%◌, ◌≤◌, ◌<◌}
-use mathlib.Core.Path.{◌≡◌, refl, sym, ap, ap₂, subst, ◌∙◌}
-use mathlib.Core.Bool.{Bool, true, false, cond, ◌&&◌}
-use mathlib.Core.Logic.{◌⊎◌, inl, inr}
-use native.Mathlib.Nat.{mod-lt, mod-eq_of_lt, mod-mod, mod_self, mod-add-mod, add-mod-mod, add_assoc, add-zero, zero-mod}
-use native.Mathlib.Omega.{arith}
-use borrow.Author.Tests.{ltb-true, ltb-false, eqb-true, eqb-false, eq-eqb}
-use lib.Dec.{T, ltb, eqb, lit<, lit≤}
-use lib.IntN.{ℤ, pos, negsuc, ◌+ℤ◌}
+use Prim.Native.Nat.{ℕ, ◌+◌, ◌%◌}
+use mathlib.Core.Path.{◌≡◌, refl, sym, ap, ◌∙◌}
+use native.Mathlib.Nat.{mod-add-mod, add-mod-mod, add_assoc, add-zero, zero-mod}
+use lib.Dec.{T}
+use lib.IntN.{ℤ, pos, ◌+ℤ◌}
 use Rattle.labels.specs.declared.time.MtcTime.{MtcTime}
 use Rattle.labels.specs.declared.time.TimeCodeType.{TimeCodeType}
 use Rattle.labels.specs.declared.time.TimeCodeType.TheVariants.{Fps24, Fps25, Fps30Drop, Fps30}
-use Rattle.labels.specs.St12.{label, frames_per_second, is_skipped, is_valid, past_skipped, label_after}
-use Rattle.labels.specs.Time.{day_of, formula, frame_count, label_at, mod_z, add_frames}
-use Rattle.labels.proofs.Counts.{count_of_label, label_of_count, label_valid, count_is_formula}
+use Rattle.labels.specs.St12.{is_valid}
+use Rattle.labels.specs.Time.{day_of, frame_count, label_at, mod_z, add_frames}
+use Rattle.labels.proofs.Counts.{count_of_label, label_of_count, label_valid}
 use Rattle.labels.proofs.Distance.{mod_sum}
-use Rattle.labels.proofs.Validity.{NotDropped, skipped_kept, kept_skipped, InRange, valid_facts, facts_valid}
 
 pub moved_valid : (t : MtcTime) (z : ℤ) → T (is_valid (add_frames t z))
 unfolding add_frames
@@ -67,4 +62,3 @@ unfolding add_frames mod_z
 moved_by_none t v =
     ap (λ (n : ℕ). label_at n t.rate) (ap (λ (k : ℕ). frame_count t + k) (zero-mod (day_of t.rate)) ∙ add-zero (frame_count t))
     ∙ label_of_count t v
-

@@ -155,4 +155,3 @@ pub moved_at : (t : MtcTime) (z : ℤ) (d k s : ℕ) → k ≡ frame_count t →
     → label_at (k + s) t.rate ≡ add_frames t z
 unfolding add_frames
 moved_at t z d k s ek ed es = rw (ek, es, ed)
-

@@ -70,4 +70,3 @@ two_earlier_valid t x h m =
     let small : 28 + t.frames < 30 = omega (arith, k.low) in
     in_range_valid t.rate t.hours (t.minutes - 1) 59 (28 + t.frames) h (omega arith) (omega arith) (rw k.drop small)
     (λ e. inr (omega arith))
-

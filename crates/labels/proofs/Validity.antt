@@ -1,10 +1,10 @@
 -- A valid label by its facts, and back: the ranges of its four numbers, and that drop-frame does not skip it. Assumes nothing.
 use Prim.Native.Nat.{ℕ, ◌+◌, ◌*◌, ◌%◌, ◌≤◌, ◌<◌}
-use mathlib.Core.Path.{◌≡◌, refl, sym, subst, ◌∙◌}
+use mathlib.Core.Path.{◌≡◌, refl, sym, subst}
 use mathlib.Core.Bool.{Bool, true, false, not, ◌&&◌}
 use mathlib.Core.Logic.{◌⊎◌, inl, inr}
 use native.Mathlib.Omega.{arith}
-use borrow.Author.Tests.{leb-true, ltb-true, ltb-false, eqb-true, eqb-false, eq-eqb, ne_eqb, le-ltb}
+use borrow.Author.Tests.{leb-true, ltb-true, ltb-false, eqb-true, eqb-false, eq-eqb, le-ltb}
 use lib.Dec.{T, leb, ltb, eqb, le→leb, lt→ltb}
 use Rattle.labels.specs.declared.time.MtcTime.{MtcTime}
 use Rattle.labels.specs.declared.time.TimeCodeType.{TimeCodeType}
@@ -120,4 +120,3 @@ zero_valid Fps24 = tt
 zero_valid Fps25 = tt
 zero_valid Fps30Drop = tt
 zero_valid Fps30 = tt
-

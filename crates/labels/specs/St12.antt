@@ -121,4 +121,3 @@ count_before t = how_many t.rate (λ u. is_earlier u t && is_valid u)
 -- The labels of a day.
 unfoldable pub labels_of_day : TimeCodeType → ℕ
 labels_of_day r = how_many r is_valid
-

@@ -1,5 +1,5 @@
 -- What mtc.rs does with labels, on every input: one definition for each public call of src/time.rt. Assumes nothing.
-use Rattle.std.specs.Prelude.{ℕ, ◌+◌, ◌-◌, ◌*◌, ◌/◌, ◌%◌, ◌≤◌, ◌<◌, ◌≡◌, Bool, true, false, cond, ℤ, pos, negsuc, eqb}
+use Rattle.std.specs.Prelude.{ℕ, ◌+◌, ◌-◌, ◌*◌, ◌/◌, ◌%◌, ◌≤◌, ◌<◌, ◌≡◌, false, cond, ℤ, pos, negsuc, eqb}
 use Rattle.labels.specs.St12.{label, frames_per_second, is_skipped, is_valid, past_skipped}
 use Rattle.labels.specs.declared.time.MtcTime.{MtcTime}
 use Rattle.labels.specs.declared.time.NewTime.{NewTime}
@@ -109,4 +109,3 @@ pub record Widths (t : MtcTime) : Type 0 where
   pub seconds : t.seconds < 64
   pub minutes : t.minutes < 64
   pub hours : t.hours < 32
-

@@ -294,4 +294,3 @@ impl MtcTime {
         rate.into_bits() * 32 + self.hours % 32
     }
 }
-

@@ -20,13 +20,12 @@ use Rattle.mmc.specs.declared.part.Part.{Part}
 use Rattle.mmc.specs.declared.split.Parts.TheVariants.{Item, Cut}
 use Rattle.mmc.specs.declared.split.PartsAnswer.{PartsAnswer}
 use Rattle.mmc.specs.declared.split.PartsAnswer.TheVariants.{Found, Refused}
-use Rattle.mmc.specs.Command as K
-use Rattle.mmc.specs.Command.{read_locate, read_move, command_by_name, read_command, command_of_case, next_command}
+use Rattle.mmc.specs.Command.{command_by_name, read_command, command_of_case, next_command}
 use Rattle.mmc.specs.Length.{length_of, command_length, within}
 use Rattle.mmc.specs.Part.{part, part_of, is_inside}
 use Rattle.mmc.specs.Rp013 as R
 use Rattle.mmc.specs.Split.{ItemPlace, Next, measured, split_at, next, next_as, next_parts_of, parts_as}
-use Rattle.mmc.specs.Strings.{Walk, before, walk_from, reads_of, item_at, walk, next_of, read_from, item_places, FoundThere, Meaning}
+use Rattle.mmc.specs.Strings.{Walk, before, walk_from, reads_of, item_at, walk, next_of, read_from, item_places, FoundThere}
 use Rattle.universal.specs.Refusals.{Refusal, Answer, gives, refused, refusal, refusal_of}
 use Rattle.universal.specs.declared.error.SysexError.{SysexError}
 -- A Locate, a Move and a name by their bytes, as the parts that they stand at.

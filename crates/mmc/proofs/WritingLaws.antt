@@ -24,7 +24,6 @@ use Rattle.mmc.specs.Writings.{State, opened, after_item, after_items, opening_o
 use Rattle.mmc.specs.WholeLists.{message_emission, fields_emission, Accepts, AcceptsFields, checks, checks_by, AllAccepted, NoneRefused, NoneRefusedFields, ReadBack, Entry, entry_emission, after_entry, after_entries, entries_emission, HoldsAll, Repeats, InLimits}
 use Rattle.universal.specs.Refusals.{Refusal, refusal, gives}
 use Rattle.universal.specs.Emission.{Emission, sent, refusing, check, resume, ◌then◌, answer, answer_in}
-use Rattle.universal.specs.Message.{opening}
 use Rattle.universal.specs.Overlay.{overlay}
 use Rattle.universal.proofs.Laws.{overlay_none, then_sent, then_assoc, then_accepted, answer_fits, answer_gives, opening_plain, all_low_byte, none_some}
 use Rattle.mmc.proofs.Writing.HeldEmissions.{entry_small, OpensWhole, opens_whole, opened_kept, fields_kept, Holds, holds_entries, holds_items, holds_opened, holds_fields, rule_of_48, ends_message, ends_fields, checks_by_lem}

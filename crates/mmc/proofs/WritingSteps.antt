@@ -4,7 +4,7 @@ use Prim.Native.Nat.{ℕ, ◌+◌, ◌≤◌, ◌<◌}
 use mathlib.Core.Path.{◌≡◌, refl}
 use mathlib.Core.Bool.{Bool, true, false, cond, ◌&&◌}
 use mathlib.Core.List.{List, [], ◌∷◌}
-use mathlib.Core.Option.{Option, some}
+use mathlib.Core.Option.{some}
 use lib.Dec.{leb, ltb, lit≤}
 use lib.ListN.{length}
 use Rattle.mmc.specs.Names.{NamesSent}
@@ -21,7 +21,7 @@ use Rattle.codes.specs.TimeCode.{standard_fits, standard_list}
 use Rattle.universal.specs.Emission.{Emission, sent, refusing, check, resume, ◌then◌, answer_in}
 use Rattle.universal.specs.Message.{header}
 use Rattle.universal.specs.Overlay.{overlay}
-use Rattle.universal.specs.Refusals.{Refusal, refusal, Answer}
+use Rattle.universal.specs.Refusals.{refusal}
 use Rattle.universal.specs.declared.message.MaybeSubId2.TheVariants.{NoSubId2}
 use Rattle.universal.proofs.Laws.{opening_device, opening_plain}
 -- A writing in its limits has its own refusal, if any; one with a refusal repeats it; one without takes an item; and what a close

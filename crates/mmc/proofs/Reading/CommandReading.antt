@@ -449,4 +449,3 @@ command_read_by_page p past body pre post place h e q =
           i.reads (ap length (sym i.bytes));
       stands = i.stands body l (data_inside Commands body pre i.x post place e₁ q) f.data_bytes;
     }
-

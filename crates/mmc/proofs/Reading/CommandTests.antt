@@ -1,10 +1,8 @@
 -- Reading a command, test by test. Assumes nothing.
 use Prim.Native.Nat.{ℕ, ◌≤◌, ◌<◌}
 use mathlib.Core.Path.{◌≡◌, refl, sym, ap, ◌∙◌}
-use mathlib.Core.Bool.{true, false}
 use mathlib.Core.List.{List}
-use borrow.Author.Tests.{lt-ltb, le-ltb, eq-eqb, ne_eqb}
-use lib.Dec.{ltb, eqb}
+use borrow.Author.Tests.{lt-ltb, le-ltb, ne_eqb}
 use lib.ListN.{length, get_or}
 use Rattle.mmc.specs.declared.command.MmcCommand.TheVariants.{LocateField, LocateTarget, Move, Other}
 use Rattle.mmc.specs.declared.part.Part.{Part}
@@ -97,4 +95,3 @@ module _ (d : List ℕ) (n a : Part) where
   pub unknown_name : (name : List ℕ) → length name ≡ 1 → Unknown (get_or name 0 0) → Other n a ≡ command_of_case (read_command name d) n a
   unknown_name name l u =
       sym (ap (λ (k : CommandCase). command_of_case k n a) (unknown_byte (get_or name 0 0) u)) ∙ by_byte name (get_or name 0 0) l refl
-

@@ -1,10 +1,9 @@
 -- Reading an information field, test by test. Assumes nothing.
 use Prim.Native.Nat.{ℕ, ◌-◌, ◌≤◌, ◌<◌}
-use mathlib.Core.Path.{◌≡◌, refl}
+use mathlib.Core.Path.{◌≡◌}
 use mathlib.Core.List.{List}
 use native.Mathlib.Omega.{arith}
 use borrow.Author.Tests.{ne_eqb}
-use lib.Dec.{eqb}
 use lib.ListN.{length, get_or}
 use Rattle.mmc.specs.declared.field.InfoField.TheVariants.{TimeCode, Short, Other}
 use Rattle.mmc.specs.declared.part.Part.{Part}
@@ -55,4 +54,3 @@ module _ (name d : List ℕ) (n a : Part) where
     unfolding read_field field_by_name
     high_name f =
         rw (l, above_range 1 32 (get_or name 0 0) (omega arith) (omega arith), above_range 33 64 (get_or name 0 0) (omega arith) f)
-

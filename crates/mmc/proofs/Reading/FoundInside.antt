@@ -1,8 +1,8 @@
 -- What the splitter finds lies in the string: the name begins at the place that is read, the data end at the place to read on from.
 -- Assumes nothing.
 use Prim.Native.Nat.{ℕ, ◌+◌, ◌-◌, ◌≤◌, ◌<◌}
-use mathlib.Core.Path.{◌≡◌, refl, sym, ap, subst, ◌∙◌}
-use mathlib.Core.Bool.{Bool, true, false, cond, ◌&&◌, true≢false}
+use mathlib.Core.Path.{◌≡◌, refl, subst}
+use mathlib.Core.Bool.{Bool, true, false, cond, ◌&&◌}
 use mathlib.Core.List.{List}
 use native.Mathlib.Omega.{arith}
 use borrow.Author.Tests.{leb-true, ltb-true}
@@ -11,7 +11,6 @@ use lib.ListN.{length, get_or}
 use Rattle.mmc.specs.declared.length.Kind.{Kind}
 use Rattle.mmc.specs.declared.length.Length.{Length}
 use Rattle.mmc.specs.declared.length.Length.TheVariants.{Fixed, Count}
-use Rattle.mmc.specs.declared.part.Part.{Part}
 use Rattle.mmc.specs.declared.split.Parts.{Parts}
 use Rattle.mmc.specs.declared.split.Parts.TheVariants.{Item, Cut}
 use Rattle.mmc.specs.Length.{length_of}
@@ -91,4 +90,3 @@ pub found_inside : (kind : Kind) (body : List ℕ) (place : ℕ) (l : ItemPlace)
     → Inside (length body) place l.name l.«data» (next kind body place).place
 found_inside kind body place l e =
     subst (λ (a : Answer ItemPlace). InsideNext (length body) place a (next kind body place).place) e (next_inside kind body place)
-

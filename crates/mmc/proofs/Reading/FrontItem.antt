@@ -270,4 +270,3 @@ item_front kind (x ∷ y ∷ z ∷ s) h = go (eqb x 0) (eqb y 0) refl refl
     go true true e q = rule_front kind (x ∷ y ∷ z ∷ []) (rw (e, q)) s _ refl
     go true false e q = rule_front kind (x ∷ y ∷ []) (rw (e, q)) (z ∷ s) _ refl
     go false b e q = rule_front kind (x ∷ []) (rw e) (y ∷ z ∷ s) _ refl
-

@@ -63,4 +63,3 @@ module _ (kind : Kind) (body : List ℕ) (place : ℕ) (l : ItemPlace) where
 pub there : (kind : Kind) (body : List ℕ) (place : ℕ) (l : ItemPlace) → (next kind body place).answer ≡ gives l
     → FoundThere kind body place l (next kind body place).place
 there kind body place l h = by_place kind body place l (ltb place (length body)) refl h
-

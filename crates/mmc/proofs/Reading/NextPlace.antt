@@ -15,7 +15,7 @@ use Rattle.mmc.specs.declared.split.Parts.{Parts}
 use Rattle.mmc.specs.declared.split.Parts.TheVariants.{Item, Cut}
 use Rattle.mmc.specs.Length.{length_of}
 use Rattle.mmc.specs.Part.{part}
-use Rattle.mmc.specs.Split.{prefixes_at, measured, by_length, split_at, ItemPlace, Next, found, next, answer_as, next_as}
+use Rattle.mmc.specs.Split.{prefixes_at, measured, by_length, split_at, ItemPlace, found, next, answer_as, next_as}
 use Rattle.universal.specs.Refusals.{Refusal, Answer, gives, refused, refusal}
 use Rattle.universal.proofs.Tests.{and_parts}
 
@@ -95,4 +95,3 @@ pub cut_short : (kind : Kind) (body : List ℕ) (place : ℕ) → place < length
     → (next kind body place).answer ≡ refused r → r ≡ refusal 2
 unfolding next
 cut_short kind body place l r h = refused_by (split_at kind body place) (length body) r (rw (lt-ltb place (length body) l) at h)
-

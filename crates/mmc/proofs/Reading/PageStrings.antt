@@ -272,4 +272,3 @@ of_page_fits kind (x ∷ xs) t = and_all (item_fits kind x) (all_fit kind xs) (o
     one : IsItem kind x (item_bytes kind x) ⊎ (x ≡ zeros_item) → item_fits kind x ≡ true
     one (inl i) = (item_fits_lem kind x (item_bytes kind x) i).0
     one (inr e) = ap (item_fits kind) e ∙ zeros_fits kind
-

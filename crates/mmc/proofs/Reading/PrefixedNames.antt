@@ -104,4 +104,3 @@ module _ (kind : Kind) (body : List ℕ) (place at : ℕ) (l : place < length bo
       (item_named (split_at kind body place) (part place (prefixes_at body place + 1)) n d (length body) at
       (split_named kind body place) f) in
       omega (arith, some_zeros, m, part_one body n h)
-

@@ -83,4 +83,3 @@ unfolding field_item field_pair
 field_back_lem source (F.TimeCode f c) h = time_code_back f c h
 field_back_lem source (F.Short f c) h = short_code_back f c h
 field_back_lem source (F.Other n d) h = refl
-

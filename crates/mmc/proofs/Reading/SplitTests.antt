@@ -1,23 +1,21 @@
 -- The splitter, test by test. Assumes nothing.
 use Prim.Native.Nat.{ℕ, ◌+◌, ◌-◌, ◌≤◌, ◌<◌}
-use mathlib.Core.Path.{◌≡◌, refl, sym, ap, ap₂, ◌∙◌}
+use mathlib.Core.Path.{◌≡◌, sym, ap, ap₂, ◌∙◌}
 use mathlib.Core.Bool.{Bool, true, false, cond}
 use mathlib.Core.List.{List}
 use borrow.Author.Tests.{le-leb, lt-leb, lt-ltb, le-ltb, eq-eqb, ne_eqb}
-use lib.Dec.{leb, ltb, eqb, lit≤}
+use lib.Dec.{eqb, lit≤}
 use lib.ListN.{length, get_or, get_or-eq_default}
 use Rattle.mmc.specs.declared.length.Kind.{Kind}
-use Rattle.mmc.specs.declared.length.Length.{Length}
 use Rattle.mmc.specs.declared.length.Length.TheVariants.{Fixed, Count}
 use Rattle.mmc.specs.declared.part.Part.{Part}
-use Rattle.mmc.specs.declared.split.Parts.{Parts}
 use Rattle.mmc.specs.declared.split.PartsAnswer.{PartsAnswer}
 use Rattle.mmc.specs.declared.split.PartsAnswer.TheVariants.{Found, Refused}
 use Rattle.mmc.specs.declared.split.Parts.TheVariants.{Item, Cut}
 use Rattle.mmc.specs.Length.{length_of}
 use Rattle.mmc.specs.Part.{part, part_of}
 use Rattle.mmc.specs.Split.{prefixes_at, measured, split_at, ItemPlace, Next, next, next_parts_of, next_as}
-use Rattle.universal.specs.Refusals.{Answer, gives, refused, refusal, refusal_of}
+use Rattle.universal.specs.Refusals.{gives, refused, refusal, refusal_of}
 use Rattle.universal.specs.declared.error.SysexError.{SysexError}
 use Rattle.mmc.proofs.RangeTests.{get_d_any}
 
@@ -125,4 +123,3 @@ module _ {A : Type 0} (f : ItemPlace → A) (x : Next ItemPlace) (k : PartsAnswe
 pub read_parts : {A : Type 0} (g : List ℕ → List ℕ → Part → Part → A) (body x y : List ℕ) (n d : Part) (r : A) → r ≡ g x y n d
     → x ≡ part_of body n → y ≡ part_of body d → r ≡ g (part_of body n) (part_of body d) n d
 read_parts g body x y n d r e p q = e ∙ ap₂ (λ (a b : List ℕ). g a b n d) p q
-

@@ -343,4 +343,3 @@ walked_joined kind a b xs h e t =
         ap₂ (λ (l m : List ℕ). l ++ m) e t.bytes
         ∙ sym (append_assoc (joined kind xs) (joined kind t.items) t.tail)
         ∙ ap (λ (l : List ℕ). l ++ t.tail) (sym (joined_append kind xs t.items))
-

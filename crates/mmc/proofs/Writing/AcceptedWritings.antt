@@ -20,7 +20,7 @@ use Rattle.mmc.specs.Strings.{Given, emission, emissions}
 use Rattle.mmc.specs.Write as W
 use Rattle.mmc.specs.Write.{Writing, or_failed, opened_commands, opened_responses, begun, ready, admitted, writing_past, closed_message, whole_message}
 use Rattle.mmc.specs.Writings.{State, opened, after_item, after_items, opening_of, string_state, string_answer, string_left}
-use Rattle.universal.specs.Refusals.{Refusal, refusal, gives, refused}
+use Rattle.universal.specs.Refusals.{Refusal, refusal, gives}
 use Rattle.universal.specs.Emission.{Emission, sent, check, ◌then◌, fitted, answer_in}
 use Rattle.universal.specs.Message.{opening, header}
 use Rattle.universal.specs.Overlay.{overlay}
@@ -267,4 +267,3 @@ after_kept w e k h = go (ready w) refl
         subst (λ (x : Emission). KeptByCalls (writing_past w (extent_of x))) (sym (takes w e r))
         (item_kept w e k (not_failed w (ready_told w r).0) (ready_told w r).1 h)
     go (some q) r = subst (λ (x : Emission). KeptByCalls (writing_past w (extent_of x))) (sym (repeats w e q r)) (refused_kept w q k)
-

@@ -1,10 +1,10 @@
 -- The page's bytes of commands and fields are written from what stands for them; and which commands and fields are accepted,
 -- exactly. Assumes nothing.
-use Prim.Native.Nat.{ℕ, suc, ◌+◌, ◌-◌, ◌≤◌, suc-le-suc}
+use Prim.Native.Nat.{ℕ, suc, ◌+◌, ◌≤◌, suc-le-suc}
 use native.Mathlib.Nat.{zero-lt-suc}
 use mathlib.Core.Path.{◌≡◌, refl, sym, ap, ◌∙◌}
 use mathlib.Core.Bool.{Bool, true, false, not, cond, ◌&&◌, true≢false}
-use mathlib.Core.Logic.{◌↔◌, ◌≢◌}
+use mathlib.Core.Logic.{◌↔◌}
 use mathlib.Core.List.{List, [], ◌∷◌}
 use mathlib.Core.Option.{none}
 use native.Mathlib.Omega.{arith}
@@ -21,7 +21,6 @@ use Rattle.mmc.specs.declared.length.Length.{Length}
 use Rattle.mmc.specs.declared.length.Length.TheVariants.{Fixed, Count}
 use Rattle.mmc.specs.declared.part.Part.{Part}
 use Rattle.mmc.specs.ByPage.{StandsFor, FieldStandsFor, Writable, Writes, InForm, FieldWrites}
-use Rattle.mmc.specs.Command.{stop}
 use Rattle.mmc.specs.Item.{standard_item, short_item, other_item, write_item, locate_field_item, is_subframes, locate_target_item, move_item, command_item, form_fits, code_fits, time_code_item, short_code_item, field_item}
 use Rattle.mmc.specs.Length.{within, command_length, length_of}
 use Rattle.mmc.specs.Named.{name_fits, last_of_name, by_rule, named_item}
@@ -320,4 +319,3 @@ field_written_exactly source (F.Other n d) = (
       ),
   λ w. stop_of (other_item Fields source n d) _ (other_sent Fields source n d w.0 w.1 w.2),
 )
-

@@ -1,9 +1,9 @@
 -- Emissions put into a buffer: what the put functions answer and leave, once the emission is known. Assumes nothing.
-use Prim.Native.Nat.{ℕ, zero, suc, ◌+◌, ◌-◌, ◌≤◌, ◌<◌}
+use Prim.Native.Nat.{ℕ, ◌+◌, ◌≤◌, ◌<◌}
 use mathlib.Core.Path.{◌≡◌, refl, sym, ap, ap₂, subst, ◌∙◌}
 use mathlib.Core.Bool.{Bool, true, false, not, cond, ◌&&◌, true≢false}
-use mathlib.Core.List.{List, [], ◌∷◌, ◌++◌, append-nil}
-use mathlib.Core.Option.{Option, none, some}
+use mathlib.Core.List.{List, [], ◌∷◌, ◌++◌}
+use mathlib.Core.Option.{some}
 use native.Mathlib.Omega.{arith}
 use borrow.Author.Tests.{le-leb, lt-leb, eq-eqb, ne_eqb, leb-true, leb-false, eqb-true, eqb-false}
 use lib.Dec.{leb, eqb, lit≤}
@@ -14,11 +14,11 @@ use Rattle.mmc.specs.declared.length.Length.{Length}
 use Rattle.mmc.specs.declared.length.Length.TheVariants.{Fixed, Count}
 use Rattle.mmc.specs.Length.{within, command_length, field_length, length_of}
 use Rattle.mmc.specs.Named.{Extent, extent_of, name_fits, last_of_name, by_rule, named_item}
-use Rattle.universal.specs.Refusals.{Refusal, refusal}
-use Rattle.universal.specs.Emission.{Emission, sent, refusing, check, ◌then◌}
-use Rattle.universal.specs.Message.{all_low, data_emission}
+use Rattle.universal.specs.Refusals.{refusal}
+use Rattle.universal.specs.Emission.{Emission, sent, refusing, ◌then◌}
+use Rattle.universal.specs.Message.{all_low}
 use Rattle.universal.specs.Overlay.{overlay}
-use Rattle.universal.proofs.Laws.{overlay_none, overlay_then, then_sent, data_sent, data_refused}
+use Rattle.universal.proofs.Laws.{overlay_none, overlay_then, data_sent, data_refused}
 
 -- What a put answers and leaves of an emission.
 abbrev pub Puts : Emission → List ℕ → ℕ → Extent → List ℕ → Type 0
@@ -204,4 +204,3 @@ named_small kind name d = go (name_fits name) (all_low name) refl refl
         (omega (arith, length-append name (by_rule (length_of kind (last_of_name name)) d).bytes, name_length name f, rule_small kind (last_of_name name) d))
     go true false f h = rw (name_high kind name d f h) (omega arith)
     go false b f h = rw (name_unfit kind name d f) (omega arith)
-

@@ -15,7 +15,7 @@ use Rattle.mmc.specs.declared.length.Kind.{Kind}
 use Rattle.mmc.specs.declared.length.Kind.TheVariants.{Commands, Fields}
 use Rattle.mmc.specs.Length.{within}
 use Rattle.mmc.specs.Rp013.{sub_id1_of, last_device}
-use Rattle.mmc.specs.Strings.{Given, emission, emissions, with_count}
+use Rattle.mmc.specs.Strings.{Given, emission, emissions}
 use Rattle.mmc.specs.Write as W
 use Rattle.mmc.specs.Write.{Writing, or_failed, opened_commands, opened_fields, begun, admitted, closed_message, closed_fields, whole_message, whole_fields}
 use Rattle.mmc.specs.Writings.{State, opened, after_item, after_items, opening_of, fields_opened}
@@ -301,4 +301,3 @@ checks_by_lem kind found (g ∷ gs) e most s h few =
     let k : Holds found (e then emission kind g) (suc most) (after_item kind s g) =
     holds_entry found e most s (entry kind g) h (omega arith) in
     ap₂ {C = List (Option Refusal)} ◌∷◌ k.stop (checks_by_lem kind found gs (e then emission kind g) (suc most) (after_item kind s g) k (omega arith))
-

@@ -340,4 +340,3 @@ list_append kind [] hs = refl
 list_append kind (g ∷ gs) hs =
     ap (λ (e : Emission). emission kind g then e) (list_append kind gs hs)
     ∙ sym (then_assoc (emission kind g) (emissions kind gs) (emissions kind hs))
-

@@ -1,12 +1,10 @@
 -- Commands and fields put into a buffer, check by check. Assumes nothing.
 use Prim.Native.Nat.{ℕ, ◌+◌, ◌≤◌, ◌<◌}
 use mathlib.Core.Path.{◌≡◌, refl, sym, ap, ap₂, subst, ◌∙◌}
-use mathlib.Core.Bool.{Bool, true, false, not, cond, ◌&&◌}
+use mathlib.Core.Bool.{Bool, true, false, cond, ◌&&◌}
 use mathlib.Core.List.{List, [], ◌∷◌}
 use mathlib.Core.Option.{some}
 use native.Mathlib.Omega.{arith}
-use borrow.Author.Tests.{lt-leb, le-leb, lt-ltb, le-ltb}
-use lib.Dec.{leb, ltb}
 use lib.ListN.{length, length-append}
 use Rattle.mmc.specs.declared.command.MmcCommand.{MmcCommand}
 use Rattle.mmc.specs.declared.command.MmcCommand.TheVariants as C
@@ -22,15 +20,14 @@ use Rattle.codes.specs.declared.time_code.StandardTimeCode.{StandardTimeCode}
 use Rattle.codes.specs.declared.time_code.ShortTimeCode.{ShortTimeCode}
 use Rattle.mmc.specs.Item.{checked_item, standard_item, short_item, other_item, write_item, locate_field_item, is_subframes, locate_target_item, move_item, command_item, form_fits, code_fits, time_code_item, short_code_item, field_item}
 use Rattle.mmc.specs.Length.{within}
-use Rattle.mmc.specs.Named.{Extent, extent_of, named_item}
+use Rattle.mmc.specs.Named.{Extent, named_item}
 use Rattle.mmc.specs.Part.{is_inside, part_of}
 use Rattle.codes.specs.TimeCode.{checked_of, standard_fits, standard_list, standard_bytes, short_fits, short_list, short_bytes}
 use Rattle.universal.proofs.Laws.{gives_refused}
-use Rattle.universal.specs.Refusals.{Refusal, Answer, gives, refused, refusal, refusal_of}
+use Rattle.universal.specs.Refusals.{Refusal, gives, refused, refusal, refusal_of}
 use Rattle.universal.specs.Emission.{Emission, sent, refusing, check, ◌then◌}
-use Rattle.universal.specs.Overlay.{overlay}
 use Rattle.codes.proofs.Laws.{five_bytes, two_bytes}
-use Rattle.mmc.proofs.Writing.EmissionPuts.{Puts, puts, puts_none, named_small}
+use Rattle.mmc.proofs.Writing.EmissionPuts.{Puts, named_small}
 use Rattle.mmc.proofs.RangeTests.{within_range, below_range, above_range, within_told}
 
 -- What is put of an emission is put of one equal to it.
@@ -239,4 +236,3 @@ field_small source (F.Short f c) =
     (omega (arith, sent_small ((f + 32) ∷ []) 2 (short_item c) (short_length c)))
 field_small source (F.Other n d) =
     checked_small (is_inside source n && is_inside source d) 6 131 _ (named_small Fields (part_of source n) (part_of source d))
-

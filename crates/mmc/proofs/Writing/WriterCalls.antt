@@ -5,17 +5,15 @@ use mathlib.Core.Bool.{Bool, true, false, not, cond, ◌&&◌}
 use mathlib.Core.List.{List, [], ◌∷◌}
 use mathlib.Core.Logic.{◌⊎◌, inl, inr}
 use mathlib.Core.Option.{Option, none, some}
-use native.Mathlib.Nat.{add-zero}
 use native.Mathlib.Omega.{arith}
-use borrow.Author.Tests.{le-leb, lt-leb, lt-ltb, le-ltb, eq-eqb, ne_eqb, leb-true, leb-false, ltb-true}
+use borrow.Author.Tests.{le-leb, lt-leb, lt-ltb, ne_eqb, leb-true, leb-false, ltb-true}
 use lib.Dec.{leb, ltb, eqb, lit≤}
 use lib.ListN.{length}
 use Rattle.codes.specs.declared.time_code.Checked.{Checked}
 use Rattle.codes.specs.declared.time_code.Checked.TheVariants.{Accepted, Refused}
 use Rattle.universal.specs.declared.error.SysexError.{SysexError}
-use Rattle.mmc.specs.Length.{within}
 use Rattle.mmc.specs.Named.{Extent, stop_of, extent_of}
-use Rattle.mmc.specs.Write.{Writing, or_failed, opened_commands, opened_responses, begun, opens_at, ready, admitted, item_count_after, writing_past, writing_after, closed_message, closed_fields, whole_message, whole_fields}
+use Rattle.mmc.specs.Write.{Writing, or_failed, opened_commands, opened_responses, begun, opens_at, ready, admitted, writing_past, writing_after, closed_message, closed_fields, whole_message, whole_fields}
 use Rattle.universal.specs.Refusals.{Refusal, refusal, too_small, Answer, gives, refused}
 use Rattle.universal.specs.Emission.{Emission, sent, refusing, check, resume, ◌then◌, fitted, reached, answer_in}
 use Rattle.universal.specs.Message.{opening, header, has_sub_id2, closing}
@@ -239,4 +237,3 @@ past_accepted w n k e = rw e
 pub past_refused : (w : Writing) (n : ℕ) (k : Checked) (r : SysexError) → k ≡ Refused r
     → record { at = w.at + n; items = w.items; stop = stop_of k } ≡ writing_past w (record { len = n; stop = stop_of k })
 past_refused w n k r e = rw e
-

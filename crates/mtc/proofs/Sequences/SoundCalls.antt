@@ -3,7 +3,7 @@ use Prim.Native.Nat.{ℕ, ◌≤◌}
 use mathlib.Core.Bool.{Bool, true, false, cond}
 use mathlib.Core.Path.{◌≡◌, refl, sym, ◌∙◌}
 use native.Mathlib.Omega.{arith}
-use lib.Dec.{T, eqb, le→leb}
+use lib.Dec.{eqb, le→leb}
 use lib.ListN.{length, length-set}
 use Rattle.mtc.specs.QuarterFrame.{piece_of, value_of}
 use Rattle.mtc.specs.Reader.{Standing, is_sound, Sound, or_fresh, control, order_of, number_of, passed, stored, completed, informed, after_piece, report_of, after_byte, event_of, after_full_message}

@@ -1,9 +1,9 @@
 -- Of a sound reader, for crates above: what its numbers are bounded by, what it does with a piece by how that stands to those before it,
 -- and where it keeps the labels of a report. Assumes nothing.
-use Prim.Native.Nat.{ℕ, zero, suc, ◌≤◌, ◌<◌}
-use mathlib.Core.Bool.{Bool, true, false, cond, ◌&&◌}
+use Prim.Native.Nat.{ℕ, zero, suc, ◌≤◌}
+use mathlib.Core.Bool.{Bool, true, false, cond}
 use mathlib.Core.List.{List}
-use mathlib.Core.Path.{◌≡◌, refl, sym, ap, ap₂, ◌∙◌}
+use mathlib.Core.Path.{◌≡◌, refl, ap, ap₂, ◌∙◌}
 use native.Mathlib.Omega.{arith}
 use borrow.Author.Tests.{eqb-true}
 use lib.Dec.{T, leb, eqb, le→leb}
@@ -12,8 +12,6 @@ use Rattle.mtc.specs.QuarterFrame.{piece_of, value_of}
 -- A sound reader's bounds.
 pub use Rattle.mtc.specs.Reader.{Bounds}
 use Rattle.mtc.specs.Reader.{Sound, Standing, nibbles_fit, piece_fits, or_fresh, control, order_after, order_of, starts, number_after, number_of, passed, stored, completed, reader_by_number, report_by_number, raw_of, direction_of, sequence_of_label, sequence_of, ReportLabels, event_with, after_piece, report_of, after_byte, event_of}
-use Rattle.mtc.specs.declared.generator.MaybePiece.{MaybePiece}
-use Rattle.mtc.specs.declared.generator.MaybePiece.TheVariants.{NoPiece, Piece}
 use Rattle.mtc.specs.declared.reader.MaybeSequence.{MaybeSequence}
 use Rattle.mtc.specs.declared.reader.MaybeSequence.TheVariants.{NoSequence, Sequence}
 use Rattle.mtc.specs.declared.reader.MtcReader.{MtcReader}

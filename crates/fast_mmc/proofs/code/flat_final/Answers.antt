@@ -1,10 +1,6 @@
 -- `fast_mmc::code::flat_final` meets its contract. Assumes nothing.
 use Rattle.fast_mmc.proofs.code.flat_final.Goals as goal
 
-use borrow.Author.Rules.{rules}
-use Rattle.fast_mmc.proofs.code.flat_final.Statement.{statement}
-use Rattle.fast_mmc.proofs.code.flat_final.Tie as tie
-
 pub returns-in-Subframes : goal.returns-in-Subframes
 returns-in-Subframes c = cc
 

@@ -1,4 +1,3 @@
-use Rattle.fast_mmc.specs.Write.{flat_writer}
 use Rattle.fast_mmc.proofs.WordPuts.{one_still, one_put, one_by_writer}
 use Rattle.universal.proofs.Clauses.{value_and_out}
 use Rattle.fast_mmc.proofs.put.put_word.Goals as goal

@@ -1,4 +1,3 @@
-use Prim.Native.Nat.{◌-◌}
 use mathlib.Core.Path.{◌∙◌, ap}
 use Rattle.fast_mmc.specs.Numbers.{written_numbers}
 use Rattle.fast_mmc.proofs.WordPuts.{gone_none, gone_word, gone_all}

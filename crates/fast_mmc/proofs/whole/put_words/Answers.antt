@@ -1,4 +1,3 @@
-use Prim.Native.Nat.{◌-◌}
 use native.Mathlib.Omega.{arith}
 use borrow.Author.Rules.{rules}
 use Rattle.fast_mmc.proofs.WordPuts.{gone_none, gone_whole, gone_still, gone_rest, gone_all, ends_any}

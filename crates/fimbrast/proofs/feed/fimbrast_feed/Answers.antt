@@ -1,6 +1,5 @@
 -- `fimbrast::feed::fimbrast_feed` meets its contract. The loop's invariant: the counts and the reader's words are those of the first
 -- `i` bytes. The measure is how many are left. Assumes nothing.
-use Prim.Native.Nat.{◌-◌}
 use native.Mathlib.Omega.{arith}
 use borrow.Author.Rules.{rules}
 use Rattle.fast_mtc.proofs.Laws.{none_reported}

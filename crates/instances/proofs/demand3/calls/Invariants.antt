@@ -1,9 +1,4 @@
 use Rattle.std.proofs.Common.{◌-◌}
-use Rattle.instances.proofs.demand3.calls.Reads as reads
-use Rattle.instances.proofs.demand3.calls.Lts as lts
-use Rattle.instances.proofs.demand3.any_call.Reads as any-call-reads
-use Rattle.instances.proofs.demand3.next.Reads as next-reads
-use Rattle.instances.proofs.stream.fresh.Reads as fresh-reads
 use Rattle.instances.proofs.demand3.calls.Given as goal
 
 abbrev pub invariant-loop-i : goal.invariant-loop-i

@@ -1,8 +1,3 @@
-use Rattle.std.proofs.Common.{◌-◌}
-use Rattle.instances.proofs.demand3.short_list.Reads as reads
-use Rattle.instances.proofs.demand3.short_list.Lts as lts
-use Rattle.instances.proofs.demand3.call.Reads as call-reads
-use Rattle.instances.proofs.stream.fresh.Reads as fresh-reads
 use Rattle.instances.proofs.demand3.short_list.Given as goal
 
 abbrev pub invariant-loop-rest : goal.invariant-loop-rest

@@ -1,7 +1,5 @@
 -- `mtc::reader::nibbles_fit` meets its contract. The loop's invariant: the nibbles passed fit.
 -- The measure is what is left of the eight. Assumes nothing.
-use Prim.Native.Nat.{◌-◌}
-use mathlib.Core.Bool.{true}
 use mathlib.Core.Path.{◌≡◌, refl, sym}
 use native.Mathlib.Omega.{arith}
 use Rattle.mtc.specs.Reader.{nibbles_fit}

@@ -1,6 +1,5 @@
 -- `mtc::user_bits::all_nibbles` meets its contract. The loop's invariant: every value passed is below 16. The measure is how many
 -- are left. Assumes nothing.
-use Prim.Native.Nat.{◌-◌}
 use mathlib.Core.Path.{sym}
 use native.Mathlib.Omega.{arith}
 use borrow.Author.Count.{below_more}

@@ -1,6 +1,5 @@
 -- `transport::run::obey` meets its contract. The loop's invariant: what the commands so far and the run from the place on give is the
 -- whole, and no more commands were read than bytes. The measure is the bytes left. Assumes nothing.
-use Prim.Native.Nat.{◌-◌}
 use native.Mathlib.Omega.{arith}
 use borrow.Author.Rules.{rules}
 use Rattle.transport.specs.Obey.{summary}
