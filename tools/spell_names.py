@@ -101,7 +101,7 @@ def pages(table):
     at = [os.path.join(ROOT, "README.md")] + [os.path.join(ROOT, "docs", f) for f in sorted(os.listdir(os.path.join(ROOT, "docs"))) if f.endswith(".md")]
     for p in at:
         t = open(p, encoding="utf-8").read()
-        new = re.sub(r"`[^`\n]*`", lambda m: TOKEN.sub(lambda k: table.get(k[0], k[0]), m[0]), t)
+        new = re.sub(r"`[^`\n]*`", lambda m: "`" + TOKEN.sub(lambda k: table.get(k[0], k[0]), m[0][1:-1]) + "`", t)
         new = re.sub(r"(specs/)Contracts\.antt", r"\1Clauses.antt", new)
         if new != t:
             open(p, "w", encoding="utf-8").write(new)
@@ -145,7 +145,7 @@ def main():
                 before = s[:m.start()]
                 dotted = before.endswith(".")
                 new = OTHER_IN.get((p.split("/crates/")[1].split("/")[0], w)) or table.get(w)
-                if new is None and not function and re.match(r"^[a-z][a-z0-9]*[A-Z]", w) and w not in outside and not dotted:
+                if new is None and not function and re.match(r"^[a-z][a-z0-9]*[A-Z]", w) and w not in outside:
                     new = plain(w)
                 if new is None or new == w or w in outside:
                     if not dotted:
