@@ -6,4 +6,4 @@ use Rattle.fast_mtc.proofs.label.two_earlier.Goals as goal
 pub returns : goal.returns
 returns c =
     let d = c.is_in_day.ensures c.if-not-is_in_day.false in
-    two_earlier _ _ _ _ _ d.0 d.1.0 d.1.1 c.if-t-lt4.false (omega (arith, c.if-t-frames_per_second.false, c.frames_per_second.ensures))
+    two_earlier _ _ _ _ _ d.0 d.1.0 d.1.1 (omega arith) (omega (arith, c.if-t-frames_per_second.false, c.frames_per_second.ensures))

@@ -1,11 +1,12 @@
 use Rattle.mmc.proofs.Writing.WriterCalls.{writing_goes_on, under_256, ready_kept, ready_failed, ready_full, ready_on}
 use Rattle.mmc.specs.Named.{stop_of}
 use Rattle.mmc.specs.Write.{writing_of}
+use native.Mathlib.Omega.{arith}
 use mathlib.Core.Path.{◌∙◌, sym, ap}
 use Rattle.mmc.proofs.write.Writer.ready.Goals as goal
 
 pub returns-then-self-le-MOST_POSITION : goal.returns-then-self-le-MOST_POSITION
-returns-then-self-le-MOST_POSITION c = ready_kept _ c.if-self-lt-MOST_ITEMS.true c.if-self-le-MOST_POSITION.true
+returns-then-self-le-MOST_POSITION c = ready_kept _ (omega arith) c.if-self-le-MOST_POSITION.true
 
 pub returns-in-Refused : goal.returns-in-Refused
 returns-in-Refused c = ready_failed _ _ (sym c.or_failed-checked.ensures ∙ ap stop_of c.in-Refused.is)
