@@ -1,24 +1,24 @@
 #!/usr/bin/env python3
 """Spells the names of this repository's own definitions and lemmas in snake case, and facts, that is functions into Type 0, in camel case.
 
-usage: python3 tools/spell_names.py            at the top of the repository, once, after the library's own names were spelled anew
+usage: python3 tools/spell_names.py        at the top of the repository, once, after the library's own names were spelled anew
+       python3 tools/spell_names.py -n     the same, but nothing is written
 
 Names from the Rust source, exported names, strings, names that Rattle makes and names of the library keep their spelling. A line that
-begins 'together:' names two that would fall together in a file; the table OTHER below gives one of them another name.
+begins 'together:' names two that would fall together in a file; spell_names_other.py gives one of them another name.
 """
 import os
 import re
 import sys
 from collections import defaultdict
 
+sys.dont_write_bytecode = True
+from spell_names_other import OTHER, OTHER_IN
+
 ROOT = "."
-# Names whose plain spelling is taken: by another name, or by a variable, where both stand in one file.
-OTHER, OTHER_IN = {}, {}
-exec(open(os.path.join(os.path.dirname(os.path.realpath(__file__)), "spell_names_other.py")).read())
 
 TOKEN = re.compile(r"[^\s(){};,.\"@«»\\]+")
 DECLARED = re.compile(r"^ *(?:(?:abbrev|unfoldable|pub|ruleset) +)*([^\s:(){}=]+) *:(?= |$)", re.M)
-USE = re.compile(r"\buse ([^\s;{]+?)(?:\.?\{([^}]*)\})?(?: as ([^\s;]+))?;?$", re.M)
 FUNCTION = re.compile(r"/proofs/(?:.*/)?Proof\.antt$")
 
 
@@ -178,9 +178,6 @@ def main():
                 open(p, "w", encoding="utf-8").write(new)
     print("\n".join(sorted(said)))
     print(f"{len(table)} names, {changed} places in {written} files")
-    with open("/tmp/spell_table.txt", "w") as f:
-        for n in sorted(table):
-            f.write(f"{n} {table[n]}\n")
     if "-n" not in sys.argv:
         pages(table)
     print("facts:", " ".join(sorted(f"{n}={table[n]}" for n in facts)))
