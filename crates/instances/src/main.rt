@@ -16,15 +16,19 @@ use crate::tally::report;
 use std::io;
 
 fn main(rt: HostRuntime) -> io::Result<()> {
-    report(&rt, "labels", times::times())?;
-    report(&rt, "quarter frames", quarter_frames::quarter_frames())?;
-    report(&rt, "strings", examples::examples())?;
-    report(&rt, "formats of RP-013", formats::formats())?;
+    report(&rt, b"labels", times::times())?;
+    report(&rt, b"quarter frames", quarter_frames::quarter_frames())?;
+    report(&rt, b"strings", examples::examples())?;
+    report(&rt, b"formats of RP-013", formats::formats())?;
     report(
         &rt,
-        "demand 3, every list of up to four calls",
+        b"demand 3, every list of up to four calls",
         demand3::short_lists(),
     )?;
-    report(&rt, "demand 3, longer lists", demand3::long_lists())?;
-    report(&rt, "demand 3, edges and commands before", demand3::edges())
+    report(&rt, b"demand 3, longer lists", demand3::long_lists())?;
+    report(
+        &rt,
+        b"demand 3, edges and commands before",
+        demand3::edges(),
+    )
 }

@@ -38,8 +38,9 @@ pub(crate) fn same_bytes(a: &[u8], b: &[u8]) -> bool
 }
 
 // Writes a group's line.
-pub(crate) fn report(rt: &impl Print, name: &str, tally: Tally) -> io::Result<()> {
+pub(crate) fn report(rt: &impl Print, name: &[u8], tally: Tally) -> io::Result<()> {
     let cases = tally.cases;
     let failures = tally.failures;
-    println!(rt; "{name}: {cases} cases, {failures} failures")
+    rt.write_all(name)?;
+    println!(rt; ": {cases} cases, {failures} failures")
 }
