@@ -1,6 +1,7 @@
 -- The laws of time code fields: reading and writing by the pages of RP-013, what is taken beyond them, the round trips, which
 -- bits are lost, and what the strings need of the bytes. A law of five bytes has one of two beside it, with `short` before its
 -- name. Assumes nothing.
+use Rattle.std.specs.Prelude.{Some}
 use Prim.Native.Nat.{ℕ, ◌+◌, ◌%◌, ◌≤◌, ◌<◌}
 use mathlib.Core.Path.{◌≡◌, refl, ap, ◌∙◌}
 use mathlib.Core.Bool.{Bool, true, false, cond, ◌&&◌}
@@ -14,7 +15,6 @@ use Rattle.codes.specs.declared.time_code.FinalByte.{FinalByte}
 use Rattle.codes.specs.declared.time_code.FinalByte.TheVariants.{Subframes, Status}
 use Rattle.codes.specs.declared.time_code.StandardTimeCode.{StandardTimeCode}
 use Rattle.codes.specs.declared.time_code.ShortTimeCode.{ShortTimeCode}
-use Rattle.codes.specs.declared.time_code.MaybeName.TheVariants.{Name}
 use Rattle.codes.specs.Rp013Code as page
 use Rattle.codes.specs.Rp013Code.{Letters, ShortLetters, Reads, ReadsShort, ShortNamed}
 use Rattle.codes.specs.Beyond.{ReadBeyond, ShortReadBeyond, WrittenBeyond, ShortWrittenBeyond}
@@ -345,9 +345,9 @@ status_form_by_page d (Status s) = refl
 -- ---- names, by p. 9
 
 -- The short name of a field is the page's, just where it has one.
-pub short_name_by_page : (name short : ℕ) → (short_name_of name ≡ Name short) ↔ ShortNamed name short
+pub short_name_by_page : (name short : ℕ) → (short_name_of name ≡ Some short) ↔ ShortNamed name short
 short_name_by_page name short = (Names.of_short_name name short, Names.short_name_of_lem name short)
 
 -- So is the field of a short name.
-pub full_name_by_page : (name short : ℕ) → (full_name short ≡ Name name) ↔ ShortNamed name short
+pub full_name_by_page : (name short : ℕ) → (full_name short ≡ Some name) ↔ ShortNamed name short
 full_name_by_page name short = (Names.of_full_name name short, Names.full_name_of name short)

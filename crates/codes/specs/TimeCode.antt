@@ -1,20 +1,15 @@
 -- What mmc.rs does with time code fields, on every input: five bytes or two, read and written. Assumes nothing.
-use Rattle.std.specs.Prelude.{ℕ, ◌+◌, ◌-◌, ◌*◌, ◌/◌, ◌%◌, Bool, true, false, cond, ◌&&◌, List, [], ◌∷◌, leb, eqb, get_or}
+use Rattle.universal.specs.declared.error.SysexError.{SysexError}
+use Rattle.std.specs.Prelude.{ℕ, ◌+◌, ◌-◌, ◌*◌, ◌/◌, ◌%◌, Bool, true, false, cond, ◌&&◌, List, [], ◌∷◌, leb, eqb, get_or, Option, Some, None, Result, ⊤}
 use Rattle.codes.specs.declared.time_code.TimeCodeStatus.{TimeCodeStatus}
 use Rattle.codes.specs.declared.time_code.FinalByte.{FinalByte}
 use Rattle.codes.specs.declared.time_code.FinalByte.TheVariants.{Subframes, Status}
 use Rattle.codes.specs.declared.time_code.StandardTimeCode.{StandardTimeCode}
 use Rattle.codes.specs.declared.time_code.ShortTimeCode.{ShortTimeCode}
-use Rattle.codes.specs.declared.time_code.Checked.{Checked}
-use Rattle.codes.specs.declared.time_code.Checked.TheVariants.{Accepted, Refused}
-use Rattle.codes.specs.declared.time_code.StandardBytes.{StandardBytes}
-use Rattle.codes.specs.declared.time_code.ShortBytes.{ShortBytes}
-use Rattle.codes.specs.declared.time_code.MaybeName.{MaybeName}
-use Rattle.codes.specs.declared.time_code.MaybeName.TheVariants.{NoName, Name}
 use Rattle.labels.specs.St12.{is_valid, label}
 use Rattle.labels.specs.Time.{hours_byte, raw_time}
 use Rattle.labels.specs.declared.time.MtcTime.{MtcTime}
-use Rattle.universal.specs.Refusals.{Answer, gives, refused, refusal, refusal_of}
+use Rattle.universal.specs.Refusals.{Answer, gives, refused, refusal, refusal_of, answer_of}
 
 -- ---- bits
 
@@ -129,17 +124,17 @@ short_left c = cond (short_fits c) (short_list c) (0 ∷ 0 ∷ [])
 -- ---- the answers, in the paper's numbers
 
 -- What a check lets through, or its refusal.
-abbrev pub checked_of : {A : Type 0} → Checked → A → Answer A
+abbrev pub checked_of : {A : Type 0} → Result ⊤ SysexError → A → Answer A
 checked_of Accepted a = gives a
 checked_of (Refused e) a = refused (refusal_of e)
 
 -- The five bytes, or the refusal.
-abbrev pub standard_bytes_of : StandardBytes → Answer (List ℕ)
-standard_bytes_of r = checked_of r.checked r.bytes
+abbrev pub answer_of : StandardBytes → Answer (List ℕ)
+answer_of r = checked_of r.checked r.bytes
 
 -- The two bytes, or the refusal.
-abbrev pub short_bytes_of : ShortBytes → Answer (List ℕ)
-short_bytes_of r = checked_of r.checked r.bytes
+abbrev pub answer_of : ShortBytes → Answer (List ℕ)
+answer_of r = checked_of r.checked r.bytes
 
 -- ---- forms
 
@@ -224,9 +219,9 @@ short_again fr ff = cleared false 32 fr ∷ cleared (bit 32 fr) 8 ff ∷ []
 -- ---- names
 
 -- 01H to 1FH have the short name 20H higher.
-abbrev pub short_name_of : ℕ → MaybeName
-short_name_of n = cond (leb 1 n && leb n 31) (Name (n + 32)) NoName
+abbrev pub short_name_of : ℕ → Option ℕ
+short_name_of n = cond (leb 1 n && leb n 31) (Some (n + 32)) None
 
 -- 21H to 3FH have the full name 20H lower.
-abbrev pub full_name : ℕ → MaybeName
-full_name n = cond (leb 33 n && leb n 63) (Name (n - 32)) NoName
+abbrev pub full_name : ℕ → Option ℕ
+full_name n = cond (leb 33 n && leb n 63) (Some (n - 32)) None

@@ -4,6 +4,6 @@
 mod time_code;
 
 pub use time_code::{
-    Checked, FinalByte, MaybeName, ShortBytes, ShortTimeCode, StandardBytes, StandardTimeCode,
+    FinalByte, ShortTimeCode, StandardTimeCode,
     TimeCodeStatus, full_name, short_name,
 };

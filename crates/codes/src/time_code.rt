@@ -1,7 +1,8 @@
 // Time code fields of machine control (RP-013, pp. 8, 9): the Standard Time Code in five bytes and its short form in two.
 // A reader keeps the raw counts and ignores the reserved bits; a writer refuses a value out of range and writes them as 0.
+ghost use Rattle.universal.specs.Refusals.{answer_of};
 ghost use Rattle.std.specs.Prelude.{◌≤◌, ◌<◌, ◌≡◌, get_or};
-ghost use Rattle.codes.specs.TimeCode.{bit, flag, read_status, status_byte, read_final, final_fits, final_mark, frames_byte, final_value, read_standard, read_short, standard_bytes, short_bytes, standard_bytes_of, short_bytes_of, standard_left, short_left, written_label, short_form, with_short, with_final, subframes_form, status_form, short_name_of, full_name};
+ghost use Rattle.codes.specs.TimeCode.{bit, flag, read_status, status_byte, read_final, final_fits, final_mark, frames_byte, final_value, read_standard, read_short, standard_bytes, short_bytes, standard_left, short_left, written_label, short_form, with_short, with_final, subframes_form, status_form, short_name_of, full_name};
 
 use labels::MtcTime;
 use universal::SysexError;
@@ -49,51 +50,23 @@ pub struct ShortTimeCode {
     pub final_byte: FinalByte,
 }
 
-// The answer of a check: accepted, or its refusal.
-#[derive(Clone, Copy)]
-pub enum Checked {
-    Accepted,
-    Refused(SysexError),
-}
-
-// The answer of `StandardTimeCode::to_bytes`: the check, and the bytes, which are zeros where it refused.
-#[derive(Clone, Copy)]
-pub struct StandardBytes {
-    pub checked: Checked,
-    pub bytes: [u8; 5],
-}
-
-// The answer of `ShortTimeCode::to_bytes`, likewise.
-#[derive(Clone, Copy)]
-pub struct ShortBytes {
-    pub checked: Checked,
-    pub bytes: [u8; 2],
-}
-
-// A field's name, where there is one.
-#[derive(Clone, Copy)]
-pub enum MaybeName {
-    NoName,
-    Name(u8),
-}
-
 // The short name of a time code field: 01H to 1FH plus 20H (p. 9).
-pub fn short_name(field: u8) -> MaybeName
+pub fn short_name(field: u8) -> Option<u8>
     ensures { result ≡ short_name_of field }
 {
     match field {
-        0x01..=0x1F => MaybeName::Name(field + 0x20),
-        _ => MaybeName::NoName,
+        0x01..=0x1F => Some(field + 0x20),
+        _ => None,
     }
 }
 
 // The time code field of a short name: 21H to 3FH minus 20H (p. 9).
-pub fn full_name(short: u8) -> MaybeName
+pub fn full_name(short: u8) -> Option<u8>
     ensures { result ≡ full_name short }
 {
     match short {
-        0x21..=0x3F => MaybeName::Name(short - 0x20),
-        _ => MaybeName::NoName,
+        0x21..=0x3F => Some(short - 0x20),
+        _ => None,
     }
 }
 
@@ -226,29 +199,29 @@ impl StandardTimeCode {
     }
 
     // The five bytes; refusal 3 for subframes above 99, or for a label that is neither blank nor valid.
-    pub fn to_bytes(self) -> StandardBytes
-        ensures result_value { standard_bytes_of result ≡ standard_bytes self }
+    pub fn to_bytes(self) -> Result<[u8; 5], SysexError>
+        ensures result_value { answer_of result ≡ standard_bytes self }
         ensures bytes_value { result.bytes ≡ standard_left self }
     {
         let last = self.final_byte;
         if !last.fits() {
-            return StandardBytes {
-                checked: Checked::Refused(SysexError::OutOfRange),
+            return Result<[u8; 5], SysexError> {
+                checked: Err(SysexError::OutOfRange),
                 bytes: [0, 0, 0, 0, 0],
             };
         }
         let t = self.written_label();
         if !t.is_valid() {
-            return StandardBytes {
-                checked: Checked::Refused(SysexError::OutOfRange),
+            return Result<[u8; 5], SysexError> {
+                checked: Err(SysexError::OutOfRange),
                 bytes: [0, 0, 0, 0, 0],
             };
         }
         let mn = flag_of(64, self.color_frame) + t.minutes;
         let sc = flag_of(64, self.blank) + t.seconds;
         let fr = last.frames_byte(self.negative, t.frames);
-        StandardBytes {
-            checked: Checked::Accepted,
+        Result<[u8; 5], SysexError> {
+            checked: Ok(()),
             bytes: [t.hours_byte(), mn, sc, fr, last.value()],
         }
     }
@@ -339,26 +312,26 @@ impl ShortTimeCode {
     }
 
     // The two bytes; refusal 3 for frames above 29 or subframes above 99.
-    pub fn to_bytes(self) -> ShortBytes
-        ensures result_value { short_bytes_of result ≡ short_bytes self }
+    pub fn to_bytes(self) -> Result<[u8; 2], SysexError>
+        ensures result_value { answer_of result ≡ short_bytes self }
         ensures bytes_value { result.bytes ≡ short_left self }
     {
         let last = self.final_byte;
         if self.frames > 29 {
-            return ShortBytes {
-                checked: Checked::Refused(SysexError::OutOfRange),
+            return Result<[u8; 2], SysexError> {
+                checked: Err(SysexError::OutOfRange),
                 bytes: [0, 0],
             };
         }
         if !last.fits() {
-            return ShortBytes {
-                checked: Checked::Refused(SysexError::OutOfRange),
+            return Result<[u8; 2], SysexError> {
+                checked: Err(SysexError::OutOfRange),
                 bytes: [0, 0],
             };
         }
         let fr = last.frames_byte(self.negative, self.frames);
-        ShortBytes {
-            checked: Checked::Accepted,
+        Result<[u8; 2], SysexError> {
+            checked: Ok(()),
             bytes: [fr, last.value()],
         }
     }

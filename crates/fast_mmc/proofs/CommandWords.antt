@@ -1,9 +1,9 @@
 -- The command of a word and the word of a command are each other's inverse. Assumes nothing.
+use Rattle.std.specs.Prelude.{Option, Some, None}
 use Prim.Native.Nat.{ℕ, zero, suc, ◌+◌, ◌*◌, ◌/◌, ◌%◌, ◌≤◌, ◌<◌}
 use mathlib.Core.Path.{◌≡◌, refl, sym, ap, ap₂, ◌∙◌}
 use mathlib.Core.Bool.{Bool, true, false, cond, true≢false}
 use mathlib.Core.List.{List, [], ◌∷◌, map}
-use mathlib.Core.Option.{Option, none, some}
 use native.Mathlib.Omega.{arith}
 use borrow.Author.Tests.{eq-eqb, ne_eqb, eqb-true, lt-ltb, le-ltb}
 use native.Mathlib.Nat.{le_refl}
@@ -35,19 +35,19 @@ use Rattle.fast_mmc.proofs.FlatBack.{final_back}
 -- ---- what a number says
 
 module _ (w : ℕ) where
-  pub said_plain : w % 256 < 9 → said_command w ≡ some (plain_command (w % 256))
+  pub said_plain : w % 256 < 9 → said_command w ≡ Some (plain_command (w % 256))
   unfolding said_command
   said_plain h = rw (lt-ltb (w % 256) 9 h)
 
-  pub said_field : 9 ≤ w % 256 → w % 256 ≡ 10 → said_command w ≡ some (LocateField (byte_at 256 w))
+  pub said_field : 9 ≤ w % 256 → w % 256 ≡ 10 → said_command w ≡ Some (LocateField (byte_at 256 w))
   unfolding said_command
   said_field h e = rw (le-ltb (w % 256) 9 h, eq-eqb (w % 256) 10 e)
 
-  pub said_target : 9 ≤ w % 256 → w % 256 ≡ 11 → said_command w ≡ some (LocateTarget (word_code w))
+  pub said_target : 9 ≤ w % 256 → w % 256 ≡ 11 → said_command w ≡ Some (LocateTarget (word_code w))
   unfolding said_command
   said_target h e = rw (le-ltb (w % 256) 9 h, ne_eqb (w % 256) 10 (λ (k : w % 256 ≡ 10). omega arith), eq-eqb (w % 256) 11 e)
 
-  pub said_move : 9 ≤ w % 256 → w % 256 ≡ 12 → said_command w ≡ some (Move (byte_at 256 w) (byte_at 65536 w))
+  pub said_move : 9 ≤ w % 256 → w % 256 ≡ 12 → said_command w ≡ Some (Move (byte_at 256 w) (byte_at 65536 w))
   unfolding said_command
   said_move h e =
       rw (
@@ -57,64 +57,64 @@ module _ (w : ℕ) where
         eq-eqb (w % 256) 12 e,
       )
 
-  pub said_none : 9 ≤ w % 256 → (w % 256 ≡ 10 → ⊥) → (w % 256 ≡ 11 → ⊥) → (w % 256 ≡ 12 → ⊥) → said_command w ≡ none
+  pub said_none : 9 ≤ w % 256 → (w % 256 ≡ 10 → ⊥) → (w % 256 ≡ 11 → ⊥) → (w % 256 ≡ 12 → ⊥) → said_command w ≡ None
   unfolding said_command
   said_none h p q r =
       rw (le-ltb (w % 256) 9 h, ne_eqb (w % 256) 10 p, ne_eqb (w % 256) 11 q, ne_eqb (w % 256) 12 r)
 
   -- ---- the command that it is the word of
 
-  pub is_word : (c : MmcCommand) → said_command w ≡ some c → command_word c ≡ w → some c ≡ word_command w
+  pub is_word : (c : MmcCommand) → said_command w ≡ Some c → command_word c ≡ w → Some c ≡ word_command w
   unfolding word_command
   is_word c s e = sym (ap (if_word w) s ∙ rw (eq-eqb (command_word c) w e))
 
-  pub not_word : (c : MmcCommand) → said_command w ≡ some c → (command_word c ≡ w → ⊥) → none ≡ word_command w
+  pub not_word : (c : MmcCommand) → said_command w ≡ Some c → (command_word c ≡ w → ⊥) → None ≡ word_command w
   unfolding word_command
   not_word c s n = sym (ap (if_word w) s ∙ rw (ne_eqb (command_word c) w n))
 
-  pub no_word : said_command w ≡ none → none ≡ word_command w
+  pub no_word : said_command w ≡ None → None ≡ word_command w
   unfolding word_command
   no_word s = sym (ap (if_word w) s)
 
   -- What goes out of it.
-  pub item_of : (c : MmcCommand) → some c ≡ word_command w → command_item [] c ≡ word_item w
+  pub item_of : (c : MmcCommand) → Some c ≡ word_command w → command_item [] c ≡ word_item w
   unfolding word_item
   item_of c e = rw (sym e)
 
-  pub item_none : none ≡ word_command w → refusing 3 ≡ word_item w
+  pub item_none : None ≡ word_command w → refusing 3 ≡ word_item w
   unfolding word_item
   item_none e = rw (sym e)
 
 -- ---- a word of two bytes, or of a time code
 
 module _ (w r : ℕ) (above : 9 ≤ w % 256) where
-  pub field_is : w % 256 ≡ 10 → r ≡ with_bytes 10 (byte_at 256 w) 0 → r ≡ w → some (LocateField (byte_at 256 w)) ≡ word_command w
+  pub field_is : w % 256 ≡ 10 → r ≡ with_bytes 10 (byte_at 256 w) 0 → r ≡ w → Some (LocateField (byte_at 256 w)) ≡ word_command w
   unfolding command_word
   field_is e p q = is_word w _ (said_field w above e) (sym p ∙ q)
 
-  pub field_not : w % 256 ≡ 10 → r ≡ with_bytes 10 (byte_at 256 w) 0 → (r ≡ w → ⊥) → none ≡ word_command w
+  pub field_not : w % 256 ≡ 10 → r ≡ with_bytes 10 (byte_at 256 w) 0 → (r ≡ w → ⊥) → None ≡ word_command w
   unfolding command_word
   field_not e p n = not_word w _ (said_field w above e) (λ q. n (p ∙ q))
 
   pub move_is : w % 256 ≡ 12 → r ≡ with_bytes 12 (byte_at 256 w) (byte_at 65536 w) → r ≡ w
-      → some (Move (byte_at 256 w) (byte_at 65536 w)) ≡ word_command w
+      → Some (Move (byte_at 256 w) (byte_at 65536 w)) ≡ word_command w
   unfolding command_word
   move_is e p q = is_word w _ (said_move w above e) (sym p ∙ q)
 
-  pub move_not : w % 256 ≡ 12 → r ≡ with_bytes 12 (byte_at 256 w) (byte_at 65536 w) → (r ≡ w → ⊥) → none ≡ word_command w
+  pub move_not : w % 256 ≡ 12 → r ≡ with_bytes 12 (byte_at 256 w) (byte_at 65536 w) → (r ≡ w → ⊥) → None ≡ word_command w
   unfolding command_word
   move_not e p n = not_word w _ (said_move w above e) (λ q. n (p ∙ q))
 
 module _ (w r : ℕ) (c : StandardTimeCode) (above : 9 ≤ w % 256) where
-  pub target_is : w % 256 ≡ 11 → c ≡ word_code w → r ≡ target_word c → r ≡ w → some (LocateTarget c) ≡ word_command w
+  pub target_is : w % 256 ≡ 11 → c ≡ word_code w → r ≡ target_word c → r ≡ w → Some (LocateTarget c) ≡ word_command w
   unfolding command_word
   target_is e k p q =
-      is_word w (LocateTarget c) (said_target w above e ∙ ap (λ (d : StandardTimeCode). some (LocateTarget d)) (sym k)) (sym p ∙ q)
+      is_word w (LocateTarget c) (said_target w above e ∙ ap (λ (d : StandardTimeCode). Some (LocateTarget d)) (sym k)) (sym p ∙ q)
 
-  pub target_not : w % 256 ≡ 11 → c ≡ word_code w → r ≡ target_word c → (r ≡ w → ⊥) → none ≡ word_command w
+  pub target_not : w % 256 ≡ 11 → c ≡ word_code w → r ≡ target_word c → (r ≡ w → ⊥) → None ≡ word_command w
   unfolding command_word
   target_not e k p n =
-      not_word w (LocateTarget c) (said_target w above e ∙ ap (λ (d : StandardTimeCode). some (LocateTarget d)) (sym k)) (λ q. n (p ∙ q))
+      not_word w (LocateTarget c) (said_target w above e ∙ ap (λ (d : StandardTimeCode). Some (LocateTarget d)) (sym k)) (λ q. n (p ∙ q))
 
 -- ---- names alone
 
@@ -133,14 +133,14 @@ plain_word (suc (suc (suc (suc (suc (suc (suc (suc zero)))))))) h = refl
 plain_word (suc (suc (suc (suc (suc (suc (suc (suc (suc n))))))))) h = absurd (omega arith)
 
 -- It is so of a number below 9, and of no other with such a case.
-pub plain_is : (w : ℕ) → w < 9 → some (plain_command w) ≡ word_command w
+pub plain_is : (w : ℕ) → w < 9 → Some (plain_command w) ≡ word_command w
 plain_is w h =
     let e : w % 256 ≡ w = omega arith in
     let l : w % 256 < 9 = omega (arith, e) in
-    let s : said_command w ≡ some (plain_command w) = said_plain w l ∙ ap (λ (n : ℕ). some (plain_command n)) e in
+    let s : said_command w ≡ Some (plain_command w) = said_plain w l ∙ ap (λ (n : ℕ). Some (plain_command n)) e in
     is_word w (plain_command w) s (plain_word w h)
 
-pub plain_not : (w : ℕ) → w % 256 < 9 → 9 ≤ w → none ≡ word_command w
+pub plain_not : (w : ℕ) → w % 256 < 9 → 9 ≤ w → None ≡ word_command w
 plain_not w l h =
     not_word w (plain_command (w % 256)) (said_plain w l) (λ e. omega (arith, sym (plain_word (w % 256) l) ∙ e))
 
@@ -242,54 +242,54 @@ target_code c o =
 -- ---- the laws
 
 abbrev is_some : Option MmcCommand → Bool
-is_some none = false
-is_some (some c) = true
+is_some None = false
+is_some (Some c) = true
 
 abbrev the_command : MmcCommand → Option MmcCommand → MmcCommand
-the_command d none = d
-the_command d (some c) = c
+the_command d None = d
+the_command d (Some c) = c
 
-if_word_lem : (w : ℕ) (o : Option MmcCommand) (c : MmcCommand) → if_word w o ≡ some c → command_word c ≡ w
-if_word_lem w none c e = absurd (true≢false (sym (ap is_some e)))
-if_word_lem w (some d) c e = go (eqb (command_word d) w) refl e
+if_word_lem : (w : ℕ) (o : Option MmcCommand) (c : MmcCommand) → if_word w o ≡ Some c → command_word c ≡ w
+if_word_lem w None c e = absurd (true≢false (sym (ap is_some e)))
+if_word_lem w (Some d) c e = go (eqb (command_word d) w) refl e
   where
-    go : (b : Bool) → eqb (command_word d) w ≡ b → cond b (some d) none ≡ some c → command_word c ≡ w
+    go : (b : Bool) → eqb (command_word d) w ≡ b → cond b (Some d) None ≡ Some c → command_word c ≡ w
     go true q e = sym (ap (λ (o : Option MmcCommand). command_word (the_command d o)) e) ∙ eqb-true (command_word d) w q
     go false q e = absurd (true≢false (sym (ap is_some e)))
 
 -- A number that is written as a command is the command's word: read back, it is the same number.
-pub word_back : (w : ℕ) (c : MmcCommand) → word_command w ≡ some c → command_word c ≡ w
+pub word_back : (w : ℕ) (c : MmcCommand) → word_command w ≡ Some c → command_word c ≡ w
 unfolding word_command
 word_back w c e = if_word_lem w (said_command w) c e
 
-plain_back : (n : ℕ) (c : MmcCommand) → n < 9 → plain_command n ≡ c → word_command n ≡ some c
-plain_back n c h e = sym (plain_is n h) ∙ ap some e
+plain_back : (n : ℕ) (c : MmcCommand) → n < 9 → plain_command n ≡ c → word_command n ≡ Some c
+plain_back n c h e = sym (plain_is n h) ∙ ap Some e
 
 -- A case and two bytes above it are told from them.
 told_two : (k a b : ℕ) → k < 256 → a < 256 → b < 256
     → (with_bytes k a b % 256 ≡ k) × ((byte_at 256 (with_bytes k a b) ≡ a) × (byte_at 65536 (with_bytes k a b) ≡ b))
 told_two k a b hk ha hb = (omega arith, (omega arith, omega arith))
 
-word_register_back : (r : ℕ) → r < 256 → word_command (with_bytes 10 r 0) ≡ some (LocateField r)
+word_register_back : (r : ℕ) → r < 256 → word_command (with_bytes 10 r 0) ≡ Some (LocateField r)
 unfolding command_word
 word_register_back r h =
     let t = told_two 10 r 0 (lit≤ tt) h (lit≤ tt) in
-    sym (is_word (with_bytes 10 r 0) (LocateField r) (said_field (with_bytes 10 r 0) (omega (arith, t.0)) t.0 ∙ ap (λ (n : ℕ). some (LocateField n)) t.1.0) refl)
+    sym (is_word (with_bytes 10 r 0) (LocateField r) (said_field (with_bytes 10 r 0) (omega (arith, t.0)) t.0 ∙ ap (λ (n : ℕ). Some (LocateField n)) t.1.0) refl)
 
-target_back : (c : StandardTimeCode) → OneWord (LocateTarget c) → word_command (target_word c) ≡ some (LocateTarget c)
+target_back : (c : StandardTimeCode) → OneWord (LocateTarget c) → word_command (target_word c) ≡ Some (LocateTarget c)
 unfolding command_word
 target_back c o =
     let e : target_word c % 256 ≡ 11 = (target_told c o).case in
-    sym (is_word (target_word c) (LocateTarget c) (said_target (target_word c) (omega (arith, e)) e ∙ ap (λ (d : StandardTimeCode). some (LocateTarget d)) (target_code c o)) refl)
+    sym (is_word (target_word c) (LocateTarget c) (said_target (target_word c) (omega (arith, e)) e ∙ ap (λ (d : StandardTimeCode). Some (LocateTarget d)) (target_code c o)) refl)
 
-word_move_back : (a b : ℕ) → a < 256 → b < 256 → word_command (with_bytes 12 a b) ≡ some (Move a b)
+word_move_back : (a b : ℕ) → a < 256 → b < 256 → word_command (with_bytes 12 a b) ≡ Some (Move a b)
 unfolding command_word
 word_move_back a b h k =
     let t = told_two 12 a b (lit≤ tt) h k in
-    sym (is_word (with_bytes 12 a b) (Move a b) (said_move (with_bytes 12 a b) (omega (arith, t.0)) t.0 ∙ ap₂ (λ (m n : ℕ). some (Move m n)) t.1.0 t.1.1) refl)
+    sym (is_word (with_bytes 12 a b) (Move a b) (said_move (with_bytes 12 a b) (omega (arith, t.0)) t.0 ∙ ap₂ (λ (m n : ℕ). Some (Move m n)) t.1.0 t.1.1) refl)
 
 -- The word of a command is written as that command, for all but Write and another command.
-pub command_word_back : (c : MmcCommand) → OneWord c → word_command (command_word c) ≡ some c
+pub command_word_back : (c : MmcCommand) → OneWord c → word_command (command_word c) ≡ Some c
 unfolding command_word plain_command
 command_word_back Stop o = plain_back 0 Stop (lit≤ tt) refl
 command_word_back Play o = plain_back 1 Play (lit≤ tt) refl
@@ -322,7 +322,7 @@ final_value_byte fr ff = go (bit 32 fr)
 
 -- So is that of a Locate to a time that was read, whatever its five bytes.
 pub read_target_back : (hr mn sc fr ff : ℕ)
-    → word_command (command_word (LocateTarget (read_standard hr mn sc fr ff))) ≡ some (LocateTarget (read_standard hr mn sc fr ff))
+    → word_command (command_word (LocateTarget (read_standard hr mn sc fr ff))) ≡ Some (LocateTarget (read_standard hr mn sc fr ff))
 read_target_back hr mn sc fr ff =
     command_word_back (LocateTarget (read_standard hr mn sc fr ff))
     (rw (standard_parts hr mn sc fr ff) (omega arith, (omega arith, (omega arith, (omega arith, final_value_byte fr ff)))))

@@ -1,5 +1,6 @@
 -- Flat time codes, commands and fields stand for one value each: what is flattened and read back is the same. So does a message's
 -- kind, with its device. Assumes nothing.
+use Rattle.std.specs.Prelude.{None}
 use Prim.Native.Nat.{ℕ}
 use mathlib.Core.Path.{◌≡◌, refl, ap, ap₂}
 use mathlib.Core.Bool.{Bool, true, false}
@@ -10,7 +11,6 @@ use Rattle.fast_mmc.specs.Message.{flat_mmc_message, mmc_kind, mmc_of}
 use Rattle.mmc.specs.Message.{message_from, message_by}
 use Rattle.mmc.proofs.StringLaws.{message_by_lem}
 use Rattle.universal.specs.Message.{header}
-use Rattle.universal.specs.declared.message.MaybeSubId2.TheVariants.{NoSubId2}
 use Rattle.universal.specs.declared.message.Universal.{Universal}
 use Rattle.fast_mmc.specs.Code.{final_of, is_status, code_of, flat_code, short_of, flat_short}
 use Rattle.fast_mmc.specs.Word.{command_word, plain_command}
@@ -95,10 +95,10 @@ flat_field_back (F.Other n d) = ap₂ F.Other (part_back n) (part_back d)
 -- A message's kind and the header's device say all of it: no other part of the header decides anything.
 pub kind_says : (u : Universal) (d : List ℕ)
     → flat_mmc_message (message_from u d)
-    ≡ mmc_of u.device_id (mmc_kind (message_from (header u.real_time 0 u.sub_id1 NoSubId2) d))
+    ≡ mmc_of u.device_id (mmc_kind (message_from (header u.real_time 0 u.sub_id1 None) d))
 unfolding flat_mmc_message mmc_of mmc_kind
 kind_says u d =
-    rw (message_by_lem u d, message_by_lem (header u.real_time 0 u.sub_id1 NoSubId2) d)
+    rw (message_by_lem u d, message_by_lem (header u.real_time 0 u.sub_id1 None) d)
     (go u.real_time (eqb u.sub_id1 6) (eqb u.sub_id1 7) (eqb (length d) 0) u.device_id)
   where
     go : (t c r e : Bool) (device : ℕ) → flat_mmc_message (message_by t c r e device) ≡ mmc_of device (mmc_kind (message_by t c r e 0))

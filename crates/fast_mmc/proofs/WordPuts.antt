@@ -1,8 +1,8 @@
 -- A message from words, word by word, and one word into an open writing. Assumes nothing.
+use Rattle.std.specs.Prelude.{Option, Some, None}
 use Prim.Native.Nat.{ℕ, ◌+◌, ◌-◌, ◌*◌, ◌/◌, ◌%◌, ◌≤◌, ◌<◌}
 use mathlib.Core.Path.{◌≡◌, refl, sym, ap, ap₂, subst, ◌∙◌}
 use mathlib.Core.List.{List, [], ◌∷◌}
-use mathlib.Core.Option.{Option, none, some}
 use native.Mathlib.Numerals.{add-one}
 use native.Mathlib.Omega.{arith}
 use borrow.Author.Tests.{le-leb, lt-leb}
@@ -139,13 +139,13 @@ module _ (w₀ : Writing) (out₀ : List ℕ) (from : ℕ) (ws : List ℕ) where
 
 module _ (at i : ℕ) (few : i < 256) (near : at ≤ 40000) where
   -- Nothing has refused it.
-  pub going_sound : (or_failed (open_writing at i)).stop ≡ none
+  pub going_sound : (or_failed (open_writing at i)).stop ≡ None
   going_sound = sym (as_it_is (open_writing at i) (omega arith) near)
 
   going_takes : (e : Emission) → admitted (open_writing at i) e ≡ e
   going_takes e = takes (open_writing at i) e (sym (ready_kept (open_writing at i) few near))
 
-  going_on : (e : Emission) → e.stop ≡ none → open_writing (at + length e.bytes) (i + 1) ≡ writing_after (open_writing at i) e
+  going_on : (e : Emission) → e.stop ≡ None → open_writing (at + length e.bytes) (i + 1) ≡ writing_after (open_writing at i) e
   going_on e n =
       sym
       (writing_after_moves (open_writing at i) e
@@ -310,16 +310,16 @@ message_words device out₀ ws w out a left p q r =
 
 -- A writing that was refused before anything went out.
 abbrev barred : Refusal → Writing
-barred r = record { at = 0; items = 0; stop = some r }
+barred r = record { at = 0; items = 0; stop = Some r }
 
-barred_stop : (r : Refusal) → (or_failed (barred r)).stop ≡ some r
+barred_stop : (r : Refusal) → (or_failed (barred r)).stop ≡ Some r
 barred_stop r = sym (as_it_is (barred r) (lit≤ tt) (lit≤ tt))
 
 -- No item changes it.
 barred_item : (r : Refusal) (out : List ℕ) (e : Emission)
     → ◌≡◌ {A = State} (record { writing = writing_after (barred r) e; out = overlay out 0 (admitted (barred r) e).bytes }) (record { writing = barred r; out = out })
 barred_item r out e =
-    let a : admitted (barred r) e ≡ record { bytes = []; stop = some r } =
+    let a : admitted (barred r) e ≡ record { bytes = []; stop = Some r } =
     repeats (barred r) e r (sym (ready_failed (barred r) r (barred_stop r))) in
     ap₂ (λ (w : Writing) (l : List ℕ). record { writing = w; out = l })
     (writing_after_moves (barred r) e ∙ ap (λ (x : Emission). writing_past (barred r) (extent_of x)) a)

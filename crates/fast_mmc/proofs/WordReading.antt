@@ -1,4 +1,5 @@
 -- Reading a word: the bytes of a time code, a name alone, and the next command of a string. Assumes nothing.
+use Rattle.std.specs.Prelude.{Result}
 use Prim.Native.Nat.{ℕ, zero, suc, ◌+◌, ◌-◌, ◌*◌, ◌/◌, ◌%◌, ◌≤◌, ◌<◌}
 use mathlib.Core.Path.{◌≡◌, refl, sym, ap, subst, ◌∙◌}
 use mathlib.Core.Bool.{Bool, true, false, cond, true≢false}
@@ -15,13 +16,11 @@ use Rattle.mmc.specs.declared.command.MmcCommand.TheVariants.{Other}
 use Rattle.mmc.specs.declared.length.Kind.TheVariants.{Commands}
 use Rattle.mmc.specs.declared.length.Length.TheVariants.{Fixed, Count}
 use Rattle.mmc.specs.declared.part.Part.{Part}
-use Rattle.mmc.specs.declared.split.PartsAnswer.{PartsAnswer}
-use Rattle.mmc.specs.declared.split.PartsAnswer.TheVariants.{Found, Refused}
 use Rattle.mmc.specs.Command as K
 use Rattle.mmc.specs.Command.{CommandCase, command_by_name, read_command, command_of_case, next_command}
 use Rattle.mmc.specs.Length.{command_length, within}
 use Rattle.mmc.specs.Part.{part, part_of}
-use Rattle.mmc.specs.Split.{next, next_parts_of}
+use Rattle.mmc.specs.Split.{next, next_item_of}
 use Rattle.codes.specs.declared.time_code.FinalByte.TheVariants.{Subframes, Status}
 use Rattle.codes.specs.TimeCode.{bit, flag, read_status, read_final, final_value, read_standard}
 use Rattle.labels.specs.Time.{bits_of, rate_at, type_of}
@@ -216,8 +215,8 @@ counted_name b h = command_length_lem b ∙ ap (λ (x : Bool). cond x Count (Fix
 
 -- ---- an item that the splitter found, or its refusal
 
-module _ (body : List ℕ) (place at : ℕ) (k : PartsAnswer)
-    (e : next_parts_of (record { answer = k; place = at }) ≡ next Commands body place) where
+module _ (body : List ℕ) (place at : ℕ) (k : Result ItemPlace SysexError)
+    (e : next_item_of (record { answer = k; place = at }) ≡ next Commands body place) where
   pub prefixed_word : place < length body → get_or body place 0 ≡ 0 → (n d : Part) (w : ℕ) → k ≡ Found n d → w ≡ command_word (Other n d)
       → record { word = w; place = at } ≡ next_word (next_command body place)
   unfolding next_word answer_word

@@ -1,8 +1,5 @@
 -- What only the contracts of inner functions need, on the way to `next_word` and `write_words`. Assumes nothing.
-use Rattle.std.specs.Prelude.{ℕ, ◌+◌, ◌*◌, ◌/◌, ◌%◌, ◌≤◌, ◌<◌, ◌≡◌, List, true, false, ◌⊎◌, length}
-use Rattle.std.proofs.Math.Option.{Option, none, some}
-use Rattle.fast_mmc.specs.declared.command.MaybeCommand.{MaybeCommand}
-use Rattle.fast_mmc.specs.declared.command.MaybeCommand.TheVariants.{NoCommand, Command}
+use Rattle.std.specs.Prelude.{ℕ, ◌+◌, ◌*◌, ◌/◌, ◌%◌, ◌≤◌, ◌<◌, ◌≡◌, List, true, false, ◌⊎◌, length, Option, Some, None}
 use Rattle.mmc.specs.declared.command.MmcCommand.{MmcCommand}
 use Rattle.mmc.specs.declared.part.Part.{Part}
 use Rattle.mmc.specs.Command.{command_by_name, command_of_case}
@@ -27,20 +24,20 @@ pub data ShortWord (name : ℕ) : ℕ → Type 0 where
 -- ---- the command of a word
 
 -- A command of the code, or none.
-abbrev pub maybe_of : MaybeCommand → Option MmcCommand
-maybe_of NoCommand = none
-maybe_of (Command c) = some c
+abbrev pub maybe_of : Option MmcCommand → Option MmcCommand
+maybe_of None = None
+maybe_of (Command c) = Some c
 
 -- ---- a message of words
 
 -- A writing that nothing has refused.
 abbrev pub open_writing : ℕ → ℕ → Writing
-open_writing at items = record { at = at; items = items; stop = none }
+open_writing at items = record { at = at; items = items; stop = None }
 
 -- A word whose command went out whole, from a position to the next, or of which nothing did, where the position stays.
 pub data PutWhole (word at : ℕ) (out : List ℕ) : ℕ → List ℕ → Type 0 where
   nothing_went : PutWhole word at out at out
-  went_whole : {next : ℕ} {left : List ℕ} → (word_item word).stop ≡ none
+  went_whole : {next : ℕ} {left : List ℕ} → (word_item word).stop ≡ None
       → next ≡ at + length (word_item word).bytes
       → left ≡ overlay out at (word_item word).bytes → PutWhole word at out next left
 

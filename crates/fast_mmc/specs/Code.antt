@@ -1,5 +1,5 @@
 -- Time code fields as flat records, and back: the last byte is a status byte or subframes. Assumes nothing.
-use Rattle.std.specs.Prelude.{ℕ, Bool, true, false, cond}
+use Rattle.std.specs.Prelude.{ℕ, Bool, true, false, cond, Option, Some, None}
 use Rattle.fast_mtc.specs.Time.{time_of, flat_time, no_time}
 use Rattle.fast_mmc.specs.declared.code.FlatCode.{FlatCode}
 use Rattle.fast_mmc.specs.declared.code.FlatShort.{FlatShort}
@@ -7,8 +7,6 @@ use Rattle.fast_mmc.specs.declared.code.FlatStatus.{FlatStatus}
 use Rattle.codes.specs.TimeCode.{read_status, final_value}
 use Rattle.codes.specs.declared.time_code.FinalByte.{FinalByte}
 use Rattle.codes.specs.declared.time_code.FinalByte.TheVariants.{Subframes, Status}
-use Rattle.codes.specs.declared.time_code.MaybeName.{MaybeName}
-use Rattle.codes.specs.declared.time_code.MaybeName.TheVariants.{NoName, Name}
 use Rattle.codes.specs.declared.time_code.ShortTimeCode.{ShortTimeCode}
 use Rattle.codes.specs.declared.time_code.StandardTimeCode.{StandardTimeCode}
 use Rattle.codes.specs.declared.time_code.TimeCodeStatus.{TimeCodeStatus}
@@ -83,6 +81,6 @@ abbrev pub no_short : FlatShort
 no_short = record { frames = 0; negative = false; status = false; last = 0 }
 
 -- A name, or 0 for none.
-unfoldable pub flat_name : MaybeName → ℕ
-flat_name NoName = 0
-flat_name (Name n) = n
+unfoldable pub flat_name : Option ℕ → ℕ
+flat_name None = 0
+flat_name (Some n) = n

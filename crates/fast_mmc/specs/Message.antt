@@ -1,6 +1,5 @@
 -- The split parts of messages, and what reading them answers, as flat records, and back. Assumes nothing.
-use Rattle.std.specs.Prelude.{ℕ, Bool, true, false, cond, eqb}
-use Rattle.std.proofs.Math.Option.{Option, none, some}
+use Rattle.std.specs.Prelude.{ℕ, Bool, true, false, cond, eqb, Option, Some, None}
 use Rattle.fast_mtc.specs.Time.{flat_time, no_time}
 use Rattle.fast_mmc.specs.declared.message.FlatFullMessage.{FlatFullMessage}
 use Rattle.fast_mmc.specs.declared.message.FlatMmcMessage.{FlatMmcMessage}
@@ -14,13 +13,11 @@ use Rattle.mtc.specs.declared.full_message.FullMessage.{FullMessage}
 use Rattle.mtc.specs.declared.user_bits.UserBits.{UserBits}
 use Rattle.universal.specs.Message.{header}
 use Rattle.universal.specs.Refusals.{Answer, gives, refused}
-use Rattle.universal.specs.declared.message.MaybeSubId2.{MaybeSubId2}
-use Rattle.universal.specs.declared.message.MaybeSubId2.TheVariants.{NoSubId2, SubId2}
 use Rattle.universal.specs.declared.message.Universal.{Universal}
 
 -- A sub-ID 2, where the header has one.
-unfoldable pub sub_id2_of : Bool → ℕ → MaybeSubId2
-sub_id2_of has s = cond has (SubId2 s) NoSubId2
+unfoldable pub sub_id2_of : Bool → ℕ → Option ℕ
+sub_id2_of has s = cond has (Some s) None
 
 unfoldable pub universal_of : FlatUniversal → Universal
 universal_of u = header u.real_time u.device_id u.sub_id1 (sub_id2_of u.has_sub_id2 u.sub_id2)
@@ -34,8 +31,8 @@ flat_bits b = record { device_id = b.device_id; groups = b.groups; flags = b.fla
 -- ---- what reading answers: 0 and a message, 255 for another kind, or a refusal
 
 unfoldable pub flat_answer : {A : Type 0} → Answer (Option A) → ℕ
-flat_answer (gives (some a)) = 0
-flat_answer (gives none) = 255
+flat_answer (gives (Some a)) = 0
+flat_answer (gives None) = 255
 flat_answer (refused r) = r.number
 
 -- No full message.
@@ -43,8 +40,8 @@ abbrev pub no_message : ℕ → FlatFullMessage
 no_message n = record { answer = n; device_id = 0; time = no_time }
 
 unfoldable pub flat_full_message : Answer (Option FullMessage) → FlatFullMessage
-flat_full_message (gives (some m)) = record { answer = 0; device_id = m.device_id; time = flat_time m.time }
-flat_full_message (gives none) = no_message 255
+flat_full_message (gives (Some m)) = record { answer = 0; device_id = m.device_id; time = flat_time m.time }
+flat_full_message (gives None) = no_message 255
 flat_full_message (refused r) = no_message r.number
 
 -- An answer with user bits beside it.
@@ -60,16 +57,16 @@ abbrev pub flat_mmc : ℕ → Bool → ℕ → FlatMmcMessage
 flat_mmc n responses device = record { answer = n; responses = responses; device_id = device }
 
 unfoldable pub flat_mmc_message : Answer (Option MmcMessage) → FlatMmcMessage
-flat_mmc_message (gives (some (Commands device))) = flat_mmc 0 false device
-flat_mmc_message (gives (some (Responses device))) = flat_mmc 0 true device
-flat_mmc_message (gives none) = flat_mmc 255 false 0
+flat_mmc_message (gives (Some (Commands device))) = flat_mmc 0 false device
+flat_mmc_message (gives (Some (Responses device))) = flat_mmc 0 true device
+flat_mmc_message (gives None) = flat_mmc 255 false 0
 flat_mmc_message (refused r) = flat_mmc r.number false 0
 
 -- The same without the device: 0 for commands, 128 for responses, 255 for another kind, or the refusal.
 unfoldable pub mmc_kind : Answer (Option MmcMessage) → ℕ
-mmc_kind (gives (some (Commands device))) = 0
-mmc_kind (gives (some (Responses device))) = 128
-mmc_kind (gives none) = 255
+mmc_kind (gives (Some (Commands device))) = 0
+mmc_kind (gives (Some (Responses device))) = 128
+mmc_kind (gives None) = 255
 mmc_kind (refused r) = r.number
 
 -- The message of such a number, with the device that the header gives.

@@ -1,7 +1,6 @@
 -- A command as one number, its word: the case in the lowest byte, in the source's order, and above it what the case has. Which number
 -- is the word of which command is said once, by `commandWord`; `wordCommand` is its inverse. Assumes nothing.
-use Rattle.std.specs.Prelude.{ℕ, ◌+◌, ◌*◌, ◌/◌, ◌%◌, ◌<◌, cond, [], eqb, ltb}
-use Rattle.std.proofs.Math.Option.{Option, none, some}
+use Rattle.std.specs.Prelude.{ℕ, ◌+◌, ◌*◌, ◌/◌, ◌%◌, ◌<◌, cond, [], eqb, ltb, Option, Some, None}
 use Rattle.mmc.specs.declared.command.MmcCommand.{MmcCommand}
 use Rattle.mmc.specs.declared.command.MmcCommand.TheVariants.{Stop, Play, DeferredPlay, FastForward, Rewind, RecordStrobe, RecordExit, Pause, Reset, Write, LocateField, LocateTarget, Move, Other}
 use Rattle.codes.specs.declared.time_code.StandardTimeCode.{StandardTimeCode}
@@ -101,15 +100,15 @@ word_code w =
 -- The command that the bytes of a number say. None is a Write or another command, whose bytes a number does not have.
 unfoldable pub said_command : ℕ → Option MmcCommand
 said_command w =
-    cond (ltb (w % 256) 9) (some (plain_command (w % 256)))
-    (cond (eqb (w % 256) 10) (some (LocateField (byte_at 256 w)))
-    (cond (eqb (w % 256) 11) (some (LocateTarget (word_code w)))
-    (cond (eqb (w % 256) 12) (some (Move (byte_at 256 w) (byte_at 65536 w))) none)))
+    cond (ltb (w % 256) 9) (Some (plain_command (w % 256)))
+    (cond (eqb (w % 256) 10) (Some (LocateField (byte_at 256 w)))
+    (cond (eqb (w % 256) 11) (Some (LocateTarget (word_code w)))
+    (cond (eqb (w % 256) 12) (Some (Move (byte_at 256 w) (byte_at 65536 w))) None)))
 
 -- A command, where a number is its word.
 abbrev pub if_word : ℕ → Option MmcCommand → Option MmcCommand
-if_word w none = none
-if_word w (some c) = cond (eqb (command_word c) w) (some c) none
+if_word w None = None
+if_word w (Some c) = cond (eqb (command_word c) w) (Some c) None
 
 -- The command that a number is the word of.
 unfoldable pub word_command : ℕ → Option MmcCommand
@@ -117,8 +116,8 @@ word_command w = if_word w (said_command w)
 
 -- What goes out of it; a number that is no command's word is refused with 3, and nothing goes out of it.
 abbrev pub option_item : Option MmcCommand → Emission
-option_item none = refusing 3
-option_item (some c) = command_item [] c
+option_item None = refusing 3
+option_item (Some c) = command_item [] c
 
 unfoldable pub word_item : ℕ → Emission
 word_item w = option_item (word_command w)

@@ -1,17 +1,16 @@
 -- Writers as numbers, and back; and the items of the calls that take no record. Assumes nothing.
-use Rattle.std.specs.Prelude.{ℕ, ◌+◌, ◌*◌, ◌/◌, ◌%◌, cond, List, eqb, length}
+use Rattle.universal.specs.declared.error.SysexError.{SysexError}
+use Rattle.std.specs.Prelude.{ℕ, ◌+◌, ◌*◌, ◌/◌, ◌%◌, cond, List, eqb, length, Result, ⊤}
 use Rattle.fast_mmc.specs.Refusal.{flat_stop}
 use Rattle.mmc.specs.Item.{command_item}
 use Rattle.mmc.specs.Part.{part}
 use Rattle.mmc.specs.Write.{Writing, writing_of, writing_after}
 use Rattle.universal.specs.Emission.{Emission}
 use Rattle.universal.specs.Refusals.{error_of}
-use Rattle.codes.specs.declared.time_code.Checked.{Checked}
-use Rattle.codes.specs.declared.time_code.Checked.TheVariants.{Accepted, Refused}
 use Rattle.mmc.specs.declared.command.MmcCommand.TheVariants.{Write, Other}
 use Rattle.mmc.specs.declared.write.Writer.{Writer}
 
-unfoldable pub checked_at : ℕ → ℕ → Checked
+unfoldable pub checked_at : ℕ → ℕ → Result ⊤ SysexError
 checked_at n needed = cond (eqb n 0) Accepted (Refused (error_of n needed))
 
 -- The position in the lowest four bytes, the items in the next two, the refusal in the byte above them.

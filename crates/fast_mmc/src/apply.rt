@@ -1,10 +1,11 @@
 // The transport.
+ghost use Rattle.universal.specs.Refusals.{answer_of};
 ghost use Rattle.std.specs.Prelude.{◌≡◌};
-ghost use Rattle.transport.specs.Transport.{applied, applied_of, answer_of};
+ghost use Rattle.transport.specs.Transport.{applied, applied_of};
 ghost use Rattle.fast_mmc.specs.Apply.{flat_reply, flat_applied};
 
 use fast_mtc::generator::{FlatGenerator, flat_generator};
-use transport::{Applied, TransportAnswer};
+use transport::{Applied};
 
 // The generator after a command. Answer 0 is done, 255 for another device, any other number a refusal: 5 or 7.
 #[repr(C)]
@@ -14,13 +15,13 @@ pub struct FlatApplied {
     pub answer: u8,
 }
 
-pub fn flat_reply(answer: TransportAnswer) -> u8
+pub fn flat_reply(answer: Result<Reply, SysexError>) -> u8
     ensures { result ≡ flat_reply (answer_of answer) }
 {
     match answer {
-        TransportAnswer::Done => 0,
-        TransportAnswer::NotMine => 255,
-        TransportAnswer::Refused(e) => e.number(),
+        Ok(Reply::Done) => 0,
+        Ok(Reply::NotMine) => 255,
+        Err(e) => e.number(),
     }
 }
 

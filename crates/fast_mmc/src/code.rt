@@ -1,13 +1,14 @@
 // Time code fields of machine control.
+ghost use Rattle.universal.specs.Refusals.{answer_of};
 ghost use Rattle.std.specs.Prelude.{◌≡◌};
-ghost use Rattle.codes.specs.TimeCode.{final_value, standard_bytes_of, short_bytes_of};
+ghost use Rattle.codes.specs.TimeCode.{final_value};
 ghost use Rattle.fast_mtc.specs.Refusal.{refusal_in};
 ghost use Rattle.fast_mmc.specs.Code.{status_of, flat_status, final_of, is_status, code_of, flat_code, no_code, short_of, flat_short, no_short, flat_name};
 
 use crate::refusal::flat_stop;
 use fast_mtc::time::{FlatTime, flat_time, no_time, time_of};
 use mmc::{
-    FinalByte, MaybeName, ShortBytes, ShortTimeCode, StandardBytes, StandardTimeCode,
+    FinalByte, ShortTimeCode, StandardTimeCode,
     TimeCodeStatus,
 };
 
@@ -198,17 +199,17 @@ pub fn no_short() -> FlatShort
     }
 }
 
-pub fn flat_name(name: MaybeName) -> u8
+pub fn flat_name(name: Option<u8>) -> u8
     ensures { result ≡ flat_name name }
 {
     match name {
-        MaybeName::NoName => 0,
-        MaybeName::Name(n) => n,
+        None => 0,
+        Some(n) => n,
     }
 }
 
-pub fn flat_code_bytes(written: StandardBytes) -> FlatCodeBytes
-    ensures { (result.refusal ≡ refusal_in (standard_bytes_of written)) × (result.code.bytes ≡ written.bytes) }
+pub fn flat_code_bytes(written: Result<[u8; 5], SysexError>) -> FlatCodeBytes
+    ensures { (result.refusal ≡ refusal_in (answer_of written)) × (result.code.bytes ≡ written.bytes) }
 {
     let checked = written.checked;
     let bytes = written.bytes;
@@ -218,8 +219,8 @@ pub fn flat_code_bytes(written: StandardBytes) -> FlatCodeBytes
     }
 }
 
-pub fn flat_short_bytes(written: ShortBytes) -> FlatShortBytes
-    ensures { (result.refusal ≡ refusal_in (short_bytes_of written)) × (result.code.bytes ≡ written.bytes) }
+pub fn flat_short_bytes(written: Result<[u8; 2], SysexError>) -> FlatShortBytes
+    ensures { (result.refusal ≡ refusal_in (answer_of written)) × (result.code.bytes ≡ written.bytes) }
 {
     let checked = written.checked;
     let bytes = written.bytes;

@@ -2,7 +2,6 @@
 ghost use Rattle.std.specs.Prelude.{◌≡◌, cond, ◌∷◌, [], ◌+◌, ◌%◌, ◌<◌, ◌≤◌};
 ghost use Rattle.universal.specs.Emission.{sent};
 ghost use Rattle.mmc.specs.Item.{command_item};
-ghost use Rattle.fast_mmc.specs.Clauses.{maybe_of};
 ghost use Rattle.fast_mmc.specs.Word.{with_bytes, four_marks, target_word, plain_command, marked_code, word_code, word_command};
 
 use crate::code::{final_of, flat_final, is_status};
@@ -18,13 +17,6 @@ pub(crate) const LOCATE_FIELD: u64 = 10;
 pub(crate) const LOCATE_TARGET: u64 = 11;
 // The case of a Move.
 pub(crate) const MOVE: u64 = 12;
-
-// A command, or none.
-#[derive(Clone, Copy)]
-pub enum MaybeCommand {
-    NoCommand,
-    Command(MmcCommand),
-}
 
 pub(crate) fn wide(byte: u8) -> u64
     ensures { result ≡ byte }
@@ -160,47 +152,47 @@ fn word_code(word: u64) -> StandardTimeCode
 // ---- any word
 
 // The Locate or the Move that a word above the names says, where it is its word.
-fn counted_command(word: u64) -> MaybeCommand
+fn counted_command(word: u64) -> Option<MmcCommand>
     requires { 9 ≤ word % 256 }
-    ensures { maybe_of result ≡ word_command word }
+    ensures { result ≡ word_command word }
 {
     let case = word % 256;
     let first = (word / 0x100 % 256) as u8;
     let second = (word / 0x1_0000 % 256) as u8;
     if case == LOCATE_FIELD {
         if with_bytes(LOCATE_FIELD, first, 0) != word {
-            return MaybeCommand::NoCommand;
+            return None;
         }
-        return MaybeCommand::Command(MmcCommand::LocateField { register: first });
+        return Some(MmcCommand::LocateField { register: first });
     }
     if case == LOCATE_TARGET {
         let code = word_code(word);
         if target_word(code) != word {
-            return MaybeCommand::NoCommand;
+            return None;
         }
-        return MaybeCommand::Command(MmcCommand::LocateTarget(code));
+        return Some(MmcCommand::LocateTarget(code));
     }
     if case != MOVE {
-        return MaybeCommand::NoCommand;
+        return None;
     }
     if with_bytes(MOVE, first, second) != word {
-        return MaybeCommand::NoCommand;
+        return None;
     }
-    MaybeCommand::Command(MmcCommand::Move {
+    Some(MmcCommand::Move {
         destination: first,
         source: second,
     })
 }
 
 // The command that a number is the word of.
-pub(crate) fn word_command(word: u64) -> MaybeCommand
-    ensures { maybe_of result ≡ word_command word }
+pub(crate) fn word_command(word: u64) -> Option<MmcCommand>
+    ensures { result ≡ word_command word }
 {
     if word % 256 >= NAMES {
         return counted_command(word);
     }
     if word >= NAMES {
-        return MaybeCommand::NoCommand;
+        return None;
     }
-    MaybeCommand::Command(plain_command(word as u8))
+    Some(plain_command(word as u8))
 }

@@ -1,14 +1,13 @@
 // Universal messages, full messages, user bits, and machine control messages, by their split parts.
+ghost use Rattle.universal.specs.Refusals.{answer_of};
 ghost use Rattle.std.specs.Prelude.{◌≡◌};
-ghost use Rattle.mtc.specs.FullMessage.{read_full_message_of};
-ghost use Rattle.mtc.specs.UserBits.{answer_with, read_user_bits_of};
-ghost use Rattle.mmc.specs.Message.{read_message_of};
+ghost use Rattle.mtc.specs.UserBits.{answer_with};
 ghost use Rattle.fast_mmc.specs.Message.{sub_id2_of, universal_of, user_bits_of, flat_bits, flat_full_message, flat_answer, flat_read_bits, flat_mmc_message, mmc_kind};
 
 use fast_mtc::time::{FlatTime, flat_time, no_time};
-use mmc::{MmcMessage, ReadMmcMessage};
-use mtc::{ReadFullMessage, ReadUserBits, UserBits, UserBitsAnswer};
-use universal::{MaybeSubId2, Universal};
+use mmc::{MmcMessage};
+use mtc::{UserBits, UserBitsAnswer};
+use universal::{Universal};
 
 // The split parts of a Universal message but its data.
 #[repr(C)]
@@ -64,13 +63,13 @@ pub struct FlatMmcMessage {
     pub device_id: u8,
 }
 
-pub fn sub_id2_of(has: bool, sub_id2: u8) -> MaybeSubId2
+pub fn sub_id2_of(has: bool, sub_id2: u8) -> Option<u8>
     ensures { result ≡ sub_id2_of has sub_id2 }
 {
     if has {
-        return MaybeSubId2::SubId2(sub_id2);
+        return Some(sub_id2);
     }
-    MaybeSubId2::NoSubId2
+    None
 }
 
 pub fn universal_of(u: FlatUniversal) -> Universal
@@ -106,11 +105,11 @@ pub fn flat_bits(b: UserBits) -> FlatUserBits
     }
 }
 
-pub fn flat_full_message(read: ReadFullMessage) -> FlatFullMessage
-    ensures { result ≡ flat_full_message (read_full_message_of read) }
+pub fn flat_full_message(read: Result<Option<FullMessage>, SysexError>) -> FlatFullMessage
+    ensures { result ≡ flat_full_message (answer_of read) }
 {
     match read {
-        ReadFullMessage::Message(m) => {
+        Ok(Some(m)) => {
             let time = m.time;
             FlatFullMessage {
                 answer: 0,
@@ -118,12 +117,12 @@ pub fn flat_full_message(read: ReadFullMessage) -> FlatFullMessage
                 time: flat_time(time),
             }
         }
-        ReadFullMessage::NotThis => FlatFullMessage {
+        Ok(None) => FlatFullMessage {
             answer: 255,
             device_id: 0,
             time: no_time(),
         },
-        ReadFullMessage::Refused(e) => FlatFullMessage {
+        Err(e) => FlatFullMessage {
             answer: e.number(),
             device_id: 0,
             time: no_time(),
@@ -141,11 +140,11 @@ pub fn flat_answer(answer: UserBitsAnswer, bits: UserBits) -> u8
     }
 }
 
-pub fn flat_mmc_message(read: ReadMmcMessage) -> FlatMmcMessage
-    ensures { result ≡ flat_mmc_message (read_message_of read) }
+pub fn flat_mmc_message(read: Result<Option<MmcMessage>, SysexError>) -> FlatMmcMessage
+    ensures { result ≡ flat_mmc_message (answer_of read) }
 {
     match read {
-        ReadMmcMessage::Message(m) => match m {
+        Ok(Some(m)) => match m {
             MmcMessage::Commands { device_id } => FlatMmcMessage {
                 answer: 0,
                 responses: false,
@@ -157,12 +156,12 @@ pub fn flat_mmc_message(read: ReadMmcMessage) -> FlatMmcMessage
                 device_id,
             },
         },
-        ReadMmcMessage::NotThis => FlatMmcMessage {
+        Ok(None) => FlatMmcMessage {
             answer: 255,
             responses: false,
             device_id: 0,
         },
-        ReadMmcMessage::Refused(e) => FlatMmcMessage {
+        Err(e) => FlatMmcMessage {
             answer: e.number(),
             responses: false,
             device_id: 0,
@@ -171,21 +170,21 @@ pub fn flat_mmc_message(read: ReadMmcMessage) -> FlatMmcMessage
 }
 
 // The same as one number: 0 for commands, 128 for responses, 255 for another kind, or the refusal.
-pub fn mmc_kind(read: ReadMmcMessage) -> u8
-    ensures { result ≡ mmc_kind (read_message_of read) }
+pub fn mmc_kind(read: Result<Option<MmcMessage>, SysexError>) -> u8
+    ensures { result ≡ mmc_kind (answer_of read) }
 {
     match read {
-        ReadMmcMessage::Message(m) => match m {
+        Ok(Some(m)) => match m {
             MmcMessage::Commands { device_id: _ } => 0,
             MmcMessage::Responses { device_id: _ } => 128,
         },
-        ReadMmcMessage::NotThis => 255,
-        ReadMmcMessage::Refused(e) => e.number(),
+        Ok(None) => 255,
+        Err(e) => e.number(),
     }
 }
 
-pub fn flat_user_bits(read: ReadUserBits) -> FlatReadUserBits
-    ensures { result ≡ flat_read_bits (read_user_bits_of read) read.bits }
+pub fn flat_user_bits(read: Result<Option<UserBits>, SysexError>) -> FlatReadUserBits
+    ensures { result ≡ flat_read_bits (answer_of read) read.bits }
 {
     let answer = read.answer;
     let bits = read.bits;

@@ -1,9 +1,8 @@
 // The answer of a writing in numbers.
+ghost use Rattle.universal.specs.Refusals.{answer_of};
 ghost use Rattle.std.specs.Prelude.{◌≡◌};
-ghost use Rattle.universal.specs.Message.{written_of};
 ghost use Rattle.fast_mmc.specs.Numbers.{written_numbers};
 
-use universal::Written;
 
 // What a writing answers: refusal 0 and the length; 4 and the needed length; any other refusal and 0.
 #[repr(C)]
@@ -13,12 +12,12 @@ pub struct WrittenNumbers {
     pub length: usize,
 }
 
-pub fn written_numbers(written: Written) -> WrittenNumbers
-    ensures { result ≡ written_numbers (written_of written) }
+pub fn written_numbers(written: Result<usize, SysexError>) -> WrittenNumbers
+    ensures { result ≡ written_numbers (answer_of written) }
 {
     match written {
-        Written::Length(length) => WrittenNumbers { refusal: 0, length },
-        Written::Refused(e) => WrittenNumbers {
+        Ok(length) => WrittenNumbers { refusal: 0, length },
+        Err(e) => WrittenNumbers {
             refusal: e.number(),
             length: e.needed(),
         },

@@ -3,14 +3,13 @@ ghost use Rattle.std.specs.Prelude.{◌≡◌};
 ghost use Rattle.mmc.specs.Named.{stop_of};
 ghost use Rattle.fast_mmc.specs.Refusal.{flat_stop};
 
-use mmc::Checked;
 
 // The number of a check's refusal, 0 where it was accepted.
-pub fn flat_stop(checked: Checked) -> u8
+pub fn flat_stop(checked: Result<(), SysexError>) -> u8
     ensures { result ≡ flat_stop (stop_of checked) }
 {
     match checked {
-        Checked::Accepted => 0,
-        Checked::Refused(e) => e.number(),
+        Ok(()) => 0,
+        Err(e) => e.number(),
     }
 }

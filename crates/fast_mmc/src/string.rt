@@ -1,14 +1,16 @@
 // Command and field strings: one item after another.
+ghost use Rattle.mmc.specs.Split.{next_item_of};
+ghost use Rattle.universal.specs.Refusals.{answer_of};
 ghost use Rattle.std.specs.Prelude.{◌≡◌};
-ghost use Rattle.mmc.specs.Command.{next_command, next_command_of, command_answer_of};
-ghost use Rattle.mmc.specs.Field.{next_field, next_field_of, field_answer_of};
+ghost use Rattle.mmc.specs.Command.{next_command};
+ghost use Rattle.mmc.specs.Field.{next_field};
 ghost use Rattle.fast_mmc.specs.String.{part_at, flat_part, flat_values, command_of, flat_command, flat_command_answer, flat_next_command, field_of, coded, flat_field, flat_field_answer, flat_next_field};
 
 use crate::code::{
     FlatCode, FlatShort, code_of, flat_code, flat_short, no_code, no_short, short_of,
 };
 use crate::command::plain_command;
-use mmc::{CommandAnswer, FieldAnswer, InfoField, MmcCommand, NextCommand, NextField, Part};
+use mmc::{InfoField, MmcCommand, Part};
 
 // A part of lent bytes.
 #[repr(C)]
@@ -180,16 +182,16 @@ pub fn flat_command(c: MmcCommand) -> FlatCommand
     }
 }
 
-pub fn flat_command_answer(answer: CommandAnswer, place: usize) -> FlatNextCommand
-    ensures { result ≡ flat_command_answer (command_answer_of answer) place }
+pub fn flat_command_answer(answer: Result<MmcCommand, SysexError>, place: usize) -> FlatNextCommand
+    ensures { result ≡ flat_command_answer (answer_of answer) place }
 {
     match answer {
-        CommandAnswer::Command(c) => FlatNextCommand {
+        Ok(c) => FlatNextCommand {
             refusal: 0,
             command: flat_command(c),
             place,
         },
-        CommandAnswer::Refused(e) => FlatNextCommand {
+        Err(e) => FlatNextCommand {
             refusal: e.number(),
             command: flat_values(0, 0, 0),
             place,
@@ -258,16 +260,16 @@ pub fn flat_field(f: InfoField) -> FlatField
     }
 }
 
-pub fn flat_field_answer(answer: FieldAnswer, place: usize) -> FlatNextField
-    ensures { result ≡ flat_field_answer (field_answer_of answer) place }
+pub fn flat_field_answer(answer: Result<InfoField, SysexError>, place: usize) -> FlatNextField
+    ensures { result ≡ flat_field_answer (answer_of answer) place }
 {
     match answer {
-        FieldAnswer::Field(f) => FlatNextField {
+        Ok(f) => FlatNextField {
             refusal: 0,
             field: flat_field(f),
             place,
         },
-        FieldAnswer::Refused(e) => FlatNextField {
+        Err(e) => FlatNextField {
             refusal: e.number(),
             field: coded(0, 0, no_code(), no_short()),
             place,
@@ -275,15 +277,15 @@ pub fn flat_field_answer(answer: FieldAnswer, place: usize) -> FlatNextField
     }
 }
 
-pub fn flat_next_command(n: NextCommand) -> FlatNextCommand
-    ensures { result ≡ flat_next_command (next_command_of n) }
+pub fn flat_next_command(n: NextItem<MmcCommand>) -> FlatNextCommand
+    ensures { result ≡ flat_next_command (next_item_of n) }
 {
     let answer = n.answer;
     flat_command_answer(answer, n.place)
 }
 
-pub fn flat_next_field(n: NextField) -> FlatNextField
-    ensures { result ≡ flat_next_field (next_field_of n) }
+pub fn flat_next_field(n: NextItem<InfoField>) -> FlatNextField
+    ensures { result ≡ flat_next_field (next_item_of n) }
 {
     let answer = n.answer;
     flat_field_answer(answer, n.place)

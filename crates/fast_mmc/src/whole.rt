@@ -11,11 +11,11 @@ ghost use Rattle.fast_mmc.specs.Words.{after_words, closed_out, words_answer, wo
 ghost use Rattle.fast_mmc.specs.Clauses.{open_writing, PutWhole, LowBytes, WordInRange, AtRate};
 
 use crate::command::{
-    LOCATE_FIELD, LOCATE_TARGET, MOVE, MaybeCommand, NAMES, plain_name, word_command,
+    LOCATE_FIELD, LOCATE_TARGET, MOVE, NAMES, plain_name, word_command,
 };
 use crate::locate::{put_four, put_locate_bytes};
 use crate::numbers::{WrittenNumbers, written_numbers};
-use codes::{Checked, FinalByte, StandardTimeCode, TimeCodeStatus};
+use codes::{FinalByte, StandardTimeCode, TimeCodeStatus};
 use labels::{MtcTime, TimeCodeType};
 use mmc::{MmcCommand, Writer};
 use universal::put;
@@ -51,8 +51,8 @@ fn given_command(word: u64) -> MmcCommand
 {
     let said = word_command(word);
     match said {
-        MaybeCommand::NoCommand => refused_command(),
-        MaybeCommand::Command(command) => command,
+        None => refused_command(),
+        Some(command) => command,
     }
 }
 
@@ -73,7 +73,7 @@ fn put_rest(out: &mut [u8], words: &[u64], at: usize, from: usize) -> WrittenNum
     let mut w = Writer {
         at,
         items: from,
-        checked: Checked::Accepted,
+        checked: Ok(()),
     };
     let mut i = from;
     while i < words.len() {

@@ -9,7 +9,7 @@ ghost use Rattle.fast_mmc.specs.Clauses.{ShortWord};
 
 use crate::command::{LOCATE_FIELD, LOCATE_TARGET, MOVE, wide, with_bytes};
 use codes::TimeCodeStatus;
-use mmc::{Kind, NextParts, Part, PartsAnswer, next_parts};
+use mmc::{Kind, Part, next_parts};
 use universal::SysexError;
 
 // The case of a Write, whose data is told by its length.
@@ -214,10 +214,10 @@ fn prefixed_word(body: &[u8], place: usize) -> NextWord
     requires { (place < length body.now) × (get_or body.now place 0 ≡ 0) }
     ensures { result ≡ next_word (next_command body.now place) }
 {
-    let NextParts { answer, place } = next_parts(body, place, Kind::Commands);
+    let NextItem<ItemPlace> { answer, place } = next_parts(body, place, Kind::Commands);
     let word = match answer {
-        PartsAnswer::Found { name, data } => other_word(name, data),
-        PartsAnswer::Refused(e) => refusal_word(e),
+        Ok(ItemPlace { name, data }) => other_word(name, data),
+        Err(e) => refusal_word(e),
     };
     NextWord { word, place }
 }

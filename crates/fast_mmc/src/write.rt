@@ -4,20 +4,20 @@ ghost use Rattle.mmc.specs.Write.{writing_of};
 ghost use Rattle.fast_mmc.specs.Write.{checked_at, writer_of, flat_writer};
 
 use crate::refusal::flat_stop;
-use mmc::{Checked, Writer};
+use mmc::{Writer};
 use universal::SysexError;
 
 // A writer as one number: the position in the lowest four bytes, the items accepted in the next two, and in the byte above them the
 // first refusal, which it repeats. A refusal above 10 is taken as 10.
 pub type FlatWriter = u64;
 
-pub fn checked_at(refusal: u8, needed: usize) -> Checked
+pub fn checked_at(refusal: u8, needed: usize) -> Result<(), SysexError>
     ensures { result ≡ checked_at refusal needed }
 {
     if refusal == 0 {
-        return Checked::Accepted;
+        return Ok(());
     }
-    Checked::Refused(SysexError::of_number(refusal, needed))
+    Err(SysexError::of_number(refusal, needed))
 }
 
 pub fn writer_of(w: FlatWriter) -> Writer

@@ -8,7 +8,7 @@ ghost use Rattle.fast_mtc.specs.Generator.{direction_at, flat_direction, piece_a
 
 use crate::label::next_time;
 use crate::time::{FlatTime, flat_time, time_of};
-use mtc::{Direction, MaybePiece, MtcGenerator, MtcTime, QuarterFrame, TimeCodeType};
+use mtc::{Direction, MtcGenerator, MtcTime, QuarterFrame, TimeCodeType};
 
 // The places of a generator's record, after its label.
 const DIRECTION: usize = 5;
@@ -53,21 +53,21 @@ pub fn flat_direction(d: Direction) -> u8
     }
 }
 
-pub fn piece_at(n: u8) -> MaybePiece
+pub fn piece_at(n: u8) -> Option<u8>
     ensures { result ≡ piece_at n }
 {
     if n > 7 {
-        return MaybePiece::NoPiece;
+        return None;
     }
-    MaybePiece::Piece(n)
+    Some(n)
 }
 
-pub fn flat_piece(p: MaybePiece) -> u8
+pub fn flat_piece(p: Option<u8>) -> u8
     ensures { result ≡ flat_piece p }
 {
     match p {
-        MaybePiece::NoPiece => 255,
-        MaybePiece::Piece(n) => n,
+        None => 255,
+        Some(n) => n,
     }
 }
 

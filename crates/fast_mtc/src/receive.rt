@@ -1,9 +1,8 @@
 // A data byte received by the words. The order tells at once whether a piece is the next one of a sequence.
-ghost use Rattle.std.specs.Prelude.{◌≡◌, ◌+◌, ◌≤◌, ◌<◌, length, get_or};
+ghost use Rattle.std.specs.Prelude.{◌≡◌, ◌+◌, ◌≤◌, ◌<◌, length, get_or, Some, None};
 ghost use Rattle.mtc.specs.QuarterFrame.{piece_of, value_of};
 ghost use Rattle.mtc.specs.Reader.{after_byte, event_of};
 ghost use Rattle.mtc.specs.declared.generator.Direction.TheVariants.{Forward, Reverse};
-ghost use Rattle.mtc.specs.declared.reader.MaybeDirection.TheVariants.{NoDirection, Going};
 ghost use Rattle.fast_mtc.specs.Reader.{reader_in, flat_event};
 ghost use Rattle.fast_mtc.specs.Clauses.{Received, FirstKept, PassedPiece};
 
@@ -82,7 +81,7 @@ fn next_reverse(r: &mut [u32; 15], p: u32, byte: u8) -> u64
 // Forward only piece 0 begins a sequence.
 fn go_forward(r: &mut [u32; 15], p: u32, byte: u8) -> u64
     requires { (p ≤ 7) × FirstKept r.old }
-    ensures { PassedPiece (Going Forward) r.old p (value_of byte) result r.new }
+    ensures { PassedPiece (Some Forward) r.old p (value_of byte) result r.new }
 {
     if p != 0 {
         r[ORDER] = OUT_FORWARD + (p + 1) % 8;
@@ -96,7 +95,7 @@ fn go_forward(r: &mut [u32; 15], p: u32, byte: u8) -> u64
 // In reverse only piece 7 does.
 fn go_reverse(r: &mut [u32; 15], p: u32, byte: u8) -> u64
     requires { (p ≤ 7) × FirstKept r.old }
-    ensures { PassedPiece (Going Reverse) r.old p (value_of byte) result r.new }
+    ensures { PassedPiece (Some Reverse) r.old p (value_of byte) result r.new }
 {
     if p != 7 {
         r[ORDER] = OUT_REVERSE + (p + 7) % 8;
@@ -110,7 +109,7 @@ fn go_reverse(r: &mut [u32; 15], p: u32, byte: u8) -> u64
 // Without a direction either does.
 fn go_nowhere(r: &mut [u32; 15], p: u32, byte: u8) -> u64
     requires { (p ≤ 7) × FirstKept r.old }
-    ensures { PassedPiece NoDirection r.old p (value_of byte) result r.new }
+    ensures { PassedPiece None r.old p (value_of byte) result r.new }
 {
     if p == 0 {
         r[0] = byte as u32;

@@ -1,10 +1,8 @@
 // The end of a sequence, events and reports: an event is one number, and a report's labels stay in the reader's words.
-ghost use Rattle.std.specs.Prelude.{◌≡◌, true, ◌+◌, ◌*◌, ◌≤◌};
+ghost use Rattle.std.specs.Prelude.{◌≡◌, true, ◌+◌, ◌*◌, ◌≤◌, Some, None};
 ghost use Rattle.labels.specs.Time.{add_frames};
 ghost use Rattle.mtc.specs.Generator.{final};
 ghost use Rattle.mtc.specs.Reader.{raw_of, offset, jumps, sequence_of, event_with};
-ghost use Rattle.mtc.specs.declared.reader.MaybeDirection.TheVariants.{Going};
-ghost use Rattle.mtc.specs.declared.reader.MaybeSequence.TheVariants.{NoSequence, Sequence};
 ghost use Rattle.fast_mtc.specs.Time.{flat_time};
 ghost use Rattle.fast_mtc.specs.Reader.{bit_of, nibbles_in, reader_in, flat_report, flat_event, label_or, report_in, flat_maybe_sequence};
 ghost use Rattle.fast_mtc.specs.Clauses.{SequenceEnded, SteadyLabel, steady};
@@ -16,7 +14,7 @@ use crate::words::{
     LOCKED, PREVIOUS, PREVIOUS_MARK, TIME, TIME_MARK, has_words, label_word, previous, rate_mark,
     time,
 };
-use mtc::{Direction, MaybeSequence, MaybeTime, MtcEvent, MtcSequence, MtcTime, event, same};
+use mtc::{Direction, MtcEvent, MtcSequence, MtcTime, event, same};
 
 // The end of a full sequence: the label as it was assembled, the current one, the direction, and whether the assembled label does not
 // follow the one before it.
@@ -58,17 +56,17 @@ fn flat_event(e: MtcEvent) -> u64
     let sequence = e.sequence;
     let start = e.piece as u64 + bit_of(e.boundary) * 256;
     match sequence {
-        MaybeSequence::NoSequence => start,
-        MaybeSequence::Sequence(s) => start + flat_report(s) * 512,
+        None => start,
+        Some(s) => start + flat_report(s) * 512,
     }
 }
 
 // What a piece gives that ends no sequence.
 pub(crate) fn quiet(p: u32) -> u64
     requires { p ≤ 7 }
-    ensures { result ≡ flat_event (event_with p NoSequence) }
+    ensures { result ≡ flat_event (event_with p None) }
 {
-    flat_event(event(p as u8, MaybeSequence::NoSequence))
+    flat_event(event(p as u8, None))
 }
 
 // The report of a number and of the reader that it left.
@@ -98,12 +96,12 @@ pub fn report_in(words: [u32; 15], report: u64) -> FlatMaybeSequence
 }
 
 // A label, or all zeros.
-fn label_or(t: MaybeTime) -> FlatTime
+fn label_or(t: Option<MtcTime>) -> FlatTime
     ensures { result ≡ flat_time (label_or t) }
 {
     match t {
-        MaybeTime::NoTime => no_time(),
-        MaybeTime::Time(time) => flat_time(time),
+        None => no_time(),
+        Some(time) => flat_time(time),
     }
 }
 
@@ -123,7 +121,7 @@ fn raw_in(words: [u32; 15]) -> MtcTime
 
 // The end of a sequence, at its last piece.
 pub(crate) fn complete(r: &mut [u32; 15], direction: Direction) -> u64
-    requires { (reader_in r.old).direction ≡ Going direction }
+    requires { (reader_in r.old).direction ≡ Some direction }
     ensures { SequenceEnded (final direction) r.old result r.new }
 {
     let raw = raw_in(*r);
@@ -139,7 +137,7 @@ pub(crate) fn complete(r: &mut [u32; 15], direction: Direction) -> u64
 
 // The same of any label.
 fn complete_any(r: &mut [u32; 15], raw: MtcTime, direction: Direction) -> u64
-    requires { ((reader_in r.old).direction ≡ Going direction) × (raw ≡ raw_of (nibbles_in r.old)) }
+    requires { ((reader_in r.old).direction ≡ Some direction) × (raw ≡ raw_of (nibbles_in r.old)) }
     ensures { SequenceEnded (final direction) r.old result r.new }
 {
     let before = previous(*r);
@@ -166,7 +164,7 @@ fn keep(r: &mut [u32; 15], s: MtcSequence, direction: Direction) -> u64
     r[PREVIOUS] = label_word(raw);
     r[TIME_MARK] = rate_mark(after);
     r[TIME] = label_word(current);
-    flat_event(event(direction.last(), MaybeSequence::Sequence(s)))
+    flat_event(event(direction.last(), Some(s)))
 }
 
 // The current time of a label.
@@ -180,10 +178,10 @@ fn current(raw: MtcTime, direction: Direction) -> MtcTime
 }
 
 // There is a previous label, and a sequence further on it is not this one.
-fn jumps(previous: MaybeTime, direction: Direction, raw: MtcTime) -> bool
+fn jumps(previous: Option<MtcTime>, direction: Direction, raw: MtcTime) -> bool
     ensures { result ≡ jumps previous direction raw }
 {
-    let MaybeTime::Time(t) = previous else {
+    let Some(t) = previous else {
         return false;
     };
     match direction {

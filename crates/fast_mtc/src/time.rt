@@ -1,10 +1,10 @@
 // Labels, and the quarter frames of a label.
+ghost use Rattle.universal.specs.Refusals.{answer_of};
 ghost use Rattle.std.specs.Prelude.{◌≡◌};
-ghost use Rattle.labels.specs.Time.{new_time_of};
 ghost use Rattle.fast_mtc.specs.Refusal.{refusal_in};
 ghost use Rattle.fast_mtc.specs.Time.{time_of, time_at, time_numbered, flat_time, no_time, frame_of, flat_frame};
 
-use mtc::{MtcTime, NewTime, QuarterFrame, TimeCodeType};
+use mtc::{MtcTime, QuarterFrame, TimeCodeType};
 
 // A label. Rates: 0 is 24, 1 is 25, 2 is 30 drop-frame, 3 is 30 frames per second. Only the two low bits of a rate are read.
 #[repr(C)]
@@ -83,12 +83,12 @@ pub fn time_numbered(n: u64) -> FlatTime
     }
 }
 
-pub fn flat_new(answer: NewTime) -> u8
-    ensures { result ≡ refusal_in (new_time_of answer) }
+pub fn flat_new(answer: Result<MtcTime, SysexError>) -> u8
+    ensures { result ≡ refusal_in (answer_of answer) }
 {
     match answer {
-        NewTime::Valid(_) => 0,
-        NewTime::Refused(e) => e.number(),
+        Ok(_) => 0,
+        Err(e) => e.number(),
     }
 }
 

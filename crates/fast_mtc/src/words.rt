@@ -7,7 +7,7 @@ ghost use Rattle.fast_mtc.specs.Clauses.{StoppedOrder};
 
 use crate::generator::{flat_direction, flat_piece};
 use crate::time::{FlatTime, flat_time, no_time};
-use mtc::{Direction, MaybeDirection, MaybePiece, MaybeTime, MtcReader, MtcTime, TimeCodeType};
+use mtc::{Direction, MtcReader, MtcTime, TimeCodeType};
 
 // A time, where `present` is true. Where it is false the time is all zeros in an answer, and is not read in an argument.
 #[repr(C)]
@@ -63,55 +63,55 @@ pub(crate) fn has_words(words: [u32; 15])
 
 // ---- the order
 
-fn way_in(order: u32) -> MaybeDirection
+fn way_in(order: u32) -> Option<Direction>
     ensures { result ≡ way_in order }
 {
     if order < 8 {
-        return MaybeDirection::Going(Direction::Forward);
+        return Some(Direction::Forward);
     }
     if order < 16 {
-        return MaybeDirection::Going(Direction::Reverse);
+        return Some(Direction::Reverse);
     }
     if order < 24 {
-        return MaybeDirection::Going(Direction::Forward);
+        return Some(Direction::Forward);
     }
     if order < 32 {
-        return MaybeDirection::Going(Direction::Reverse);
+        return Some(Direction::Reverse);
     }
     if order == 42 {
-        return MaybeDirection::Going(Direction::Forward);
+        return Some(Direction::Forward);
     }
     if order == 43 {
-        return MaybeDirection::Going(Direction::Reverse);
+        return Some(Direction::Reverse);
     }
-    MaybeDirection::NoDirection
+    None
 }
 
-fn last_in(order: u32) -> MaybePiece
+fn last_in(order: u32) -> Option<u8>
     ensures { result ≡ last_in order }
 {
     if order < 8 {
-        return MaybePiece::Piece(((order + 7) % 8) as u8);
+        return Some(((order + 7) % 8) as u8);
     }
     if order < 16 {
-        return MaybePiece::Piece(((order + 1) % 8) as u8);
+        return Some(((order + 1) % 8) as u8);
     }
     if order < 24 {
-        return MaybePiece::Piece(((order + 7) % 8) as u8);
+        return Some(((order + 7) % 8) as u8);
     }
     if order < 32 {
-        return MaybePiece::Piece(((order + 1) % 8) as u8);
+        return Some(((order + 1) % 8) as u8);
     }
     if order < 40 {
-        return MaybePiece::Piece((order % 8) as u8);
+        return Some((order % 8) as u8);
     }
     if order == 40 {
-        return MaybePiece::Piece(0);
+        return Some(0);
     }
     if order == 41 {
-        return MaybePiece::Piece(7);
+        return Some(7);
     }
-    MaybePiece::NoPiece
+    None
 }
 
 fn count_in(order: u32) -> u8
@@ -164,13 +164,13 @@ fn label_in(rate: TimeCodeType, w: u32) -> MtcTime
     }
 }
 
-pub(crate) fn time_in(mark: u32, w: u32) -> MaybeTime
+pub(crate) fn time_in(mark: u32, w: u32) -> Option<MtcTime>
     ensures { result ≡ time_in mark w }
 {
     if mark % 2 == 0 {
-        return MaybeTime::NoTime;
+        return None;
     }
-    MaybeTime::Time(label_in(TimeCodeType::from_bits((mark / 2 % 4) as u8), w))
+    Some(label_in(TimeCodeType::from_bits((mark / 2 % 4) as u8), w))
 }
 
 // The word of a label, a byte for each number.
@@ -187,24 +187,24 @@ pub fn rate_mark(rate: TimeCodeType) -> u32
     1 + 2 * rate.into_bits() as u32
 }
 
-pub fn flat_way(d: MaybeDirection) -> u8
+pub fn flat_way(d: Option<Direction>) -> u8
     ensures { result ≡ flat_way d }
 {
     match d {
-        MaybeDirection::NoDirection => 255,
-        MaybeDirection::Going(d) => flat_direction(d),
+        None => 255,
+        Some(d) => flat_direction(d),
     }
 }
 
-pub fn flat_maybe_time(t: MaybeTime) -> FlatMaybeTime
+pub fn flat_maybe_time(t: Option<MtcTime>) -> FlatMaybeTime
     ensures { result ≡ flat_maybe_time t }
 {
     match t {
-        MaybeTime::NoTime => FlatMaybeTime {
+        None => FlatMaybeTime {
             present: false,
             time: no_time(),
         },
-        MaybeTime::Time(time) => FlatMaybeTime {
+        Some(time) => FlatMaybeTime {
             present: true,
             time: flat_time(time),
         },
@@ -225,19 +225,19 @@ pub fn is_running(words: [u32; 15]) -> bool
     words[ORDER] < 42
 }
 
-pub fn direction(words: [u32; 15]) -> MaybeDirection
+pub fn direction(words: [u32; 15]) -> Option<Direction>
     ensures { result ≡ (reader_in words).direction }
 {
     way_in(words[ORDER])
 }
 
-pub fn previous(words: [u32; 15]) -> MaybeTime
+pub fn previous(words: [u32; 15]) -> Option<MtcTime>
     ensures { result ≡ (reader_in words).previous }
 {
     time_in(words[PREVIOUS_MARK], words[PREVIOUS])
 }
 
-pub fn time(words: [u32; 15]) -> MaybeTime
+pub fn time(words: [u32; 15]) -> Option<MtcTime>
     ensures { result ≡ (reader_in words).time }
 {
     time_in(words[TIME_MARK], words[TIME])
@@ -311,7 +311,7 @@ fn stopped(order: u32) -> u32
     ensures { StoppedOrder order result }
 {
     let way = way_in(order);
-    let MaybeDirection::Going(d) = way else {
+    let Some(d) = way else {
         return 44;
     };
     match d {

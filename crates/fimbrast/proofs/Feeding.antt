@@ -1,4 +1,5 @@
 -- A list of quarter frames, byte by byte, and what its counts mean. Assumes nothing.
+use Rattle.std.specs.Prelude.{Option, Some, None}
 use Prim.Native.Nat.{ℕ, ◌+◌, ◌/◌, ◌≤◌, ◌<◌}
 use mathlib.Core.Path.{◌≡◌, refl, sym, subst, ap, ap₂, ◌∙◌}
 use mathlib.Core.Bool.{Bool, true, false, cond}
@@ -16,8 +17,6 @@ use Rattle.mtc.proofs.Laws.{Sound, as_is, byte_sound, report_labels, calls_none,
 use Rattle.mtc.specs.QuarterFrame.{piece_of}
 use Rattle.mtc.specs.Reader.{ReportLabels, after_byte, event_of}
 use Rattle.mtc.specs.Stream.{byte, after_calls, events}
-use Rattle.mtc.specs.declared.reader.MaybeSequence.{MaybeSequence}
-use Rattle.mtc.specs.declared.reader.MaybeSequence.TheVariants.{NoSequence, Sequence}
 use Rattle.mtc.specs.declared.reader.MtcReader.{MtcReader}
 
 -- ---- the loop
@@ -35,15 +34,15 @@ at_most_one : (b : Bool) → cond b 1 0 ≤ 1
 at_most_one true = lit≤ tt
 at_most_one false = lit≤ tt
 
-counted_reports : (f : Fed) (r : MtcReader) (s : MaybeSequence) → (fed_after f r s).reports ≤ f.reports + 1
+counted_reports : (f : Fed) (r : MtcReader) (s : Option MtcSequence) → (fed_after f r s).reports ≤ f.reports + 1
 unfolding fed_after
-counted_reports f r NoSequence = omega arith
-counted_reports f r (Sequence s) = omega arith
+counted_reports f r None = omega arith
+counted_reports f r (Some s) = omega arith
 
-counted_jumps : (f : Fed) (r : MtcReader) (s : MaybeSequence) → (fed_after f r s).discontinuities ≤ f.discontinuities + 1
+counted_jumps : (f : Fed) (r : MtcReader) (s : Option MtcSequence) → (fed_after f r s).discontinuities ≤ f.discontinuities + 1
 unfolding fed_after
-counted_jumps f r NoSequence = omega arith
-counted_jumps f r (Sequence s) = let h : cond s.discontinuity 1 0 ≤ 1 = at_most_one s.discontinuity in omega arith
+counted_jumps f r None = omega arith
+counted_jumps f r (Some s) = let h : cond s.discontinuity 1 0 ≤ 1 = at_most_one s.discontinuity in omega arith
 
 fed_reports : (f : Fed) (b : ℕ) → (fed_by f b).reports ≤ f.reports + 1
 unfolding fed_by
@@ -54,30 +53,30 @@ unfolding fed_by
 fed_jumps f b = counted_jumps f (after_byte f.reader b) (event_of f.reader b).sequence
 
 module _ (f : Fed) (r : MtcReader) where
-  counted_reader : (s : MaybeSequence) → (fed_after f r s).reader ≡ r
+  counted_reader : (s : Option MtcSequence) → (fed_after f r s).reader ≡ r
   unfolding fed_after
-  counted_reader NoSequence = refl
-  counted_reader (Sequence s) = refl
+  counted_reader None = refl
+  counted_reader (Some s) = refl
 
-  counted_one : (s : MaybeSequence) → (fed_after f r s).reports ≡ f.reports + reports_in s
+  counted_one : (s : Option MtcSequence) → (fed_after f r s).reports ≡ f.reports + reports_in s
   unfolding fed_after
-  counted_one NoSequence = omega arith
-  counted_one (Sequence s) = refl
+  counted_one None = omega arith
+  counted_one (Some s) = refl
 
-  counted_jump : (s : MaybeSequence) → (fed_after f r s).discontinuities ≡ f.discontinuities + jump s
+  counted_jump : (s : Option MtcSequence) → (fed_after f r s).discontinuities ≡ f.discontinuities + jump s
   unfolding fed_after
-  counted_jump NoSequence = omega arith
-  counted_jump (Sequence s) = refl
+  counted_jump None = omega arith
+  counted_jump (Some s) = refl
 
-  counted_last : (s : MaybeSequence) → (fed_after f r s).last ≡ later_report f.last s
+  counted_last : (s : Option MtcSequence) → (fed_after f r s).last ≡ later_report f.last s
   unfolding fed_after
-  counted_last NoSequence = refl
-  counted_last (Sequence s) = refl
+  counted_last None = refl
+  counted_last (Some s) = refl
 
-flat_counted_lem : (f : Fed) (r : MtcReader) (s : MaybeSequence) → flat_counted (flat_fed f) (flat_report s) ≡ flat_fed (fed_after f r s)
+flat_counted_lem : (f : Fed) (r : MtcReader) (s : Option MtcSequence) → flat_counted (flat_fed f) (flat_report s) ≡ flat_fed (fed_after f r s)
 unfolding flat_counted flat_fed fed_after
-flat_counted_lem f r NoSequence = rw none_reported
-flat_counted_lem f r (Sequence s) = rw (some_reported s, jump_reported s)
+flat_counted_lem f r None = rw none_reported
+flat_counted_lem f r (Some s) = rw (some_reported s, jump_reported s)
 
 -- After i bytes: the counts and the reader's words stand for a state from which the rest gives what all bytes give.
 pub record FedSoFar (r₀ : MtcReader) (bs rs : List ℕ) (f : FlatFed) (i : ℕ) : Type 0 where
@@ -142,19 +141,19 @@ record CountsFrom (f : Fed) (bs : List ℕ) : Type 0 where
   last : (fed_all f bs).last ≡ last_report f.last (events f.reader bs)
 
 -- The last report is whole in its number and the reader, after a byte and after all.
-abbrev ReportWhole : MaybeSequence → MtcReader → Type 0
+abbrev ReportWhole : Option MtcSequence → MtcReader → Type 0
 ReportWhole m r = report_in r (flat_report m) ≡ m
 
-whole_later : (before left : MtcReader) (m s : MaybeSequence) → ReportLabels s before left → ReportWhole m before → ReportWhole (later_report m s) left
-whole_later before left m (Sequence s) h w = report_back (Sequence s) before left h
-whole_later before left NoSequence NoSequence h w = report_back NoSequence before left h
-whole_later before left (Sequence m) NoSequence h w = kept_back m before left h w
+whole_later : (before left : MtcReader) (m s : Option MtcSequence) → ReportLabels s before left → ReportWhole m before → ReportWhole (later_report m s) left
+whole_later before left m (Some s) h w = report_back (Some s) before left h
+whole_later before left None None h w = report_back None before left h
+whole_later before left (Some m) None h w = kept_back m before left h w
 
 whole_from : (f : Fed) → Sound f.reader → (bs : List ℕ) → ReportWhole f.last f.reader → ReportWhole (fed_all f bs).last (fed_all f bs).reader
 unfolding fed_all fed_by
 whole_from f s [] w = w
 whole_from f s (b ∷ bs) w =
-    let e : MaybeSequence = (event_of f.reader b).sequence in
+    let e : Option MtcSequence = (event_of f.reader b).sequence in
     let q : (fed_by f b).reader ≡ after_byte f.reader b = counted_reader f (after_byte f.reader b) e in
     let l : (fed_by f b).last ≡ later_report f.last e = counted_last f (after_byte f.reader b) e in
     let h : ReportLabels e f.reader (after_byte f.reader b)
@@ -197,5 +196,5 @@ feeds r sound bs =
       reports = i.reports ∙ omega arith;
       discontinuities = i.discontinuities ∙ omega arith;
       last = i.last;
-      labels = whole_from (unfed r) sound bs (report_back NoSequence r r (refl, refl));
+      labels = whole_from (unfed r) sound bs (report_back None r r (refl, refl));
     }

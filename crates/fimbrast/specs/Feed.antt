@@ -1,13 +1,11 @@
 -- What a list of quarter frames leaves in a reader, and what it reports: as the code counts it, and what the counts mean. Assumes
 -- nothing.
-use Rattle.std.specs.Prelude.{ℕ, ◌+◌, ◌/◌, ◌%◌, cond, List, [], ◌∷◌, map, ◌≡◌}
+use Rattle.std.specs.Prelude.{ℕ, ◌+◌, ◌/◌, ◌%◌, cond, List, [], ◌∷◌, map, ◌≡◌, Option, Some, None}
 use Rattle.fast_mtc.specs.Generator.{is_set}
 use Rattle.fast_mtc.specs.Reader.{flat_report, report_in}
 use Rattle.fimbrast.specs.declared.feed.FlatFed.{FlatFed}
 use Rattle.mtc.specs.Reader.{after_byte, event_of}
 use Rattle.mtc.specs.Stream.{byte, after_calls, events}
-use Rattle.mtc.specs.declared.reader.MaybeSequence.{MaybeSequence}
-use Rattle.mtc.specs.declared.reader.MaybeSequence.TheVariants.{NoSequence, Sequence}
 use Rattle.mtc.specs.declared.reader.MtcEvent.{MtcEvent}
 use Rattle.mtc.specs.declared.reader.MtcReader.{MtcReader}
 
@@ -18,21 +16,21 @@ pub record Fed : Type 0 where
   pub reader : MtcReader
   pub reports : ℕ
   pub discontinuities : ℕ
-  pub last : MaybeSequence
+  pub last : Option MtcSequence
 
 -- A reader that got nothing yet.
 abbrev pub unfed : MtcReader → Fed
-unfed r = record { reader = r; reports = 0; discontinuities = 0; last = NoSequence }
+unfed r = record { reader = r; reports = 0; discontinuities = 0; last = None }
 
 -- A byte left this reader, and reported this.
-unfoldable pub fed_after : Fed → MtcReader → MaybeSequence → Fed
-fed_after f r NoSequence = record { reader = r; reports = f.reports; discontinuities = f.discontinuities; last = f.last }
-fed_after f r (Sequence s) =
+unfoldable pub fed_after : Fed → MtcReader → Option MtcSequence → Fed
+fed_after f r None = record { reader = r; reports = f.reports; discontinuities = f.discontinuities; last = f.last }
+fed_after f r (Some s) =
     record {
       reader = r;
       reports = f.reports + 1;
       discontinuities = f.discontinuities + cond s.discontinuity 1 0;
-      last = Sequence s;
+      last = Some s;
     }
 
 unfoldable pub fed_by : Fed → ℕ → Fed
@@ -62,27 +60,27 @@ flat_counted f s =
 -- ---- what it means
 
 -- 1 for a report.
-abbrev pub reports_in : MaybeSequence → ℕ
-reports_in NoSequence = 0
-reports_in (Sequence s) = 1
+abbrev pub reports_in : Option MtcSequence → ℕ
+reports_in None = 0
+reports_in (Some s) = 1
 
 -- 1 for a report with a discontinuity.
-abbrev pub jump : MaybeSequence → ℕ
-jump NoSequence = 0
-jump (Sequence s) = cond s.discontinuity 1 0
+abbrev pub jump : Option MtcSequence → ℕ
+jump None = 0
+jump (Some s) = cond s.discontinuity 1 0
 
 -- The later of two reports, where it is one.
-abbrev pub later_report : MaybeSequence → MaybeSequence → MaybeSequence
-later_report l NoSequence = l
-later_report l (Sequence s) = Sequence s
+abbrev pub later_report : Option MtcSequence → Option MtcSequence → Option MtcSequence
+later_report l None = l
+later_report l (Some s) = Some s
 
 -- A number for each event, summed.
-unfoldable pub total : (MaybeSequence → ℕ) → List MtcEvent → ℕ
+unfoldable pub total : (Option MtcSequence → ℕ) → List MtcEvent → ℕ
 total n [] = 0
 total n (e ∷ es) = n e.sequence + total n es
 
 -- The last report among events, or the one before them.
-unfoldable pub last_report : MaybeSequence → List MtcEvent → MaybeSequence
+unfoldable pub last_report : Option MtcSequence → List MtcEvent → Option MtcSequence
 last_report l [] = l
 last_report l (e ∷ es) = last_report (later_report l e.sequence) es
 
@@ -92,5 +90,5 @@ pub record Feeds (r : MtcReader) (bs : List ℕ) : Type 0 where
   pub reader : (fed r bs).reader ≡ after_calls r (map byte bs)
   pub reports : (fed r bs).reports ≡ total reports_in (events r bs)
   pub discontinuities : (fed r bs).discontinuities ≡ total jump (events r bs)
-  pub last : (fed r bs).last ≡ last_report NoSequence (events r bs)
+  pub last : (fed r bs).last ≡ last_report None (events r bs)
   pub labels : report_in (fed r bs).reader (flat_report (fed r bs).last) ≡ (fed r bs).last

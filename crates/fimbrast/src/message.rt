@@ -19,7 +19,7 @@ use fast_mmc::{WrittenNumbers, written_numbers};
 use fast_mtc::time::{FlatTime, time_of};
 use mmc::MmcMessage;
 use mtc::{FullMessage, UserBits};
-use universal::{MaybeSubId2, Universal};
+use universal::{Universal};
 
 // `addressed`: a message for `device_id` is for the device `own`.
 pub fn fimbrast_addressed(device_id: u8, own: u8) -> bool
@@ -105,7 +105,7 @@ pub fn fimbrast_mmc_kind(real_time: bool, sub_id1: u8, data: &[u8]) -> u8
         real_time,
         device_id: 0,
         sub_id1,
-        sub_id2: MaybeSubId2::NoSubId2,
+        sub_id2: None,
     };
     mmc_kind(MmcMessage::from_universal(parts, data))
 }

@@ -3,28 +3,28 @@ use crate::strings::target;
 use crate::tally::{Tally, case, none, same_bytes};
 use crate::times::label;
 use mmc::{
-    CommandAnswer, FinalByte, MmcCommand, StandardTimeCode, Writer, next_command, open_commands,
+    FinalByte, MmcCommand, StandardTimeCode, Writer, next_command, open_commands,
 };
-use universal::{SysexError, Written};
+use universal::{SysexError};
 
-pub(crate) fn is_length(written: Written, length: usize) -> bool {
+pub(crate) fn is_length(written: Result<usize, SysexError>, length: usize) -> bool {
     match written {
-        Written::Length(n) => n == length,
-        Written::Refused(_) => false,
+        Ok(n) => n == length,
+        Err(_) => false,
     }
 }
 
-fn is_refused(written: Written, by: u8) -> bool {
+fn is_refused(written: Result<usize, SysexError>, by: u8) -> bool {
     match written {
-        Written::Length(_) => false,
-        Written::Refused(e) => e.number() == by,
+        Ok(_) => false,
+        Err(e) => e.number() == by,
     }
 }
 
-fn needs(written: Written, length: usize) -> bool {
+fn needs(written: Result<usize, SysexError>, length: usize) -> bool {
     match written {
-        Written::Length(_) => false,
-        Written::Refused(e) => match e {
+        Ok(_) => false,
+        Err(e) => match e {
             SysexError::BufferTooSmall { needed } => needed == length,
             _ => false,
         },
@@ -32,7 +32,7 @@ fn needs(written: Written, length: usize) -> bool {
 }
 
 // Locate 01:00:00:00 at 25 and Play, to all devices.
-fn locate_play(out: &mut [u8]) -> Written {
+fn locate_play(out: &mut [u8]) -> Result<usize, SysexError> {
     let opened = open_commands(out, 0x7F);
     let located = opened.put_command(out, b"", target(label(1, 0, 0, 0, 1), false));
     let one = located.writer;
@@ -67,12 +67,12 @@ fn stop(writer: Writer, out: &mut [u8; 64]) -> Writer {
     wrote.writer
 }
 
-fn finish(writer: Writer, out: &mut [u8; 64]) -> Written {
+fn finish(writer: Writer, out: &mut [u8; 64]) -> Result<usize, SysexError> {
     writer.close_message(out)
 }
 
 // So many Stops.
-fn stops(count: usize) -> Written {
+fn stops(count: usize) -> Result<usize, SysexError> {
     let mut out = [0xEEu8; 64];
     let mut writer = open_commands(&mut out, 0);
     let mut i: usize = 0;
@@ -88,8 +88,8 @@ fn refusal_at(body: &[u8], place: usize) -> u8 {
     let next = next_command(body, place);
     let answer = next.answer;
     match answer {
-        CommandAnswer::Command(_) => 0,
-        CommandAnswer::Refused(e) => e.number(),
+        Ok(_) => 0,
+        Err(e) => e.number(),
     }
 }
 
@@ -102,16 +102,16 @@ fn field_seven() -> bool {
     let next = next_command(b"\x44\x02\x00\x07", 0);
     let answer = next.answer;
     match answer {
-        CommandAnswer::Command(command) => match command {
+        Ok(command) => match command {
             MmcCommand::LocateField { register } => register == 7,
             _ => false,
         },
-        CommandAnswer::Refused(_) => false,
+        Err(_) => false,
     }
 }
 
 // A string of one command.
-fn alone(out: &mut [u8], command: MmcCommand) -> Written {
+fn alone(out: &mut [u8], command: MmcCommand) -> Result<usize, SysexError> {
     let opened = open_commands(out, 0x7F);
     let wrote = opened.put_command(out, b"", command);
     let writer = wrote.writer;

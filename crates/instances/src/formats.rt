@@ -5,10 +5,9 @@ use crate::strings::target;
 use crate::tally::{Tally, case, none, same_bytes};
 use crate::times::label;
 use mmc::{
-    CommandAnswer, FieldAnswer, FinalByte, InfoField, MmcCommand, Part, ShortTimeCode,
+    FinalByte, InfoField, MmcCommand, Part, ShortTimeCode,
     StandardTimeCode, TimeCodeStatus, next_command, next_field, open_commands, open_responses,
 };
-use universal::Written;
 
 // The buffer begins with these bytes.
 fn begins(out: &[u8], bytes: &[u8]) -> bool {
@@ -36,8 +35,8 @@ fn is_read_command(body: &[u8], message: &[u8]) -> bool {
         return false;
     }
     match answer {
-        CommandAnswer::Command(command) => is_command(command, body, message),
-        CommandAnswer::Refused(_) => false,
+        Ok(command) => is_command(command, body, message),
+        Err(_) => false,
     }
 }
 
@@ -58,8 +57,8 @@ fn is_read_field(body: &[u8], message: &[u8]) -> bool {
         return false;
     }
     match answer {
-        FieldAnswer::Field(field) => is_field(field, message),
-        FieldAnswer::Refused(_) => false,
+        Ok(field) => is_field(field, message),
+        Err(_) => false,
     }
 }
 

@@ -3,10 +3,9 @@ use crate::reader::give_byte;
 use crate::tally::{Tally, case, none, same_bytes};
 use crate::times::{label, same};
 use mtc::{
-    Direction, FullMessage, MaybeSequence, MaybeTime, MtcGenerator, MtcReader, QuarterFrame,
+    Direction, FullMessage, MtcGenerator, MtcReader, QuarterFrame,
     UserBits,
 };
-use universal::Written;
 
 // The eight data bytes of 01:37:52:16 at rate 3.
 const PIECES: [u8; 8] = [0x00, 0x11, 0x24, 0x33, 0x45, 0x52, 0x61, 0x76];
@@ -46,16 +45,16 @@ fn reverse(last: usize) -> MtcReader {
 // The current time of a reader is 01:37:52 and these frames.
 fn current_is(reader: MtcReader, frames: u8) -> bool {
     match reader.time() {
-        MaybeTime::NoTime => false,
-        MaybeTime::Time(time) => same(time, label(1, 37, 52, frames, 3)),
+        None => false,
+        Some(time) => same(time, label(1, 37, 52, frames, 3)),
     }
 }
 
 // The answer to the byte of this number: a report at the sixteenth alone, whose raw time is 01:37:52:18 and current 01:37:52:20.
-fn sixteenth_only(number: u8, sequence: MaybeSequence) -> bool {
+fn sixteenth_only(number: u8, sequence: Option<MtcSequence>) -> bool {
     match sequence {
-        MaybeSequence::NoSequence => number != 16,
-        MaybeSequence::Sequence(report) => {
+        None => number != 16,
+        Some(report) => {
             let raw = report.raw;
             let current = report.current;
             number == 16
@@ -77,8 +76,8 @@ fn late() -> bool {
         generator = sent.generator;
         let byte = sent.byte;
         let x = match byte {
-            mtc::NextByte::Byte(x) => x,
-            mtc::NextByte::Refused(_) => return false,
+            mtc::Ok(x) => x,
+            mtc::Err(_) => return false,
         };
         let given = give_byte(reader, x);
         reader = given.reader;
@@ -99,8 +98,8 @@ fn first_reports() -> bool {
     let event = given.event;
     let sequence = event.sequence;
     match sequence {
-        MaybeSequence::NoSequence => false,
-        MaybeSequence::Sequence(_) => true,
+        None => false,
+        Some(_) => true,
     }
 }
 
@@ -111,10 +110,10 @@ fn full_message() -> bool {
         time: label(1, 37, 52, 16, 3),
     };
     match message.write(&mut out) {
-        Written::Length(length) => {
+        Ok(length) => {
             length == 10 && same_bytes(&out, b"\xF0\x7F\x7F\x01\x01\x61\x25\x34\x10\xF7")
         }
-        Written::Refused(_) => false,
+        Err(_) => false,
     }
 }
 

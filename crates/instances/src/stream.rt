@@ -2,7 +2,7 @@
 use crate::reader::{give_byte, give_message};
 use crate::times::{label, same};
 use mtc::{
-    Direction, FullMessage, MaybeSequence, MtcEvent, MtcGenerator, MtcReader, MtcTime, NextByte,
+    Direction, FullMessage, MtcEvent, MtcGenerator, MtcReader, MtcTime,
 };
 
 // A reader, the pieces of its last seven bytes (three bits each) and how many bytes came since the last full message, to seven.
@@ -81,13 +81,13 @@ fn shifted(time: MtcTime, direction: Direction, forward: i32, reverse: i32) -> M
 fn right(number: u8, event: MtcEvent, time: MtcTime, direction: Direction, first: bool) -> bool {
     let sequence = event.sequence;
     match sequence {
-        MaybeSequence::NoSequence => {
+        None => {
             if number == 16 {
                 return false;
             }
             number != 24
         }
-        MaybeSequence::Sequence(report) => {
+        Some(report) => {
             let raw = report.raw;
             let current = report.current;
             match number {
@@ -128,12 +128,12 @@ fn next_turn(
     let after = sent.generator;
     let byte = sent.byte;
     match byte {
-        NextByte::Refused(_) => Turn {
+        Err(_) => Turn {
             generator: after,
             reader,
             right: false,
         },
-        NextByte::Byte(x) => {
+        Ok(x) => {
             let given = give_byte(reader, x);
             let left = given.reader;
             let event = given.event;

@@ -1,11 +1,11 @@
 // Strings that end in Locate to T and Play: written, read back and applied.
 use mmc::{
-    FinalByte, MmcCommand, MmcMessage, Part, ReadMmcMessage, StandardTimeCode, Writer,
+    FinalByte, MmcCommand, MmcMessage, Part, StandardTimeCode, Writer,
     open_commands,
 };
 use mtc::{MtcGenerator, MtcTime};
 use transport::obey;
-use universal::{MaybeSubId2, Universal, Written};
+use universal::{Universal};
 
 // A target with subframes 0.
 pub(crate) fn target(time: MtcTime, blank: bool) -> MmcCommand {
@@ -64,8 +64,8 @@ pub(crate) fn write(out: &mut [u8; 64], device_id: u8, number: u64, time: MtcTim
     let located = give(two, out, target(time, false));
     let played = give(located, out, MmcCommand::Play);
     match played.close_message(out) {
-        Written::Length(length) => length,
-        Written::Refused(_) => 0,
+        Ok(length) => length,
+        Err(_) => 0,
     }
 }
 
@@ -83,18 +83,18 @@ fn read_back(out: &[u8], length: usize, own: u8, generator: MtcGenerator) -> Mtc
         real_time: true,
         device_id: out[2],
         sub_id1: out[3],
-        sub_id2: MaybeSubId2::NoSubId2,
+        sub_id2: None,
     };
     match MmcMessage::from_universal(parts, body) {
-        ReadMmcMessage::Message(message) => match message {
+        Ok(Some(message)) => match message {
             MmcMessage::Commands { device_id } => {
                 let run = obey(generator, device_id, own, body);
                 run.generator
             }
             MmcMessage::Responses { device_id: _ } => generator,
         },
-        ReadMmcMessage::NotThis => generator,
-        ReadMmcMessage::Refused(_) => generator,
+        Ok(None) => generator,
+        Err(_) => generator,
     }
 }
 

@@ -1,6 +1,6 @@
 // Labels: moves, counts, days and refusals that document 01 and ST 12-1 name.
 use crate::tally::{Tally, case, none};
-use mtc::{MtcTime, NewTime, TimeCodeType};
+use mtc::{MtcTime, TimeCodeType};
 
 // A label, whose rate is given by its two bits.
 pub(crate) fn label(hours: u8, minutes: u8, seconds: u8, frames: u8, rate: u8) -> MtcTime {
@@ -40,8 +40,8 @@ fn refused(hours: u8, minutes: u8, seconds: u8, frames: u8, rate: u8) -> bool {
         frames,
         TimeCodeType::from_bits(rate),
     ) {
-        NewTime::Valid(_) => false,
-        NewTime::Refused(_) => true,
+        Ok(_) => false,
+        Err(_) => true,
     }
 }
 

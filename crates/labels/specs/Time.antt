@@ -1,12 +1,11 @@
 -- What mtc.rs does with labels, on every input: one definition for each public call of src/time.rt. Assumes nothing.
-use Rattle.std.specs.Prelude.{ℕ, ◌+◌, ◌-◌, ◌*◌, ◌/◌, ◌%◌, ◌≤◌, ◌<◌, ◌≡◌, false, cond, ℤ, pos, negsuc, eqb}
+use Rattle.universal.specs.declared.error.SysexError.{SysexError}
+use Rattle.std.specs.Prelude.{ℕ, ◌+◌, ◌-◌, ◌*◌, ◌/◌, ◌%◌, ◌≤◌, ◌<◌, ◌≡◌, false, cond, ℤ, pos, negsuc, eqb, Result}
 use Rattle.labels.specs.St12.{label, frames_per_second, is_skipped, is_valid, past_skipped}
 use Rattle.labels.specs.declared.time.MtcTime.{MtcTime}
-use Rattle.labels.specs.declared.time.NewTime.{NewTime}
-use Rattle.labels.specs.declared.time.NewTime.TheVariants.{Valid, Refused}
 use Rattle.labels.specs.declared.time.TimeCodeType.{TimeCodeType}
 use Rattle.labels.specs.declared.time.TimeCodeType.TheVariants.{Fps24, Fps25, Fps30Drop, Fps30}
-use Rattle.universal.specs.Refusals.{Answer, gives, refused, refusal, refusal_of}
+use Rattle.universal.specs.Refusals.{Answer, gives, refused, refusal, refusal_of, answer_of}
 
 -- ---- the rate's two bits
 
@@ -26,9 +25,9 @@ type_of byte = rate_at (byte % 4)
 -- ---- making a label
 
 -- The label, or the refusal.
-abbrev pub new_time_of : NewTime → Answer MtcTime
-new_time_of (Valid t) = gives t
-new_time_of (Refused e) = refused (refusal_of e)
+abbrev pub answer_of : Result MtcTime SysexError → Answer MtcTime
+answer_of (Valid t) = gives t
+answer_of (Refused e) = refused (refusal_of e)
 
 abbrev pub new_time : MtcTime → Answer MtcTime
 new_time t = cond (is_valid t) (gives t) (refused (refusal 3))

@@ -3,4 +3,4 @@
 
 mod time;
 
-pub use time::{MtcTime, NewTime, TimeCodeType};
+pub use time::{MtcTime, TimeCodeType};

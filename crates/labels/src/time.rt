@@ -1,8 +1,9 @@
 // Labels: hours, minutes, seconds and frames at one of four rates, with the frame arithmetic of SMPTE ST 12-1. At 30
 // drop-frame the frame numbers 00 and 01 are skipped at the start of each minute except 00, 10, 20, 30, 40 and 50.
+ghost use Rattle.universal.specs.Refusals.{answer_of};
 ghost use Rattle.std.specs.Prelude.{◌≡◌, ◌<◌};
 ghost use Rattle.labels.specs.St12.{label, frames_per_second, is_drop_frame, is_valid, is_skipped};
-ghost use Rattle.labels.specs.Time.{day_of, bits_of, type_of, new_time_of, new_time, next_valid, frame_count, label_at, add_frames, raw_time, hours_byte, mod_z, label_at_second, with_skipped};
+ghost use Rattle.labels.specs.Time.{day_of, bits_of, type_of, new_time, next_valid, frame_count, label_at, add_frames, raw_time, hours_byte, mod_z, label_at_second, with_skipped};
 
 use universal::SysexError;
 
@@ -105,13 +106,6 @@ pub struct MtcTime {
     pub rate: TimeCodeType,
 }
 
-// The answer of `MtcTime::new`: the label, or refusal 3.
-#[derive(Clone, Copy)]
-pub enum NewTime {
-    Valid(MtcTime),
-    Refused(SysexError),
-}
-
 // A signed distance modulo a day. `-1 - delta` is in range for every negative distance.
 fn reduced(delta: i32, day: u32) -> u32
     requires { 0 < day }
@@ -179,8 +173,8 @@ fn starts_dropped(minutes: u8, seconds: u8, frames: u8) -> bool
 
 impl MtcTime {
     // The label, or refusal 3 for one that is not valid.
-    pub fn new(hours: u8, minutes: u8, seconds: u8, frames: u8, rate: TimeCodeType) -> NewTime
-        ensures { new_time_of result ≡ new_time (label rate hours minutes seconds frames) }
+    pub fn new(hours: u8, minutes: u8, seconds: u8, frames: u8, rate: TimeCodeType) -> Result<MtcTime, SysexError>
+        ensures { answer_of result ≡ new_time (label rate hours minutes seconds frames) }
     {
         let t = MtcTime {
             hours,
@@ -190,9 +184,9 @@ impl MtcTime {
             rate,
         };
         if t.is_valid() {
-            return NewTime::Valid(t);
+            return Ok(t);
         }
-        NewTime::Refused(SysexError::OutOfRange)
+        Err(SysexError::OutOfRange)
     }
 
     // True when each count is in its range and the frame number is not skipped.

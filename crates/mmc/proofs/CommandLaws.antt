@@ -1,10 +1,10 @@
 -- The laws of what commands and fields mean by the pages of RP-013: the page's bytes are written from the page's command or field and
 -- read as it; and what exactly is written and read, which is more than the page has. Assumes nothing.
+use Rattle.std.specs.Prelude.{None}
 use Prim.Native.Nat.{ℕ}
 use mathlib.Core.Path.{◌≡◌}
 use mathlib.Core.Logic.{◌↔◌, ◌≢◌}
 use mathlib.Core.List.{List, ◌++◌}
-use mathlib.Core.Option.{none}
 use lib.ListN.{length}
 use Rattle.mmc.specs.declared.command.MmcCommand.{MmcCommand}
 use Rattle.mmc.specs.declared.field.InfoField.{InfoField}
@@ -50,9 +50,9 @@ pub field_read_exactly : (k : FieldCase) (name d : List ℕ) → ((read_field na
 field_read_exactly = reading.field_read_exactly
 
 -- A command is accepted exactly where it is said that it may be written.
-pub command_written_exactly : (source : List ℕ) (c : MmcCommand) → ((command_item source c).stop ≡ none) ↔ Writes source c
+pub command_written_exactly : (source : List ℕ) (c : MmcCommand) → ((command_item source c).stop ≡ None) ↔ Writes source c
 command_written_exactly = writing.command_written_exactly
 
 -- A field is accepted exactly where it is said that it may be written.
-pub field_written_exactly : (source : List ℕ) (x : InfoField) → ((field_item source x).stop ≡ none) ↔ FieldWrites source x
+pub field_written_exactly : (source : List ℕ) (x : InfoField) → ((field_item source x).stop ≡ None) ↔ FieldWrites source x
 field_written_exactly = writing.field_written_exactly

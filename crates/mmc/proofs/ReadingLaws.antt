@@ -1,5 +1,6 @@
 -- The read at a place of a string, for crates above: what the bytes there make of it, where it goes on, and a whole walk one read
 -- at a time. Assumes nothing.
+use Rattle.std.specs.Prelude.{Result}
 use Prim.Native.Nat.{ℕ, zero, suc, ◌+◌, ◌-◌, ◌≤◌, ◌<◌}
 use mathlib.Core.Path.{◌≡◌, refl, sym, ap, ◌∙◌}
 use mathlib.Core.Bool.{Bool, true, false, cond, true≢false}
@@ -18,13 +19,11 @@ use Rattle.mmc.specs.declared.length.Length.{Length}
 use Rattle.mmc.specs.declared.length.Length.TheVariants.{Fixed, Count}
 use Rattle.mmc.specs.declared.part.Part.{Part}
 use Rattle.mmc.specs.declared.split.Parts.TheVariants.{Item, Cut}
-use Rattle.mmc.specs.declared.split.PartsAnswer.{PartsAnswer}
-use Rattle.mmc.specs.declared.split.PartsAnswer.TheVariants.{Found, Refused}
 use Rattle.mmc.specs.Command.{command_by_name, read_command, command_of_case, next_command}
 use Rattle.mmc.specs.Length.{length_of, command_length, within}
 use Rattle.mmc.specs.Part.{part, part_of, is_inside}
 use Rattle.mmc.specs.Rp013 as R
-use Rattle.mmc.specs.Split.{ItemPlace, Next, measured, split_at, next, next_as, next_parts_of, parts_as}
+use Rattle.mmc.specs.Split.{ItemPlace, Next, measured, split_at, next, next_as, parts_as, next_item_of}
 use Rattle.mmc.specs.Strings.{Walk, before, walk_from, reads_of, item_at, walk, next_of, read_from, item_places, FoundThere}
 use Rattle.universal.specs.Refusals.{Refusal, Answer, gives, refused, refusal, refusal_of}
 use Rattle.universal.specs.declared.error.SysexError.{SysexError}
@@ -82,8 +81,8 @@ pub command_of_parts : (body : List ℕ) (place : ℕ)
 unfolding next_command
 command_of_parts body place = refl
 
-module _ (body : List ℕ) (place at : ℕ) (k : PartsAnswer)
-    (e : next_parts_of (record { answer = k; place = at }) ≡ next Commands body place) where
+module _ (body : List ℕ) (place at : ℕ) (k : Result ItemPlace SysexError)
+    (e : next_item_of (record { answer = k; place = at }) ≡ next Commands body place) where
   -- So it is by what `next_parts` answered.
   pub command_found : (n d : Part) → k ≡ Found n d
       → next_command body place ≡ record { answer = gives (command_of_case (read_command (part_of body n) (part_of body d)) n d); place = at }

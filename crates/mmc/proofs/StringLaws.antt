@@ -1,11 +1,11 @@
 -- The laws of strings, for commands and for fields alike: what the splitter finds, the walk over a whole string, the pages of
 -- RP-013, and what is written and read back. Assumes nothing.
+use Rattle.std.specs.Prelude.{Option, Some, None}
 use Prim.Native.Nat.{ℕ, zero, suc, ◌+◌, ◌≤◌, ◌<◌}
 use mathlib.Core.Path.{◌≡◌, refl, sym, ap, ap₂, subst, ◌∙◌}
 use mathlib.Core.Bool.{Bool, true, false, cond}
 use mathlib.Core.Logic.{◌⊎◌, inl, inr, ◌↔◌}
 use mathlib.Core.List.{List, [], ◌∷◌, ◌++◌, map, append-nil, append_assoc, map-append}
-use mathlib.Core.Option.{Option, none, some}
 use native.Mathlib.Nat.{le_refl}
 use native.Mathlib.Omega.{arith}
 use borrow.Author.Tests.{ne_eqb}
@@ -36,7 +36,6 @@ use Rattle.codes.specs.TimeCode.{zeroed}
 use Rattle.codes.specs.declared.time_code.StandardTimeCode.{StandardTimeCode}
 use Rattle.universal.specs.Emission.{Emission, sent, ◌then◌}
 use Rattle.universal.specs.Message.{all_low, header, opening, message}
-use Rattle.universal.specs.declared.message.MaybeSubId2.TheVariants.{NoSubId2}
 use Rattle.universal.specs.declared.message.Universal.{Universal}
 use Rattle.universal.specs.Refusals.{Answer, refusal, refused, gives}
 use Rattle.universal.proofs.Tests.{and_parts}
@@ -262,18 +261,18 @@ walk_else kind body l h = go (any_zeros (walk kind body 0).items) refl
 -- ---- what is written
 
 -- An accepted command or field: its bytes are those of its name and data, which fit; they are low, and at most 131.
-pub item_accepted : (kind : Kind) (g : Given kind) → (emission kind g).stop ≡ none
+pub item_accepted : (kind : Kind) (g : Given kind) → (emission kind g).stop ≡ None
     → AcceptedItem kind (pair_of kind g) (emission kind g).bytes
 item_accepted = ItemBytes.item_emission_accepted
 
 -- An accepted list: its bytes are those of its items one after another, which fit; they are low.
-pub list_accepted : (kind : Kind) (gs : List (Given kind)) → (emissions kind gs).stop ≡ none
+pub list_accepted : (kind : Kind) (gs : List (Given kind)) → (emissions kind gs).stop ≡ None
     → AcceptedItems kind (pairs_of kind gs) (emissions kind gs).bytes
 list_accepted = ItemBytes.list_emission_accepted
 
 -- A list is accepted just where its first item and the others are.
 pub list_each : (kind : Kind) (g : Given kind) (gs : List (Given kind))
-    → ((emissions kind (g ∷ gs)).stop ≡ none) ↔ (((emission kind g).stop ≡ none) × ((emissions kind gs).stop ≡ none))
+    → ((emissions kind (g ∷ gs)).stop ≡ None) ↔ (((emission kind g).stop ≡ None) × ((emissions kind gs).stop ≡ None))
 unfolding emissions
 list_each kind g gs = (
   then_accepted (emission kind g) (emissions kind gs),
@@ -287,14 +286,14 @@ list_append = ItemBytes.list_append
 -- ---- written and read back
 
 -- The walk over an accepted list's bytes gives the name and data of each, and ends with 9.
-pub written_walk : (kind : Kind) (gs : List (Given kind)) → (emissions kind gs).stop ≡ none
+pub written_walk : (kind : Kind) (gs : List (Given kind)) → (emissions kind gs).stop ≡ None
     → walk kind (emissions kind gs).bytes 0 ≡ record { items = pairs_of kind gs; stop = refusal 9 }
 written_walk kind gs h =
     let s : AcceptedItems kind (pairs_of kind gs) (emissions kind gs).bytes = list_accepted kind gs h in
     ap (λ (l : List ℕ). walk kind l 0) s.are_item_bytes ∙ walk_items kind (pairs_of kind gs) s.fits
 
 -- The bytes of an accepted list are a well-formed string just where none of it is named 00 00 00.
-pub list_well_formed : (kind : Kind) (gs : List (Given kind)) → (emissions kind gs).stop ≡ none
+pub list_well_formed : (kind : Kind) (gs : List (Given kind)) → (emissions kind gs).stop ≡ None
     → WellFormed kind (emissions kind gs).bytes ↔ (any_zeros (pairs_of kind gs) ≡ false)
 list_well_formed kind gs h =
     let w = written_walk kind gs h in
@@ -304,38 +303,38 @@ list_well_formed kind gs h =
     (λ f. sym items ∙ (p.0 f).1, λ z. p.1 (ap (λ (v : Walk Item). v.stop) w, items ∙ z))
 
 -- Read back, each is what its name and data are read as, with the parts where these stand; then 9.
-pub written_reads_back : (kind : Kind) (gs : List (Given kind)) → (emissions kind gs).stop ≡ none
+pub written_reads_back : (kind : Kind) (gs : List (Given kind)) → (emissions kind gs).stop ≡ None
     → read_from kind (emissions kind gs).bytes 0 ≡ record { items = meanings kind 0 (pairs_of kind gs); stop = refusal 9 }
 written_reads_back kind gs h =
     let s : AcceptedItems kind (pairs_of kind gs) (emissions kind gs).bytes = list_accepted kind gs h in
     ap (λ (l : List ℕ). read_from kind l 0) s.are_item_bytes ∙ read_items kind (pairs_of kind gs) s.fits
 
 -- The name and data of an accepted command are read as its own case; a blank target with zeros; another command as they are.
-pub command_back_lem : (source : List ℕ) (c : MmcCommand) → (command_item source c).stop ≡ none
+pub command_back_lem : (source : List ℕ) (c : MmcCommand) → (command_item source c).stop ≡ None
     → read_command (command_pair source c).name (command_pair source c).«data» ≡ command_back source c
 command_back_lem = ReadBack.command_back_lem
 
 -- The name and data of an accepted field, likewise.
-pub field_back_lem : (source : List ℕ) (f : InfoField) → (field_item source f).stop ≡ none
+pub field_back_lem : (source : List ℕ) (f : InfoField) → (field_item source f).stop ≡ None
     → read_field (field_pair source f).name (field_pair source f).«data» ≡ field_back source f
 field_back_lem = ReadBack.field_back_lem
 
 -- What the name and data of an accepted command or field mean, wherever they stand.
-pub meaning_back : (kind : Kind) (g : Given kind) → (emission kind g).stop ≡ none → (l : ItemPlace)
+pub meaning_back : (kind : Kind) (g : Given kind) → (emission kind g).stop ≡ None → (l : ItemPlace)
     → meaning kind (pair_of kind g).name (pair_of kind g).«data» l ≡ back kind g l
 meaning_back Commands g h l = ap (λ (c : CommandCase). command_of_case c l.name l.«data») (command_back_lem g.source g.meant h)
 meaning_back Fields g h l = ap (λ (c : FieldCase). field_of_case c l.name l.«data») (field_back_lem g.source g.meant h)
 
 -- A list that ends with Locate to a target and Play comes back with these at its end.
 pub locate_play_back : (gs : List (Given Commands)) (a b : List ℕ) (c : StandardTimeCode)
-    → (emissions Commands (gs ++ (given Commands a (C.LocateTarget c) ∷ given Commands b C.Play ∷ []))).stop ≡ none
+    → (emissions Commands (gs ++ (given Commands a (C.LocateTarget c) ∷ given Commands b C.Play ∷ []))).stop ≡ None
     → commands_read (emissions Commands (gs ++ (given Commands a (C.LocateTarget c) ∷ given Commands b C.Play ∷ []))).bytes
     ≡ record { items = meanings Commands 0 (pairs_of Commands gs) ++ (C.LocateTarget (zeroed c) ∷ C.Play ∷ []); stop = refusal 9 }
 unfolding read_as emissions
 locate_play_back gs a b c h =
     let locate : Given Commands = given Commands a (C.LocateTarget c) in
     let play : Given Commands = given Commands b C.Play in
-    let t : (emissions Commands (locate ∷ play ∷ [])).stop ≡ none =
+    let t : (emissions Commands (locate ∷ play ∷ [])).stop ≡ None =
     (then_accepted (emissions Commands gs) (emissions Commands (locate ∷ play ∷ []))
     (ap (λ (e : Emission). e.stop) (sym (list_append Commands gs (locate ∷ play ∷ []))) ∙ h)).1 in
     let u = (list_each Commands locate (play ∷ [])).0 t in
@@ -348,7 +347,7 @@ locate_play_back gs a b c h =
     (meaning_back Commands locate u.0 _) (meaning_back Commands play v.0 _))
 
 -- One accepted command or field, written and read back alone.
-pub one_reads_back : (kind : Kind) (g : Given kind) → (emission kind g).stop ≡ none
+pub one_reads_back : (kind : Kind) (g : Given kind) → (emission kind g).stop ≡ None
     → read_from kind (emission kind g).bytes 0
     ≡ record {
       items = meaning kind (pair_of kind g).name (pair_of kind g).«data» (item_place kind 0 (pair_of kind g)) ∷ [];
@@ -361,7 +360,7 @@ one_reads_back kind g h =
     ∙ read_items kind (pair_of kind g ∷ []) (rw s.fits)
 
 -- Another command named 01H comes back as Stop.
-pub other_stop : (source : List ℕ) (n d : Part) → part_of source n ≡ 1 ∷ [] → (command_item source (C.Other n d)).stop ≡ none
+pub other_stop : (source : List ℕ) (n d : Part) → part_of source n ≡ 1 ∷ [] → (command_item source (C.Other n d)).stop ≡ None
     → commands_read (command_item source (C.Other n d)).bytes ≡ record { items = C.Stop ∷ []; stop = refusal 9 }
 unfolding command_pair read_command command_by_name
 other_stop source n d e h =
@@ -373,19 +372,19 @@ other_stop source n d e h =
 -- ---- the message
 
 opening_of : (kind : Kind) (device : ℕ) → device ≤ 127
-    → opening (header true device (sub_id1_of kind) NoSubId2) ≡ sent (240 ∷ 127 ∷ device ∷ sub_id1_of kind ∷ [])
+    → opening (header true device (sub_id1_of kind) None) ≡ sent (240 ∷ 127 ∷ device ∷ sub_id1_of kind ∷ [])
 opening_of Commands device d = opening_plain true device 6 d refl (lit≤ tt)
 opening_of Fields device d = opening_plain true device 7 d refl (lit≤ tt)
 
 -- A string in its envelope is the Universal Real Time message of its kind.
 pub message_by_page : (kind : Kind) (device : ℕ) (string : List ℕ) → device ≤ 127 → all_low string ≡ true
-    → message (header true device (sub_id1_of kind) NoSubId2) string ≡ sent (envelope kind device string)
+    → message (header true device (sub_id1_of kind) None) string ≡ sent (envelope kind device string)
 message_by_page kind device string d l =
-    message_whole (header true device (sub_id1_of kind) NoSubId2) string (ap (λ (e : Emission). e.stop) (opening_of kind device d)) l
+    message_whole (header true device (sub_id1_of kind) None) string (ap (λ (e : Emission). e.stop) (opening_of kind device d)) l
     ∙ ap (λ (e : Emission). sent (e.bytes ++ string ++ 247 ∷ [])) (opening_of kind device d)
 
 -- An accepted list of 1 to 48 bytes, none of it named 00 00 00, is a message in its envelope.
-pub list_message : (kind : Kind) (device : ℕ) (gs : List (Given kind)) → (emissions kind gs).stop ≡ none → device ≤ last_device kind
+pub list_message : (kind : Kind) (device : ℕ) (gs : List (Given kind)) → (emissions kind gs).stop ≡ None → device ≤ last_device kind
     → any_zeros (pairs_of kind gs) ≡ false → 1 ≤ length (emissions kind gs).bytes → length (emissions kind gs).bytes ≤ 48
     → Message kind device (emissions kind gs).bytes (envelope kind device (emissions kind gs).bytes)
 list_message kind device gs h d z least most =
@@ -400,7 +399,7 @@ list_message kind device gs h d z least most =
 
 -- Real Time with sub-ID 1 06H and a string that is not empty is commands for the device, with 07H responses from it.
 pub string_message : (kind : Kind) (device : ℕ) (string : List ℕ) → 1 ≤ length string
-    → message_from (header true device (sub_id1_of kind) NoSubId2) string ≡ gives (some (message_of kind device))
+    → message_from (header true device (sub_id1_of kind) None) string ≡ gives (Some (message_of kind device))
 unfolding message_from
 string_message Commands device string h = rw (ne_eqb (length string) 0 (λ e. omega arith))
 string_message Fields device string h = rw (ne_eqb (length string) 0 (λ e. omega arith))
@@ -412,10 +411,10 @@ unfolding message_from
 message_by_lem u d = go u.real_time (eqb u.sub_id1 6) (eqb u.sub_id1 7) (eqb (length d) 0)
   where
     or_empty : Bool → MmcMessage → Answer (Option MmcMessage)
-    or_empty empty m = cond empty (refused (refusal 2)) (gives (some m))
+    or_empty empty m = cond empty (refused (refusal 2)) (gives (Some m))
 
     go : (t c r e : Bool)
-        → cond t (cond c (or_empty e (M.Commands u.device_id)) (cond r (or_empty e (M.Responses u.device_id)) (gives none))) (gives none)
+        → cond t (cond c (or_empty e (M.Commands u.device_id)) (cond r (or_empty e (M.Responses u.device_id)) (gives None))) (gives None)
         ≡ message_by t c r e u.device_id
     go true true r true = refl
     go true true r false = refl

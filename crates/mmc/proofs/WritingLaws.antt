@@ -1,11 +1,11 @@
 -- The laws of writing. The calls of a writing one by one answer and leave what mmc.rs does with the whole list in one piece; what is
 -- accepted, and what is then read back; what a failed writer does; how far any calls get. Assumes nothing.
+use Rattle.std.specs.Prelude.{Option, Some, None}
 use Prim.Native.Nat.{ℕ, suc, ◌+◌, ◌≤◌, ◌<◌, suc-le-suc}
 use mathlib.Core.Path.{◌≡◌, refl, sym, ap, subst, ◌∙◌}
 use mathlib.Core.Bool.{Bool, true, false, cond, ◌&&◌}
 use mathlib.Core.Logic.{◌⊎◌, inl, inr, ◌↔◌}
 use mathlib.Core.List.{List, [], ◌∷◌, ◌++◌}
-use mathlib.Core.Option.{Option, none, some}
 use native.Mathlib.Nat.{add-zero, zero-lt-suc}
 use native.Mathlib.Omega.{arith}
 use borrow.Author.Tests.{ne_eqb}
@@ -89,7 +89,7 @@ item_some kind x h =
     omega (arith, length-append x.name (with_count (rule_of kind x) x.«data»))
 
 -- An accepted item has at least one byte, so an accepted list has no more items than bytes.
-few_items : (kind : Kind) (gs : List (Given kind)) → (emissions kind gs).stop ≡ none → length gs ≤ length (emissions kind gs).bytes
+few_items : (kind : Kind) (gs : List (Given kind)) → (emissions kind gs).stop ≡ None → length gs ≤ length (emissions kind gs).bytes
 unfolding emissions
 few_items kind [] h = lit≤ tt
 few_items kind (g ∷ gs) h =
@@ -102,7 +102,7 @@ few_items kind (g ∷ gs) h =
     ∙ length-append (emission kind g).bytes (emissions kind gs).bytes in
     omega (arith, b)
 
-device_of : (kind : Kind) (device : ℕ) → (opening_of kind device).stop ≡ none → device ≤ last_device kind
+device_of : (kind : Kind) (device : ℕ) → (opening_of kind device).stop ≡ None → device ≤ last_device kind
 device_of kind device h = go (opens_whole kind device)
   where
     go : OpensWhole kind device → device ≤ last_device kind
@@ -146,7 +146,7 @@ string_accepted kind device gs out n = (
 )
 
 -- Where the writing after a list has no refusal, none of the list was refused.
-each_accepted : (kind : Kind) (gs : List (Given kind)) (s : State) → (after_items kind s gs).writing.stop ≡ none
+each_accepted : (kind : Kind) (gs : List (Given kind)) (s : State) → (after_items kind s gs).writing.stop ≡ None
     → AllAccepted (checks kind s gs)
 unfolding after_items checks W.writing_after
 each_accepted kind [] s h = tt
@@ -171,7 +171,7 @@ accepted_none_refused kind device gs out n = (
 -- ---- strings of fields, likewise
 
 -- A list that no call refused has at most 256 items.
-few_accepted : (kind : Kind) (gs : List (Given kind)) (s : State) → s.writing.items ≤ 256 → (after_items kind s gs).writing.stop ≡ none
+few_accepted : (kind : Kind) (gs : List (Given kind)) (s : State) → s.writing.items ≤ 256 → (after_items kind s gs).writing.stop ≡ None
     → s.writing.items + length gs ≤ 256
 unfolding after_items W.writing_after
 few_accepted kind [] s l h = omega arith
@@ -183,7 +183,7 @@ few_accepted kind (g ∷ gs) s l h =
     omega (arith, one)
 
 -- The close of a string of fields that answered a length came after no refusal.
-fields_going : (w : Writing) (room n : ℕ) → whole_fields w room ≡ gives n → w.stop ≡ none
+fields_going : (w : Writing) (room n : ℕ) → whole_fields w room ≡ gives n → w.stop ≡ None
 unfolding whole_fields closed_fields
 fields_going w room n h =
     not_failed w (then_accepted (record { bytes = []; stop = (or_failed w).stop }) (sent []) (answer_in_gives (closed_fields w).stop w.at room n h).0).0
@@ -273,7 +273,7 @@ accepted_reads_back kind device gs out n h =
 
 -- ---- a failed writer, and how far any calls get
 
-repeats_now : (r : Refusal) (s t : State) → (or_failed t.writing).stop ≡ some r → t.writing.at ≡ s.writing.at → t.out ≡ s.out
+repeats_now : (r : Refusal) (s t : State) → (or_failed t.writing).stop ≡ Some r → t.writing.at ≡ s.writing.at → t.out ≡ s.out
     → Repeats r s t
 unfolding whole_message whole_fields closed_fields
 repeats_now r s t f p u =
@@ -289,14 +289,14 @@ repeats_now r s t f p u =
     }
 
 -- One more call leaves it failed by the same refusal.
-still_failed : (w : Writing) (e : Emission) (r : Refusal) → (or_failed w).stop ≡ some r
-    → ((or_failed (W.writing_after w e)).stop ≡ some r) × ((W.writing_after w e).at ≡ w.at) × ((admitted w e).bytes ≡ [])
+still_failed : (w : Writing) (e : Emission) (r : Refusal) → (or_failed w).stop ≡ Some r
+    → ((or_failed (W.writing_after w e)).stop ≡ Some r) × ((W.writing_after w e).at ≡ w.at) × ((admitted w e).bytes ≡ [])
 unfolding W.writing_after or_failed
 still_failed w e r f =
-    let a : admitted w e ≡ record { bytes = []; stop = some r } = repeats w e r (sym (ready_failed w r f)) in
+    let a : admitted w e ≡ record { bytes = []; stop = Some r } = repeats w e r (sym (ready_failed w r f)) in
     let near : (W.writing_after w e).at ≡ w.at = ap (λ (x : Emission). w.at + length x.bytes) a ∙ add-zero w.at in (
       ap (λ (x : Emission). (or_failed (writing_past w (extent_of x))).stop) a
-          ∙ ap (λ (k : ℕ). (cond {A = Writing} (leb w.items 256 && leb k 40000) (by k (some r)) (by k (some (refusal 10)))).stop) (add-zero w.at)
+          ∙ ap (λ (k : ℕ). (cond {A = Writing} (leb w.items 256 && leb k 40000) (by k (Some r)) (by k (Some (refusal 10)))).stop) (add-zero w.at)
           ∙ go (leb w.items 256 && leb w.at 40000) f,
       near,
       ap (λ (x : Emission). x.bytes) a,
@@ -305,13 +305,13 @@ still_failed w e r f =
     by : ℕ → Option Refusal → Writing
     by k t = record { at = k; items = w.items; stop = t }
 
-    go : (b : Bool) → (cond {A = Writing} b w (by w.at (some (refusal 10)))).stop ≡ some r
-        → (cond {A = Writing} b (by w.at (some r)) (by w.at (some (refusal 10)))).stop ≡ some r
+    go : (b : Bool) → (cond {A = Writing} b w (by w.at (Some (refusal 10)))).stop ≡ Some r
+        → (cond {A = Writing} b (by w.at (Some r)) (by w.at (Some (refusal 10)))).stop ≡ Some r
     go true q = refl
     go false q = q
 
 -- A failed writer repeats its first refusal and writes nothing more, over any list of further calls.
-pub failed_repeats : (xs : List Entry) (s : State) (r : Refusal) → (or_failed s.writing).stop ≡ some r → Repeats r s (after_entries s xs)
+pub failed_repeats : (xs : List Entry) (s : State) (r : Refusal) → (or_failed s.writing).stop ≡ Some r → Repeats r s (after_entries s xs)
 unfolding after_entries
 failed_repeats [] s r f = repeats_now r s s f refl refl
 failed_repeats (x ∷ xs) s r f =

@@ -1,10 +1,10 @@
 -- A writing one call at a time, for crates above: what an opening, an item and a close are, and which test decides them. Assumes
 -- nothing.
+use Rattle.std.specs.Prelude.{Some, None}
 use Prim.Native.Nat.{ℕ, ◌+◌, ◌≤◌, ◌<◌}
 use mathlib.Core.Path.{◌≡◌, refl}
 use mathlib.Core.Bool.{Bool, true, false, cond, ◌&&◌}
 use mathlib.Core.List.{List, [], ◌∷◌}
-use mathlib.Core.Option.{some}
 use lib.Dec.{leb, ltb, lit≤}
 use lib.ListN.{length}
 use Rattle.mmc.specs.Names.{NamesSent}
@@ -22,7 +22,6 @@ use Rattle.universal.specs.Emission.{Emission, sent, refusing, check, resume, �
 use Rattle.universal.specs.Message.{header}
 use Rattle.universal.specs.Overlay.{overlay}
 use Rattle.universal.specs.Refusals.{refusal}
-use Rattle.universal.specs.declared.message.MaybeSubId2.TheVariants.{NoSubId2}
 use Rattle.universal.proofs.Laws.{opening_device, opening_plain}
 -- A writing in its limits has its own refusal, if any; one with a refusal repeats it; one without takes an item; and what a close
 -- does by the position.
@@ -33,7 +32,7 @@ pub use Rattle.mmc.proofs.Writing.WriterCalls.{as_it_is, ready_kept, ready_faile
 -- A command string to a device above 127 is refused with 5.
 pub commands_refused : (device : ℕ) → 127 < device → opened_commands device ≡ refusing 5
 unfolding opened_commands
-commands_refused device h = opening_device (header true device 6 NoSubId2) h
+commands_refused device h = opening_device (header true device 6 None) h
 
 -- To any other F0H, 7FH, the device and 06H go out.
 pub commands_opened : (device : ℕ) → device ≤ 127 → opened_commands device ≡ sent (240 ∷ 127 ∷ device ∷ 6 ∷ [])
@@ -48,12 +47,12 @@ begun_after e = refl
 -- ---- an item
 
 -- The refusal of a writing: its own, or 10 past its limits.
-pub or_failed_stop : (w : Writing) → (or_failed w).stop ≡ cond (leb w.items 256 && leb w.at 40000) w.stop (some (refusal 10))
+pub or_failed_stop : (w : Writing) → (or_failed w).stop ≡ cond (leb w.items 256 && leb w.at 40000) w.stop (Some (refusal 10))
 unfolding or_failed
 or_failed_stop w = go (leb w.items 256 && leb w.at 40000)
   where
     go : (b : Bool)
-        → (cond b w (record { at = w.at; items = w.items; stop = some (refusal 10) })).stop ≡ cond b w.stop (some (refusal 10))
+        → (cond b w (record { at = w.at; items = w.items; stop = Some (refusal 10) })).stop ≡ cond b w.stop (Some (refusal 10))
     go true = refl
     go false = refl
 

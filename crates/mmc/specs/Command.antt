@@ -1,17 +1,15 @@
 -- Commands with their names and data as bytes, and how mmc.rs reads them. Assumes nothing.
-use Rattle.std.specs.Prelude.{ℕ, cond, List, ltb, eqb, length, get_or}
+use Rattle.universal.specs.declared.error.SysexError.{SysexError}
+use Rattle.std.specs.Prelude.{ℕ, cond, List, ltb, eqb, length, get_or, Result}
 use Rattle.mmc.specs.declared.command.MmcCommand.{MmcCommand}
 use Rattle.mmc.specs.declared.command.MmcCommand.TheVariants.{Stop, Play, DeferredPlay, FastForward, Rewind, RecordStrobe, RecordExit, Pause, Reset, Write, LocateField, LocateTarget, Move, Other}
-use Rattle.mmc.specs.declared.command.CommandAnswer.{CommandAnswer}
-use Rattle.mmc.specs.declared.command.CommandAnswer.TheVariants as A
-use Rattle.mmc.specs.declared.command.NextCommand.{NextCommand}
 use Rattle.mmc.specs.declared.length.Kind.TheVariants.{Commands}
 use Rattle.mmc.specs.declared.part.Part.{Part}
 use Rattle.codes.specs.declared.time_code.StandardTimeCode.{StandardTimeCode}
 use Rattle.mmc.specs.Rp013Commands as P
-use Rattle.mmc.specs.Split.{Next, next, next_as, parts_as}
+use Rattle.mmc.specs.Split.{Next, next, next_as, parts_as, next_item_of}
 use Rattle.codes.specs.TimeCode.{read_standard}
-use Rattle.universal.specs.Refusals.{Answer, gives, refused, refusal_of}
+use Rattle.universal.specs.Refusals.{Answer, gives, refused, refusal_of, answer_of}
 
 -- The case of a command, without the bytes of its own that a Write or another command has.
 pub data CommandCase : Type 0 where
@@ -76,9 +74,9 @@ unfoldable pub next_command : List ℕ → ℕ → Next MmcCommand
 next_command body place = next_as (parts_as (λ (x y : List ℕ). command_of_case (read_command x y)) body) (next Commands body place)
 
 -- The answer, in the paper's numbers.
-abbrev pub command_answer_of : CommandAnswer → Answer MmcCommand
-command_answer_of (A.Command c) = gives c
-command_answer_of (A.Refused e) = refused (refusal_of e)
+abbrev pub answer_of : Result MmcCommand SysexError → Answer MmcCommand
+answer_of (A.Command c) = gives c
+answer_of (A.Refused e) = refused (refusal_of e)
 
-abbrev pub next_command_of : NextCommand → Next MmcCommand
-next_command_of r = record { answer = command_answer_of r.answer; place = r.place }
+abbrev pub next_item_of : NextCommand → Next MmcCommand
+next_item_of r = record { answer = answer_of r.answer; place = r.place }

@@ -1,18 +1,16 @@
 -- Information fields, and how mmc.rs reads them. Assumes nothing.
-use Rattle.std.specs.Prelude.{ℕ, ◌-◌, cond, List, eqb, length, get_or}
+use Rattle.universal.specs.declared.error.SysexError.{SysexError}
+use Rattle.std.specs.Prelude.{ℕ, ◌-◌, cond, List, eqb, length, get_or, Result}
 use Rattle.mmc.specs.declared.field.InfoField.{InfoField}
 use Rattle.mmc.specs.declared.field.InfoField.TheVariants.{TimeCode, Short, Other}
-use Rattle.mmc.specs.declared.field.FieldAnswer.{FieldAnswer}
-use Rattle.mmc.specs.declared.field.FieldAnswer.TheVariants as A
-use Rattle.mmc.specs.declared.field.NextField.{NextField}
 use Rattle.mmc.specs.declared.length.Kind.TheVariants.{Fields}
 use Rattle.mmc.specs.declared.part.Part.{Part}
 use Rattle.codes.specs.declared.time_code.StandardTimeCode.{StandardTimeCode}
 use Rattle.codes.specs.declared.time_code.ShortTimeCode.{ShortTimeCode}
 use Rattle.mmc.specs.Length.{within}
-use Rattle.mmc.specs.Split.{Next, next, next_as, parts_as}
+use Rattle.mmc.specs.Split.{Next, next, next_as, parts_as, next_item_of}
 use Rattle.codes.specs.TimeCode.{read_standard, read_short}
-use Rattle.universal.specs.Refusals.{Answer, gives, refused, refusal_of}
+use Rattle.universal.specs.Refusals.{Answer, gives, refused, refusal_of, answer_of}
 
 -- The case of a field, without the bytes of its own that another field has.
 pub data FieldCase : Type 0 where
@@ -43,9 +41,9 @@ unfoldable pub next_field : List ℕ → ℕ → Next InfoField
 next_field body place = next_as (parts_as (λ (x y : List ℕ). field_of_case (read_field x y)) body) (next Fields body place)
 
 -- The answer, in the paper's numbers.
-abbrev pub field_answer_of : FieldAnswer → Answer InfoField
-field_answer_of (A.Field f) = gives f
-field_answer_of (A.Refused e) = refused (refusal_of e)
+abbrev pub answer_of : Result InfoField SysexError → Answer InfoField
+answer_of (A.Field f) = gives f
+answer_of (A.Refused e) = refused (refusal_of e)
 
-abbrev pub next_field_of : NextField → Next InfoField
-next_field_of r = record { answer = field_answer_of r.answer; place = r.place }
+abbrev pub next_item_of : NextField → Next InfoField
+next_item_of r = record { answer = answer_of r.answer; place = r.place }

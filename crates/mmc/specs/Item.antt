@@ -1,7 +1,7 @@
 -- What mmc.rs emits of a command or a field before the refusing check. 6 comes first, for a part that is not inside the lent
 -- source. Assumes nothing.
-use Rattle.std.specs.Prelude.{ℕ, ◌+◌, Bool, true, false, not, cond, ◌&&◌, List, [], ◌∷◌, eqb}
-use Rattle.std.proofs.Math.Option.{some}
+use Rattle.universal.specs.declared.error.SysexError.{SysexError}
+use Rattle.std.specs.Prelude.{ℕ, ◌+◌, Bool, true, false, not, cond, ◌&&◌, List, [], ◌∷◌, eqb, Some, Result, ⊤}
 use Rattle.mmc.specs.declared.command.MmcCommand.{MmcCommand}
 use Rattle.mmc.specs.declared.command.MmcCommand.TheVariants as C
 use Rattle.mmc.specs.declared.field.InfoField.{InfoField}
@@ -9,8 +9,6 @@ use Rattle.mmc.specs.declared.field.InfoField.TheVariants as F
 use Rattle.mmc.specs.declared.length.Kind.{Kind}
 use Rattle.mmc.specs.declared.length.Kind.TheVariants.{Commands, Fields}
 use Rattle.mmc.specs.declared.part.Part.{Part}
-use Rattle.codes.specs.declared.time_code.Checked.{Checked}
-use Rattle.codes.specs.declared.time_code.Checked.TheVariants.{Accepted, Refused}
 use Rattle.codes.specs.declared.time_code.FinalByte.{FinalByte}
 use Rattle.codes.specs.declared.time_code.FinalByte.TheVariants.{Subframes, Status}
 use Rattle.codes.specs.declared.time_code.StandardTimeCode.{StandardTimeCode}
@@ -26,9 +24,9 @@ use Rattle.universal.specs.Emission.{Emission, sent, check, ◌then◌}
 -- ---- time codes, and names with data of the source
 
 -- Bytes that passed a check, or its refusal.
-abbrev pub checked_item : Checked → List ℕ → Emission
+abbrev pub checked_item : Result ⊤ SysexError → List ℕ → Emission
 checked_item Accepted bs = sent bs
-checked_item (Refused e) bs = record { bytes = []; stop = some (refusal_of e) }
+checked_item (Refused e) bs = record { bytes = []; stop = Some (refusal_of e) }
 
 unfoldable pub standard_item : StandardTimeCode → Emission
 standard_item c = check (standard_fits c) 3 then sent (standard_list c)

@@ -1,36 +1,34 @@
 -- Machine control messages, as mmc.rs reads them from the five split parts of a Universal message. Assumes nothing.
-use Rattle.std.specs.Prelude.{ℕ, Bool, true, false, cond, List, eqb, length}
-use Rattle.std.proofs.Math.Option.{Option, none, some}
+use Rattle.universal.specs.declared.error.SysexError.{SysexError}
+use Rattle.std.specs.Prelude.{ℕ, Bool, true, false, cond, List, eqb, length, Option, Some, None, Result}
 use Rattle.mmc.specs.declared.message.MmcMessage.{MmcMessage}
 use Rattle.mmc.specs.declared.message.MmcMessage.TheVariants.{Commands, Responses}
-use Rattle.mmc.specs.declared.message.ReadMmcMessage.{ReadMmcMessage}
-use Rattle.mmc.specs.declared.message.ReadMmcMessage.TheVariants.{Message, NotThis, Refused}
-use Rattle.universal.specs.Refusals.{Answer, gives, refused, refusal, refusal_of}
+use Rattle.universal.specs.Refusals.{Answer, gives, refused, refusal, refusal_of, answer_of}
 use Rattle.universal.specs.declared.message.Universal.{Universal}
 
 -- A message, none where it is another kind, or the refusal.
-abbrev pub read_message_of : ReadMmcMessage → Answer (Option MmcMessage)
-read_message_of (Message m) = gives (some m)
-read_message_of NotThis = gives none
-read_message_of (Refused e) = refused (refusal_of e)
+abbrev pub answer_of : Result (Option MmcMessage) SysexError → Answer (Option MmcMessage)
+answer_of (Message m) = gives (Some m)
+answer_of NotThis = gives None
+answer_of (Refused e) = refused (refusal_of e)
 
 -- A string of its own: 2 where it is empty.
 abbrev pub with_string : MmcMessage → List ℕ → Answer (Option MmcMessage)
-with_string m d = cond (eqb (length d) 0) (refused (refusal 2)) (gives (some m))
+with_string m d = cond (eqb (length d) 0) (refused (refusal 2)) (gives (Some m))
 
 -- Real Time with sub-ID 1 06H is commands, with 07H responses; a sub-ID 2 is not looked at.
 unfoldable pub message_from : Universal → List ℕ → Answer (Option MmcMessage)
 message_from u d =
     cond u.real_time
     (cond (eqb u.sub_id1 6) (with_string (Commands u.device_id) d)
-    (cond (eqb u.sub_id1 7) (with_string (Responses u.device_id) d) (gives none)))
-    (gives none)
+    (cond (eqb u.sub_id1 7) (with_string (Responses u.device_id) d) (gives None)))
+    (gives None)
 
 -- The same by its class, by whether its sub-ID 1 is 06H or 07H, and by whether its string is empty.
 abbrev pub message_by : (real_time commands responses empty : Bool) → ℕ → Answer (Option MmcMessage)
 message_by true true responses true device = refused (refusal 2)
-message_by true true responses false device = gives (some (Commands device))
+message_by true true responses false device = gives (Some (Commands device))
 message_by true false true true device = refused (refusal 2)
-message_by true false true false device = gives (some (Responses device))
-message_by true false false empty device = gives none
-message_by false commands responses empty device = gives none
+message_by true false true false device = gives (Some (Responses device))
+message_by true false false empty device = gives None
+message_by false commands responses empty device = gives None

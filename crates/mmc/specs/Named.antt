@@ -1,12 +1,10 @@
 -- A name and its data written by the length rule, as mmc.rs does it: the bytes emitted before the refusing check. Assumes nothing.
-use Rattle.std.specs.Prelude.{ℕ, ◌-◌, Bool, false, not, ◌&&◌, List, [], ◌∷◌, leb, eqb, length, get_or}
-use Rattle.std.proofs.Math.Option.{Option, none, some}
+use Rattle.universal.specs.declared.error.SysexError.{SysexError}
+use Rattle.std.specs.Prelude.{ℕ, ◌-◌, Bool, false, not, ◌&&◌, List, [], ◌∷◌, leb, eqb, length, get_or, Option, Some, None, Result, ⊤}
 use Rattle.mmc.specs.declared.length.Kind.{Kind}
 use Rattle.mmc.specs.declared.length.Length.{Length}
 use Rattle.mmc.specs.declared.length.Length.TheVariants.{Fixed, Count}
 use Rattle.mmc.specs.declared.named.Put.{Put}
-use Rattle.codes.specs.declared.time_code.Checked.{Checked}
-use Rattle.codes.specs.declared.time_code.Checked.TheVariants.{Accepted, Refused}
 use Rattle.mmc.specs.Length.{length_of}
 use Rattle.universal.specs.Refusals.{Refusal, refusal_of}
 use Rattle.universal.specs.Emission.{Emission, sent, check, ◌then◌}
@@ -19,9 +17,9 @@ pub record Extent : Type 0 where
   pub len : ℕ
   pub stop : Option Refusal
 
-abbrev pub stop_of : Checked → Option Refusal
-stop_of Accepted = none
-stop_of (Refused e) = some (refusal_of e)
+abbrev pub stop_of : Result ⊤ SysexError → Option Refusal
+stop_of Accepted = None
+stop_of (Refused e) = Some (refusal_of e)
 
 abbrev pub put_of : Put → Extent
 put_of p = record { len = p.len; stop = stop_of p.checked }

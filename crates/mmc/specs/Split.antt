@@ -1,15 +1,14 @@
 -- The splitter of mmc.rs: the item at a place of a string, by the length rule of its kind. Assumes nothing.
-use Rattle.std.specs.Prelude.{ℕ, ◌+◌, ◌-◌, ◌≤◌, ◌≡◌, cond, ◌&&◌, List, leb, ltb, eqb, length, get_or}
+use Rattle.universal.specs.declared.error.SysexError.{SysexError}
+use Rattle.mmc.specs.Split.{next_item_of}
+use Rattle.std.specs.Prelude.{ℕ, ◌+◌, ◌-◌, ◌≤◌, ◌≡◌, cond, ◌&&◌, List, leb, ltb, eqb, length, get_or, Result}
 use Rattle.mmc.specs.declared.length.Kind.{Kind}
 use Rattle.mmc.specs.declared.length.Length.{Length}
 use Rattle.mmc.specs.declared.length.Length.TheVariants.{Fixed, Count}
 use Rattle.mmc.specs.declared.part.Part.{Part}
 use Rattle.mmc.specs.declared.split.Parts.{Parts}
 use Rattle.mmc.specs.declared.split.Parts.TheVariants.{Item, Cut}
-use Rattle.mmc.specs.declared.split.PartsAnswer.{PartsAnswer}
-use Rattle.mmc.specs.declared.split.PartsAnswer.TheVariants as A
-use Rattle.mmc.specs.declared.split.NextParts.{NextParts}
-use Rattle.universal.specs.Refusals.{Answer, gives, refused, refusal, refusal_of}
+use Rattle.universal.specs.Refusals.{Answer, gives, refused, refusal, refusal_of, answer_of}
 use Rattle.mmc.specs.Length.{length_of}
 use Rattle.mmc.specs.Part.{part, part_of}
 
@@ -68,12 +67,12 @@ next kind body place =
     (record { answer = refused (refusal 9); place = place })
 
 -- The answer of a read, in the paper's numbers.
-abbrev pub parts_answer_of : PartsAnswer → Answer ItemPlace
-parts_answer_of (A.Found n d) = gives (record { name = n; «data» = d })
-parts_answer_of (A.Refused e) = refused (refusal_of e)
+abbrev pub answer_of : Result ItemPlace SysexError → Answer ItemPlace
+answer_of (A.Found n d) = gives (record { name = n; «data» = d })
+answer_of (A.Refused e) = refused (refusal_of e)
 
-abbrev pub next_parts_of : NextParts → Next ItemPlace
-next_parts_of r = record { answer = parts_answer_of r.answer; place = r.place }
+abbrev pub next_item_of : NextParts → Next ItemPlace
+next_item_of r = record { answer = answer_of r.answer; place = r.place }
 
 -- The item read as something.
 abbrev pub answer_as : {A B : Type 0} → (A → B) → Answer A → Answer B

@@ -1,8 +1,7 @@
 -- Whole lists: what mmc.rs emits of one in a piece, which is the reference for a writing (document 01, "Command and field
 -- strings"); when a writing is accepted, and what it then is; what a refusal does to the calls after it; and any calls on one
 -- writer. Assumes nothing.
-use Rattle.std.specs.Prelude.{ℕ, ◌+◌, ◌≤◌, ◌≡◌, List, [], ◌∷◌, length}
-use Rattle.std.proofs.Math.Option.{Option, none, some}
+use Rattle.std.specs.Prelude.{ℕ, ◌+◌, ◌≤◌, ◌≡◌, List, [], ◌∷◌, length, Option, Some, None}
 use Rattle.mmc.specs.declared.length.Kind.{Kind}
 use Rattle.mmc.specs.declared.length.Kind.TheVariants.{Fields}
 use Rattle.mmc.specs.Length.{within}
@@ -34,7 +33,7 @@ fields_emission gs = emissions Fields gs
 -- When a writing is accepted, and with which length: each item is, the device is one of its kind, the body has 1 to 48 bytes, and
 -- the buffer has room for it and five bytes more.
 pub record Accepts (kind : Kind) (device : ℕ) (gs : List (Given kind)) (room n : ℕ) : Type 0 where
-  pub items : (emissions kind gs).stop ≡ none
+  pub items : (emissions kind gs).stop ≡ None
   pub device_in_range : device ≤ last_device kind
   pub least : 1 ≤ length (emissions kind gs).bytes
   pub most : length (emissions kind gs).bytes ≤ 48
@@ -44,7 +43,7 @@ pub record Accepts (kind : Kind) (device : ℕ) (gs : List (Given kind)) (room n
 -- The same for a string of fields, which has no device, no envelope and no rule of 48: its items are accepted, at most 256, and the
 -- buffer has room for their bytes.
 pub record AcceptsFields (gs : List (Given Fields)) (room n : ℕ) : Type 0 where
-  pub items : (emissions Fields gs).stop ≡ none
+  pub items : (emissions Fields gs).stop ≡ None
   pub few : length gs ≤ 256
   pub whole : n ≡ length (emissions Fields gs).bytes
   pub room_for : n ≤ room
@@ -63,11 +62,11 @@ checks_by kind e (g ∷ gs) = (e then emission kind g).stop ∷ checks_by kind (
 -- Each of them is nothing.
 abbrev pub AllAccepted : List (Option Refusal) → Type 0
 AllAccepted [] = Unit
-AllAccepted (c ∷ cs) = (c ≡ none) × AllAccepted cs
+AllAccepted (c ∷ cs) = (c ≡ None) × AllAccepted cs
 
 -- No call of a writing is refused: not the opening, no item, and not the close, which answers a length.
 pub record NoneRefused (kind : Kind) (device : ℕ) (gs : List (Given kind)) (out : List ℕ) (n : ℕ) : Type 0 where
-  pub opening : (opening_of kind device).stop ≡ none
+  pub opening : (opening_of kind device).stop ≡ None
   pub items : AllAccepted (checks kind (opened (opening_of kind device) out) gs)
   pub close : string_answer kind device gs out ≡ gives n
 
@@ -83,7 +82,7 @@ pub record NoneRefusedFields (gs : List (Given Fields)) (out : List ℕ) (n : �
 pub record ReadBack (kind : Kind) (device : ℕ) (gs : List (Given kind)) (s : List ℕ) : Type 0 where
   pub device_in_range : device ≤ last_device kind
   pub body : body_of s ≡ (emissions kind gs).bytes
-  pub message : message_from (header_of s) (body_of s) ≡ gives (some (message_of kind device))
+  pub message : message_from (header_of s) (body_of s) ≡ gives (Some (message_of kind device))
   pub whole : read_from kind (body_of s) 0 ≡ record { items = meanings kind 0 (pairs_of kind gs); stop = refusal 9 }
 
 -- ---- any calls on one writer
@@ -131,10 +130,10 @@ pub record HoldsAll (found : List ℕ) (e : Emission) (s : State) : Type 0 where
 
 -- What a writer with a refusal does: it repeats it to every further call, and writes nothing more.
 pub record Repeats (r : Refusal) (s t : State) : Type 0 where
-  pub failed : (or_failed t.writing).stop ≡ some r
+  pub failed : (or_failed t.writing).stop ≡ Some r
   pub position : t.writing.at ≡ s.writing.at
   pub untouched : t.out ≡ s.out
-  pub next_item : (x : Entry) → admitted t.writing (entry_emission x) ≡ record { bytes = []; stop = some r }
+  pub next_item : (x : Entry) → admitted t.writing (entry_emission x) ≡ record { bytes = []; stop = Some r }
   pub is_message : (room : ℕ) → whole_message t.writing room ≡ refused r
   pub no_close : (closed_message t.writing).bytes ≡ []
   pub as_fields : (room : ℕ) → whole_fields t.writing room ≡ refused r

@@ -1,7 +1,6 @@
 -- Writing a string, as mmc.rs does it on a whole list: opened, given items one at a time, closed. Document 01 adds refusals 5, 6
 -- and 10 and their order. Assumes nothing.
-use Rattle.std.specs.Prelude.{ℕ, ◌+◌, true, not, cond, ◌&&◌, List, [], ◌∷◌, leb, ltb, eqb, length}
-use Rattle.std.proofs.Math.Option.{Option, none, some}
+use Rattle.std.specs.Prelude.{ℕ, ◌+◌, true, not, cond, ◌&&◌, List, [], ◌∷◌, leb, ltb, eqb, length, Option, Some, None}
 use Rattle.mmc.specs.declared.write.Writer.{Writer}
 use Rattle.mmc.specs.Length.{within}
 use Rattle.mmc.specs.Named.{Extent, stop_of, extent_of}
@@ -9,7 +8,6 @@ use Rattle.universal.specs.Refusals.{Refusal, refusal, Answer, gives, refused}
 use Rattle.universal.specs.Emission.{Emission, sent, check, resume, ◌then◌, answer_in}
 use Rattle.universal.specs.Message.{opening, header}
 use Rattle.universal.specs.Overlay.{overlay}
-use Rattle.universal.specs.declared.message.MaybeSubId2.TheVariants.{NoSubId2}
 
 -- A writing: the position after the bytes so far, the items accepted, and the refusal that ended it, if any did.
 pub record Writing : Type 0 where
@@ -24,18 +22,18 @@ writing_of w = record { at = w.at; items = w.items; stop = stop_of w.checked }
 -- A writer with over 256 items or a position above 40,000, which no calls leave, is failed by 10.
 unfoldable pub or_failed : Writing → Writing
 or_failed w =
-    cond (leb w.items 256 && leb w.at 40000) w (record { at = w.at; items = w.items; stop = some (refusal 10) })
+    cond (leb w.items 256 && leb w.at 40000) w (record { at = w.at; items = w.items; stop = Some (refusal 10) })
 
 -- ---- opening
 
 -- F0H, 7FH, the device, 06H.
 unfoldable pub opened_commands : ℕ → Emission
-opened_commands device = opening (header true device 6 NoSubId2)
+opened_commands device = opening (header true device 6 None)
 
 -- 5, then 3 for device 7FH, then F0H, 7FH, the device, 07H.
 unfoldable pub opened_responses : ℕ → Emission
 opened_responses device =
-    check (leb device 127) 5 then check (not (eqb device 127)) 3 then opening (header true device 7 NoSubId2)
+    check (leb device 127) 5 then check (not (eqb device 127)) 3 then opening (header true device 7 None)
 
 -- The writing after its opening.
 unfoldable pub begun : Emission → Writing
@@ -43,12 +41,12 @@ begun e = record { at = length e.bytes; items = 0; stop = e.stop }
 
 -- A string of fields has no envelope.
 abbrev pub opened_fields : Writing
-opened_fields = record { at = 0; items = 0; stop = none }
+opened_fields = record { at = 0; items = 0; stop = None }
 
 -- The writing after an opening that came to a position, or was refused.
 abbrev pub opens_at : Answer ℕ → Writing
-opens_at (gives n) = record { at = n; items = 0; stop = none }
-opens_at (refused r) = record { at = 0; items = 0; stop = some r }
+opens_at (gives n) = record { at = n; items = 0; stop = None }
+opens_at (refused r) = record { at = 0; items = 0; stop = Some r }
 
 -- ---- items
 
@@ -66,8 +64,8 @@ out_after w out e = overlay out w.at (admitted w e).bytes
 
 -- One more item where it was accepted.
 abbrev pub item_count_after : Option Refusal → ℕ → ℕ
-item_count_after none n = n + 1
-item_count_after (some r) n = n
+item_count_after None n = n + 1
+item_count_after (Some r) n = n
 
 -- The writing after so many bytes of an item, and the refusal that ended it, if any did.
 abbrev pub writing_past : Writing → Extent → Writing

@@ -1,7 +1,7 @@
 -- A whole writing, call by call: a string is opened, given a list of items, and closed, with one buffer lent throughout. The
 -- lists are folded with the definitions in the contracts of the calls. Then the string that was left, as document 01 reads it
 -- back. Assumes nothing.
-use Rattle.std.specs.Prelude.{ℕ, List, [], ◌∷◌, true, cond, eqb, length, take, drop, get_or}
+use Rattle.std.specs.Prelude.{ℕ, List, [], ◌∷◌, true, cond, eqb, length, take, drop, get_or, None}
 use Rattle.mmc.specs.declared.length.Kind.{Kind}
 use Rattle.mmc.specs.declared.length.Kind.TheVariants.{Commands, Fields}
 use Rattle.mmc.specs.declared.message.MmcMessage.{MmcMessage}
@@ -13,7 +13,6 @@ use Rattle.universal.specs.Refusals.{Answer}
 use Rattle.universal.specs.Emission.{Emission}
 use Rattle.universal.specs.Message.{header}
 use Rattle.universal.specs.Overlay.{overlay}
-use Rattle.universal.specs.declared.message.MaybeSubId2.TheVariants.{NoSubId2}
 use Rattle.universal.specs.declared.message.Universal.{Universal}
 
 -- A writing, and the buffer that it left.
@@ -73,7 +72,7 @@ string_of kind device gs out n = take n (string_left kind device gs out)
 
 -- Its header: real time, device its third byte, sub-ID 1 its fourth, no sub-ID 2.
 abbrev pub header_of : List ℕ → Universal
-header_of s = header true (get_or s 2 0) (get_or s 3 0) NoSubId2
+header_of s = header true (get_or s 2 0) (get_or s 3 0) None
 
 -- The bytes up to F7H.
 unfoldable pub up_to_close : List ℕ → List ℕ

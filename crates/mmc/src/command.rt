@@ -1,10 +1,11 @@
 // Commands (RP-013, pp. 14, 20 to 32): a name and its data read into a case, and the next command of a string.
+ghost use Rattle.mmc.specs.Split.{next_item_of};
 ghost use Rattle.std.specs.Prelude.{◌≡◌, ◌<◌, ◌≤◌, length};
-ghost use Rattle.mmc.specs.Command.{read_command, read_locate, read_move, command_of_case, next_command, next_command_of};
+ghost use Rattle.mmc.specs.Command.{read_command, read_locate, read_move, command_of_case, next_command};
 
 use crate::length::Kind;
 use crate::part::Part;
-use crate::split::{NextParts, PartsAnswer, next_parts};
+use crate::split::{next_parts};
 use codes::StandardTimeCode;
 use universal::SysexError;
 
@@ -154,30 +155,16 @@ fn read_move(data: &[u8], name_at: Part, data_at: Part) -> MmcCommand
     }
 }
 
-// What the splitter answers at a place: a command, or 2 or 9.
-#[derive(Clone, Copy)]
-pub enum CommandAnswer {
-    Command(MmcCommand),
-    Refused(SysexError),
-}
-
-// The answer, and the place to read on from.
-#[derive(Clone, Copy)]
-pub struct NextCommand {
-    pub answer: CommandAnswer,
-    pub place: usize,
-}
-
 // The command at a place of a string and the place after it; 2 and the end where the string is cut short; 9 at or past it.
-pub fn next_command(body: &[u8], place: usize) -> NextCommand
-    ensures { next_command_of result ≡ next_command body.now place }
+pub fn next_command(body: &[u8], place: usize) -> NextItem<MmcCommand>
+    ensures { next_item_of result ≡ next_command body.now place }
 {
-    let NextParts { answer, place } = next_parts(body, place, Kind::Commands);
+    let NextItem<ItemPlace> { answer, place } = next_parts(body, place, Kind::Commands);
     let answer = match answer {
-        PartsAnswer::Found { name, data } => {
-            CommandAnswer::Command(read(name.of(body), data.of(body), name, data))
+        Ok(ItemPlace { name, data }) => {
+            Ok(read(name.of(body), data.of(body), name, data))
         }
-        PartsAnswer::Refused(e) => CommandAnswer::Refused(e),
+        Err(e) => Err(e),
     };
-    NextCommand { answer, place }
+    NextItem<MmcCommand> { answer, place }
 }

@@ -1,10 +1,11 @@
 // Information fields (RP-013, pp. 8, 9, 44, 47): a name and its data read into a case, and the next field of a string.
+ghost use Rattle.mmc.specs.Split.{next_item_of};
 ghost use Rattle.std.specs.Prelude.{◌≡◌};
-ghost use Rattle.mmc.specs.Field.{read_field, field_of_case, next_field, next_field_of};
+ghost use Rattle.mmc.specs.Field.{read_field, field_of_case, next_field};
 
 use crate::length::Kind;
 use crate::part::Part;
-use crate::split::{NextParts, PartsAnswer, next_parts};
+use crate::split::{next_parts};
 use codes::{ShortTimeCode, StandardTimeCode};
 use universal::SysexError;
 
@@ -61,30 +62,16 @@ fn read(name: &[u8], data: &[u8], name_at: Part, data_at: Part) -> InfoField
     }
 }
 
-// What the splitter answers at a place: a field, or 2 or 9.
-#[derive(Clone, Copy)]
-pub enum FieldAnswer {
-    Field(InfoField),
-    Refused(SysexError),
-}
-
-// The answer, and the place to read on from.
-#[derive(Clone, Copy)]
-pub struct NextField {
-    pub answer: FieldAnswer,
-    pub place: usize,
-}
-
 // The field at a place of a string and the place after it; 2 and the end where the string is cut short; 9 at or past it.
-pub fn next_field(body: &[u8], place: usize) -> NextField
-    ensures { next_field_of result ≡ next_field body.now place }
+pub fn next_field(body: &[u8], place: usize) -> NextItem<InfoField>
+    ensures { next_item_of result ≡ next_field body.now place }
 {
-    let NextParts { answer, place } = next_parts(body, place, Kind::Fields);
+    let NextItem<ItemPlace> { answer, place } = next_parts(body, place, Kind::Fields);
     let answer = match answer {
-        PartsAnswer::Found { name, data } => {
-            FieldAnswer::Field(read(name.of(body), data.of(body), name, data))
+        Ok(ItemPlace { name, data }) => {
+            Ok(read(name.of(body), data.of(body), name, data))
         }
-        PartsAnswer::Refused(e) => FieldAnswer::Refused(e),
+        Err(e) => Err(e),
     };
-    NextField { answer, place }
+    NextItem<InfoField> { answer, place }
 }

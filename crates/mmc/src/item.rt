@@ -13,24 +13,24 @@ use crate::field::InfoField;
 use crate::length::Kind;
 use crate::named::{Put, put_byte, put_named};
 use crate::part::Part;
-use codes::{Checked, FinalByte, ShortTimeCode, StandardTimeCode};
+use codes::{FinalByte, ShortTimeCode, StandardTimeCode};
 use universal::{SysexError, put, put_part};
 
 // Bytes that passed a check, or its refusal.
-fn put_checked(out: &mut [u8], at: usize, checked: Checked, bytes: &[u8]) -> Put
+fn put_checked(out: &mut [u8], at: usize, checked: Result<(), SysexError>, bytes: &[u8]) -> Put
     ensures result_value { put_of result ≡ extent_of (checked_item checked bytes.now) }
     ensures out_after { out.new ≡ overlay out.old at (checked_item checked bytes.now).bytes }
 {
-    if let Checked::Refused(e) = checked {
+    if let Err(e) = checked {
         return Put {
             len: 0,
-            checked: Checked::Refused(e),
+            checked: Err(e),
         };
     }
     put_part(out, at, bytes);
     Put {
         len: bytes.len(),
-        checked: Checked::Accepted,
+        checked: Ok(()),
     }
 }
 
@@ -65,13 +65,13 @@ fn put_other(out: &mut [u8], at: usize, source: &[u8], name: Part, data: Part, k
     if !name.is_inside(source) {
         return Put {
             len: 0,
-            checked: Checked::Refused(SysexError::Source),
+            checked: Err(SysexError::Source),
         };
     }
     if !data.is_inside(source) {
         return Put {
             len: 0,
-            checked: Checked::Refused(SysexError::Source),
+            checked: Err(SysexError::Source),
         };
     }
     put_named(out, at, name.of(source), data.of(source), kind)
@@ -86,7 +86,7 @@ fn put_write(out: &mut [u8], at: usize, source: &[u8], data: Part) -> Put
     if !data.is_inside(source) {
         return Put {
             len: 0,
-            checked: Checked::Refused(SysexError::Source),
+            checked: Err(SysexError::Source),
         };
     }
     let name = [WRITE];
@@ -101,20 +101,20 @@ fn put_locate_field(out: &mut [u8], at: usize, register: u8) -> Put
     if register < 0x08 {
         return Put {
             len: 0,
-            checked: Checked::Refused(SysexError::OutOfRange),
+            checked: Err(SysexError::OutOfRange),
         };
     }
     if register >= 0x10 {
         return Put {
             len: 0,
-            checked: Checked::Refused(SysexError::OutOfRange),
+            checked: Err(SysexError::OutOfRange),
         };
     }
     let bytes = [LOCATE, 2, 0, register];
     put_part(out, at, &bytes);
     Put {
         len: 4,
-        checked: Checked::Accepted,
+        checked: Ok(()),
     }
 }
 
@@ -128,7 +128,7 @@ fn put_locate_target(out: &mut [u8], at: usize, target: StandardTimeCode) -> Put
     if let FinalByte::Status(_) = final_byte {
         return Put {
             len: 0,
-            checked: Checked::Refused(SysexError::OutOfRange),
+            checked: Err(SysexError::OutOfRange),
         };
     }
     let start = [LOCATE, 6, 1];
@@ -149,20 +149,20 @@ fn put_move(out: &mut [u8], at: usize, destination: u8, source: u8) -> Put
     if !is_time_field(destination) {
         return Put {
             len: 0,
-            checked: Checked::Refused(SysexError::OutOfRange),
+            checked: Err(SysexError::OutOfRange),
         };
     }
     if !is_time_field(source) {
         return Put {
             len: 0,
-            checked: Checked::Refused(SysexError::OutOfRange),
+            checked: Err(SysexError::OutOfRange),
         };
     }
     let bytes = [MOVE, 2, destination, source];
     put_part(out, at, &bytes);
     Put {
         len: 4,
-        checked: Checked::Accepted,
+        checked: Ok(()),
     }
 }
 
@@ -238,7 +238,7 @@ fn put_time_code(out: &mut [u8], at: usize, field: u8, code: StandardTimeCode) -
     if !code_fits(field, code.negative, final_byte) {
         return Put {
             len: 0,
-            checked: Checked::Refused(SysexError::OutOfRange),
+            checked: Err(SysexError::OutOfRange),
         };
     }
     put(out, at, field);
@@ -260,7 +260,7 @@ fn put_short_code(out: &mut [u8], at: usize, field: u8, code: ShortTimeCode) -> 
     if !code_fits(field, code.negative, final_byte) {
         return Put {
             len: 0,
-            checked: Checked::Refused(SysexError::OutOfRange),
+            checked: Err(SysexError::OutOfRange),
         };
     }
     put(out, at, field + 0x20);

@@ -12,13 +12,13 @@ mod split;
 mod write;
 
 pub use codes::{
-    Checked, FinalByte, MaybeName, ShortBytes, ShortTimeCode, StandardBytes, StandardTimeCode,
+    FinalByte, ShortTimeCode, StandardTimeCode,
     TimeCodeStatus, full_name, short_name,
 };
-pub use command::{CommandAnswer, MmcCommand, NextCommand, next_command};
-pub use field::{FieldAnswer, InfoField, NextField, next_field};
+pub use command::{MmcCommand, next_command};
+pub use field::{InfoField, next_field};
 pub use length::{Kind, Length, command_length, field_length};
-pub use message::{MmcMessage, ReadMmcMessage};
+pub use message::{MmcMessage};
 pub use part::Part;
-pub use split::{NextParts, PartsAnswer, next_parts};
+pub use split::{next_parts};
 pub use write::{Writer, Wrote, open_commands, open_fields, open_responses};

@@ -1,6 +1,7 @@
 // A machine control message (RP-013, p. 1), read from the split parts of a Universal message: its string stays the lent data.
+ghost use Rattle.universal.specs.Refusals.{answer_of};
 ghost use Rattle.std.specs.Prelude.{◌≡◌};
-ghost use Rattle.mmc.specs.Message.{message_from, read_message_of};
+ghost use Rattle.mmc.specs.Message.{message_from};
 
 use universal::{SysexError, Universal};
 
@@ -11,36 +12,28 @@ pub enum MmcMessage {
     Responses { device_id: u8 },
 }
 
-// The answer of `MmcMessage::from_universal`.
-#[derive(Clone, Copy)]
-pub enum ReadMmcMessage {
-    Message(MmcMessage),
-    NotThis,
-    Refused(SysexError),
-}
-
 impl MmcMessage {
     // Reads Real Time, sub-ID 1 06H or 07H; another message is "not this", an empty string 2.
-    pub fn from_universal(u: Universal, data: &[u8]) -> ReadMmcMessage
-        ensures { read_message_of result ≡ message_from u «data».now }
+    pub fn from_universal(u: Universal, data: &[u8]) -> Result<Option<MmcMessage>, SysexError>
+        ensures { answer_of result ≡ message_from u «data».now }
     {
         let device_id = u.device_id;
         let kind = u.sub_id1;
         if !u.real_time {
-            return ReadMmcMessage::NotThis;
+            return Ok(None);
         }
         if kind == 0x06 {
             if data.len() == 0 {
-                return ReadMmcMessage::Refused(SysexError::Length);
+                return Err(SysexError::Length);
             }
-            return ReadMmcMessage::Message(MmcMessage::Commands { device_id });
+            return Ok(Some(MmcMessage::Commands { device_id }));
         }
         if kind == 0x07 {
             if data.len() == 0 {
-                return ReadMmcMessage::Refused(SysexError::Length);
+                return Err(SysexError::Length);
             }
-            return ReadMmcMessage::Message(MmcMessage::Responses { device_id });
+            return Ok(Some(MmcMessage::Responses { device_id }));
         }
-        ReadMmcMessage::NotThis
+        Ok(None)
     }
 }

@@ -5,14 +5,13 @@ ghost use Rattle.universal.specs.Emission.{sent};
 ghost use Rattle.mmc.specs.Named.{name_fits, by_rule, named_item, put_of, extent_of};
 
 use crate::length::{Kind, Length, length_of};
-use codes::Checked;
 use universal::{SysexError, all_low, put, put_part};
 
 // How many bytes went out, and the check that they passed or that ended them.
 #[derive(Clone, Copy)]
 pub struct Put {
     pub len: usize,
-    pub checked: Checked,
+    pub checked: Result<(), SysexError>,
 }
 
 // True for one byte after at most two zeros, which is zero only after two.
@@ -49,19 +48,19 @@ fn put_by_rule(out: &mut [u8], at: usize, rule: Length, data: &[u8]) -> Put
             if n != data.len() {
                 return Put {
                     len: 0,
-                    checked: Checked::Refused(SysexError::Length),
+                    checked: Err(SysexError::Length),
                 };
             }
             if !all_low(data) {
                 return Put {
                     len: 0,
-                    checked: Checked::Refused(SysexError::DataByte),
+                    checked: Err(SysexError::DataByte),
                 };
             }
             put_part(out, at, data);
             Put {
                 len: n,
-                checked: Checked::Accepted,
+                checked: Ok(()),
             }
         }
         Length::Count => {
@@ -69,20 +68,20 @@ fn put_by_rule(out: &mut [u8], at: usize, rule: Length, data: &[u8]) -> Put
             if n > 0x7F {
                 return Put {
                     len: 0,
-                    checked: Checked::Refused(SysexError::Length),
+                    checked: Err(SysexError::Length),
                 };
             }
             put(out, at, n as u8);
             if !all_low(data) {
                 return Put {
                     len: 1,
-                    checked: Checked::Refused(SysexError::DataByte),
+                    checked: Err(SysexError::DataByte),
                 };
             }
             put_part(out, at + 1, data);
             Put {
                 len: n + 1,
-                checked: Checked::Accepted,
+                checked: Ok(()),
             }
         }
     }
@@ -97,13 +96,13 @@ pub(crate) fn put_named(out: &mut [u8], at: usize, name: &[u8], data: &[u8], kin
     if !name_fits(name) {
         return Put {
             len: 0,
-            checked: Checked::Refused(SysexError::Length),
+            checked: Err(SysexError::Length),
         };
     }
     if !all_low(name) {
         return Put {
             len: 0,
-            checked: Checked::Refused(SysexError::DataByte),
+            checked: Err(SysexError::DataByte),
         };
     }
     put_part(out, at, name);
@@ -125,6 +124,6 @@ pub(crate) fn put_byte(out: &mut [u8], at: usize, byte: u8) -> Put
     put(out, at, byte);
     Put {
         len: 1,
-        checked: Checked::Accepted,
+        checked: Ok(()),
     }
 }

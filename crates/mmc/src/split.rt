@@ -1,6 +1,6 @@
 // The splitter: one item after another from the front of a string, by the length rule of its kind (RP-013, p. 5).
 ghost use Rattle.std.specs.Prelude.{◌≡◌, ◌<◌, length};
-ghost use Rattle.mmc.specs.Split.{split_at, prefixes_at, measured, next, next_parts_of};
+ghost use Rattle.mmc.specs.Split.{split_at, prefixes_at, measured, next, next_item_of};
 
 use crate::length::{Kind, Length, length_of};
 use crate::part::Part;
@@ -74,37 +74,23 @@ fn split(body: &[u8], at: usize, kind: Kind) -> Parts
     }
 }
 
-// What a read at a place answers: where the name and data of the item there are, or 2 or 9.
-#[derive(Clone, Copy)]
-pub enum PartsAnswer {
-    Found { name: Part, data: Part },
-    Refused(SysexError),
-}
-
-// The answer, and the place to read on from.
-#[derive(Clone, Copy)]
-pub struct NextParts {
-    pub answer: PartsAnswer,
-    pub place: usize,
-}
-
 // The item at a place and the place after it; 2 and the end where the string is cut short; 9 at or past it.
-pub fn next_parts(body: &[u8], place: usize, kind: Kind) -> NextParts
-    ensures { next_parts_of result ≡ next kind body.now place }
+pub fn next_parts(body: &[u8], place: usize, kind: Kind) -> NextItem<ItemPlace>
+    ensures { next_item_of result ≡ next kind body.now place }
 {
     if place >= body.len() {
-        return NextParts {
-            answer: PartsAnswer::Refused(SysexError::End),
+        return NextItem<ItemPlace> {
+            answer: Err(SysexError::End),
             place,
         };
     }
     match split(body, place, kind) {
-        Parts::Item { name, data, next } => NextParts {
-            answer: PartsAnswer::Found { name, data },
+        Parts::Item { name, data, next } => NextItem<ItemPlace> {
+            answer: Ok(ItemPlace { name, data }),
             place: next,
         },
-        Parts::Cut => NextParts {
-            answer: PartsAnswer::Refused(SysexError::Length),
+        Parts::Cut => NextItem<ItemPlace> {
+            answer: Err(SysexError::Length),
             place: body.len(),
         },
     }

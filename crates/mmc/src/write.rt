@@ -1,9 +1,7 @@
 // Writing a string: opened, given its items one at a time, and closed. One buffer is lent throughout and left alone between
 // the calls. A failed writer repeats its first refusal and writes nothing more.
 ghost use Rattle.std.specs.Prelude.{◌≡◌, ◌<◌, ◌≤◌, length};
-ghost use Rattle.std.proofs.Math.Option.{some};
-ghost use Rattle.universal.specs.Refusals.{refusal_of};
-ghost use Rattle.universal.specs.Message.{opened_of, written_of};
+ghost use Rattle.universal.specs.Refusals.{refusal_of, answer_of};
 ghost use Rattle.universal.specs.Overlay.{overlay};
 ghost use Rattle.mmc.specs.Item.{command_item, field_item};
 ghost use Rattle.mmc.specs.Named.{stop_of, put_of};
@@ -13,8 +11,7 @@ use crate::command::MmcCommand;
 use crate::field::InfoField;
 use crate::item;
 use crate::named::Put;
-use codes::Checked;
-use universal::{MaybeSubId2, Opened, SysexError, Universal, Written, close};
+use universal::{SysexError, Universal, close};
 
 // Sub-ID 1 of a command message.
 const COMMAND: u8 = 0x06;
@@ -30,30 +27,30 @@ const MOST_POSITION: usize = 40_000;
 pub struct Writer {
     pub at: usize,
     pub items: usize,
-    pub checked: Checked,
+    pub checked: Result<(), SysexError>,
 }
 
 // The answer of an item: the writer to go on with, and the check.
 #[derive(Clone, Copy)]
 pub struct Wrote {
     pub writer: Writer,
-    pub checked: Checked,
+    pub checked: Result<(), SysexError>,
 }
 
 // The writer of an opening.
-fn writer_of(opened: Opened) -> Writer
-    ensures { writing_of result ≡ opens_at (opened_of opened) }
+fn writer_of(opened: Result<usize, SysexError>) -> Writer
+    ensures { writing_of result ≡ opens_at (answer_of opened) }
 {
     match opened {
-        Opened::At(at) => Writer {
+        Ok(at) => Writer {
             at,
             items: 0,
-            checked: Checked::Accepted,
+            checked: Ok(()),
         },
-        Opened::Refused(e) => Writer {
+        Err(e) => Writer {
             at: 0,
             items: 0,
-            checked: Checked::Refused(e),
+            checked: Err(e),
         },
     }
 }
@@ -67,7 +64,7 @@ pub fn open_commands(out: &mut [u8], device_id: u8) -> Writer
         real_time: true,
         device_id,
         sub_id1: COMMAND,
-        sub_id2: MaybeSubId2::NoSubId2,
+        sub_id2: None,
     };
     writer_of(header.open(out))
 }
@@ -81,14 +78,14 @@ pub fn open_responses(out: &mut [u8], device_id: u8) -> Writer
         return Writer {
             at: 0,
             items: 0,
-            checked: Checked::Refused(SysexError::OutOfRange),
+            checked: Err(SysexError::OutOfRange),
         };
     }
     let header = Universal {
         real_time: true,
         device_id,
         sub_id1: RESPONSE,
-        sub_id2: MaybeSubId2::NoSubId2,
+        sub_id2: None,
     };
     writer_of(header.open(out))
 }
@@ -100,26 +97,26 @@ pub fn open_fields() -> Writer
     Writer {
         at: 0,
         items: 0,
-        checked: Checked::Accepted,
+        checked: Ok(()),
     }
 }
 
 impl Writer {
     // The check of a writer before its next call: its own refusal, or 10 for a record that no calls leave.
-    fn or_failed(self) -> Checked
+    fn or_failed(self) -> Result<(), SysexError>
         ensures { stop_of result ≡ (or_failed (writing_of self)).stop }
     {
         if self.items > MOST_ITEMS {
-            return Checked::Refused(SysexError::ItemLimit);
+            return Err(SysexError::ItemLimit);
         }
         if self.at > MOST_POSITION {
-            return Checked::Refused(SysexError::ItemLimit);
+            return Err(SysexError::ItemLimit);
         }
         self.checked
     }
 
     // The check of a writer before its next item: its own, or 10 where 256 were accepted.
-    fn ready(self) -> Checked
+    fn ready(self) -> Result<(), SysexError>
         ensures { stop_of result ≡ ready (writing_of self) }
     {
         // Most often it is its own; handed on as it is, it is not made anew.
@@ -129,13 +126,13 @@ impl Writer {
             }
         }
         let checked = self.or_failed();
-        if let Checked::Refused(e) = checked {
-            return Checked::Refused(e);
+        if let Err(e) = checked {
+            return Err(e);
         }
         if self.items == MOST_ITEMS {
-            return Checked::Refused(SysexError::ItemLimit);
+            return Err(SysexError::ItemLimit);
         }
-        Checked::Accepted
+        Ok(())
     }
 
     // The writer that repeats a refusal.
@@ -145,11 +142,11 @@ impl Writer {
         let writer = Writer {
             at: self.at,
             items: self.items,
-            checked: Checked::Refused(error),
+            checked: Err(error),
         };
         Wrote {
             writer,
-            checked: Checked::Refused(error),
+            checked: Err(error),
         }
     }
 
@@ -161,7 +158,7 @@ impl Writer {
         let checked = put.checked;
         let at = self.at + put.len;
         match checked {
-            Checked::Accepted => {
+            Ok(()) => {
                 let writer = Writer {
                     at,
                     items: self.items + 1,
@@ -169,7 +166,7 @@ impl Writer {
                 };
                 Wrote { writer, checked }
             }
-            Checked::Refused(_) => {
+            Err(_) => {
                 let writer = Writer {
                     at,
                     items: self.items,
@@ -186,7 +183,7 @@ impl Writer {
         ensures out_after { out.new ≡ out_after (writing_of self) out.old (command_item source.now command) }
     {
         let ready = self.ready();
-        if let Checked::Refused(e) = ready {
+        if let Err(e) = ready {
             return self.failed(e);
         }
         let at = self.at;
@@ -200,7 +197,7 @@ impl Writer {
         ensures out_after { out.new ≡ out_after (writing_of self) out.old (field_item source.now field) }
     {
         let ready = self.ready();
-        if let Checked::Refused(e) = ready {
+        if let Err(e) = ready {
             return self.failed(e);
         }
         let at = self.at;
@@ -209,36 +206,36 @@ impl Writer {
     }
 
     // Closes a command or response string: the body has 1 to 48 bytes, and the whole must fit the buffer.
-    pub fn close_message(self, out: &mut [u8]) -> Written
-        ensures result_value { written_of result ≡ whole_message (writing_of self) (length out.old) }
+    pub fn close_message(self, out: &mut [u8]) -> Result<usize, SysexError>
+        ensures result_value { answer_of result ≡ whole_message (writing_of self) (length out.old) }
         ensures out_after { out.new ≡ overlay out.old self.at (closed_message (writing_of self)).bytes }
     {
         let checked = self.or_failed();
-        if let Checked::Refused(e) = checked {
-            return Written::Refused(e);
+        if let Err(e) = checked {
+            return Err(e);
         }
         let at = self.at;
         if at < 5 {
-            return Written::Refused(SysexError::Length);
+            return Err(SysexError::Length);
         }
         if at > 52 {
-            return Written::Refused(SysexError::Length);
+            return Err(SysexError::Length);
         }
         close(out, at)
     }
 
     // Closes a string of fields, which must fit the buffer.
-    pub fn close_fields(self, out: &[u8]) -> Written
-        ensures { written_of result ≡ whole_fields (writing_of self) (length out.now) }
+    pub fn close_fields(self, out: &[u8]) -> Result<usize, SysexError>
+        ensures { answer_of result ≡ whole_fields (writing_of self) (length out.now) }
     {
         let checked = self.or_failed();
-        if let Checked::Refused(e) = checked {
-            return Written::Refused(e);
+        if let Err(e) = checked {
+            return Err(e);
         }
         let at = self.at;
         if at > out.len() {
-            return Written::Refused(SysexError::BufferTooSmall { needed: at });
+            return Err(SysexError::BufferTooSmall { needed: at });
         }
-        Written::Length(at)
+        Ok(at)
     }
 }

@@ -13,7 +13,7 @@ use mmc::command::{
 };
 use mmc::{MmcCommand, Part, StandardTimeCode};
 use mtc::{Direction, MtcGenerator, MtcTime, TimeCodeType};
-use transport::{TransportAnswer, TurnAnswer, obey_next};
+use transport::{obey_next};
 use universal::SysexError;
 
 // What a command that is done does to the generator.
@@ -163,20 +163,20 @@ fn say_done(rt: &impl Print, command: MmcCommand, generator: MtcGenerator) {
 // What the transport answered. True where the command was done.
 fn say_answer(
     rt: &impl Print,
-    answer: TransportAnswer,
+    answer: Result<Reply, SysexError>,
     command: MmcCommand,
     generator: MtcGenerator,
 ) -> bool {
     match answer {
-        TransportAnswer::Done => {
+        Ok(Reply::Done) => {
             say_done(rt, command, generator);
             true
         }
-        TransportAnswer::NotMine => {
+        Ok(Reply::NotMine) => {
             say(rt, b"Not mine.\n");
             false
         }
-        TransportAnswer::Refused(e) => {
+        Err(e) => {
             say_refusal(rt, e);
             say(rt, b". The transport is unchanged.\n");
             false
@@ -184,9 +184,9 @@ fn say_answer(
     }
 }
 
-fn is_refused(answer: TransportAnswer) -> bool {
+fn is_refused(answer: Result<Reply, SysexError>) -> bool {
     match answer {
-        TransportAnswer::Refused(_) => true,
+        Err(_) => true,
         _ => false,
     }
 }
@@ -238,7 +238,7 @@ struct Obeyed {
 fn say_obeyed(
     rt: &impl Print,
     command: MmcCommand,
-    answer: TransportAnswer,
+    answer: Result<Reply, SysexError>,
     generator: MtcGenerator,
     body: &[u8],
 ) -> Obeyed {
@@ -284,8 +284,8 @@ fn one(rt: &impl Print, run: Run, device_id: u8, own: u8, body: &[u8]) -> Run {
     let next = turn.place;
     let answer = turn.answer;
     match answer {
-        TurnAnswer::Ended(e) => ended(rt, run, e),
-        TurnAnswer::Command { command, reply } => {
+        Err(e) => ended(rt, run, e),
+        Ok(TurnReply { command, reply }) => {
             say_place(rt, b"  ", FIRST, place);
             let obeyed = say_obeyed(rt, command, reply, left, body);
             with_command(run, command, obeyed, next, body)

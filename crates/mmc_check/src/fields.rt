@@ -6,7 +6,7 @@ use crate::times::{say_code, say_short};
 use crate::writing::{
     FIRST, Writing, begin_fields, begin_responses, end_fields, end_message, with_field,
 };
-use mmc::{FieldAnswer, InfoField, next_field};
+use mmc::{InfoField, next_field};
 use universal::SysexError;
 
 // A reading: its place, whether it has ended, whether it was split to its end, and what the desk's writer makes of it.
@@ -100,8 +100,8 @@ fn one(rt: &impl Print, f: Fields, indent: &[u8], first: usize, body: &[u8]) -> 
     let next = next_field(body, place);
     let answer = next.answer;
     match answer {
-        FieldAnswer::Refused(e) => ended(rt, f, indent, first, e),
-        FieldAnswer::Field(field) => {
+        Err(e) => ended(rt, f, indent, first, e),
+        Ok(field) => {
             say_place(rt, indent, first, place);
             say_field(rt, body, field);
             Fields {

@@ -2,7 +2,7 @@
 use crate::refusals::say_refusal;
 use crate::say::{digit, say};
 use crate::times::say_label;
-use mtc::{MaybeSequence, MtcGenerator, MtcReader, MtcSequence, NextByte};
+use mtc::{MtcGenerator, MtcReader, MtcSequence};
 
 #[derive(Clone, Copy)]
 struct Stream {
@@ -35,7 +35,7 @@ fn received(rt: &impl Print, before: MtcReader, data: u8) -> MtcReader {
     let event = stepped.event;
     let reader = stepped.reader;
     let sequence = event.sequence;
-    if let MaybeSequence::Sequence(report) = sequence {
+    if let Some(report) = sequence {
         say_report(rt, report);
     }
     reader
@@ -49,11 +49,11 @@ fn one(rt: &impl Print, s: Stream) -> Stream {
     let generator = sent.generator;
     let byte = sent.byte;
     let reader = match byte {
-        NextByte::Refused(e) => {
+        Err(e) => {
             say_refusal(rt, e);
             before
         }
-        NextByte::Byte(data) => received(rt, before, data),
+        Ok(data) => received(rt, before, data),
     };
     Stream { generator, reader }
 }

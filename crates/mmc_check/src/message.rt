@@ -4,9 +4,9 @@ use crate::fields::read_responses;
 use crate::refusals::say_refusal;
 use crate::say::{say, say_byte, say_bytes, say_count};
 use crate::times::say_time;
-use mmc::{MmcMessage, ReadMmcMessage};
-use mtc::{FullMessage, ReadFullMessage, UserBits, UserBitsAnswer};
-use universal::{ALL_DEVICES, MaybeSubId2, SysexError, Universal, addressed, has_sub_id2};
+use mmc::{MmcMessage};
+use mtc::{FullMessage, UserBits, UserBitsAnswer};
+use universal::{ALL_DEVICES, SysexError, Universal, addressed, has_sub_id2};
 
 // The classes of Universal messages.
 const REAL_TIME: u8 = 0x7F;
@@ -130,26 +130,26 @@ fn user_bits(rt: &impl Print, u: Universal, data: &[u8], length: usize) -> bool 
 
 fn time_code(rt: &impl Print, u: Universal, data: &[u8], length: usize) -> bool {
     match FullMessage::from_universal(u, data) {
-        ReadFullMessage::Message(message) => say_full_message(rt, message, length),
-        ReadFullMessage::Refused(e) => refused_as(rt, b"time code full message", length, e),
-        ReadFullMessage::NotThis => user_bits(rt, u, data, length),
+        Ok(Some(message)) => say_full_message(rt, message, length),
+        Err(e) => refused_as(rt, b"time code full message", length, e),
+        Ok(None) => user_bits(rt, u, data, length),
     }
 }
 
 fn universal_message(rt: &impl Print, u: Universal, own: u8, data: &[u8], length: usize) -> bool {
     match MmcMessage::from_universal(u, data) {
-        ReadMmcMessage::Message(message) => match message {
+        Ok(Some(message)) => match message {
             MmcMessage::Commands { device_id } => commands(rt, device_id, own, data, length),
             MmcMessage::Responses { device_id } => responses(rt, device_id, data, length),
         },
-        ReadMmcMessage::Refused(e) => {
+        Err(e) => {
             say(rt, b"machine control for ");
             say_device(rt, u.device_id);
             say(rt, b", without a body");
             say_length(rt, length);
             say_refused(rt, e)
         }
-        ReadMmcMessage::NotThis => time_code(rt, u, data, length),
+        Ok(None) => time_code(rt, u, data, length),
     }
 }
 
@@ -164,7 +164,7 @@ fn with_sub_id2(rt: &impl Print, u: Universal, own: u8, bytes: &[u8]) -> bool {
         real_time: u.real_time,
         device_id: u.device_id,
         sub_id1: u.sub_id1,
-        sub_id2: MaybeSubId2::SubId2(bytes[4]),
+        sub_id2: Some(bytes[4]),
     };
     universal_message(rt, split, own, &bytes[5..end], length)
 }
@@ -196,7 +196,7 @@ pub(crate) fn read_message(rt: &impl Print, bytes: &[u8], own: u8) -> bool {
         real_time: class == REAL_TIME,
         device_id: bytes[2],
         sub_id1: bytes[3],
-        sub_id2: MaybeSubId2::NoSubId2,
+        sub_id2: None,
     };
     if has_sub_id2(u.real_time, u.sub_id1) {
         return with_sub_id2(rt, u, own, bytes);

@@ -1,8 +1,8 @@
 // What the desk's own writer would answer to the items that were read. Its bytes are not kept: only the answer counts.
 use crate::refusals::say_refusal;
 use crate::say::{say, say_count, say_number};
-use mmc::{Checked, InfoField, MmcCommand, Writer, open_commands, open_fields, open_responses};
-use universal::{SysexError, Written};
+use mmc::{InfoField, MmcCommand, Writer, open_commands, open_fields, open_responses};
+use universal::{SysexError};
 
 // The number of a body's first byte in its message, F0H being byte 1.
 pub(crate) const FIRST: usize = 5;
@@ -41,8 +41,8 @@ pub(crate) fn begin_fields() -> Writing {
 fn has_failed(writer: Writer) -> bool {
     let checked = writer.checked;
     match checked {
-        Checked::Accepted => false,
-        Checked::Refused(_) => true,
+        Ok(()) => false,
+        Err(_) => true,
     }
 }
 
@@ -93,7 +93,7 @@ fn say_at(rt: &impl Print, w: Writing, first: usize, body: &[u8]) {
 pub(crate) fn end_message(rt: &impl Print, w: Writing, body: &[u8]) -> bool {
     let writer = w.writer;
     let mut out = [0u8; 64];
-    let Written::Refused(error) = writer.close_message(&mut out) else {
+    let Err(error) = writer.close_message(&mut out) else {
         return true;
     };
     say(rt, b"  ");
@@ -106,7 +106,7 @@ pub(crate) fn end_message(rt: &impl Print, w: Writing, body: &[u8]) -> bool {
 pub(crate) fn end_fields(rt: &impl Print, w: Writing, first: usize, data: &[u8]) -> bool {
     let writer = w.writer;
     let out = [0u8; 128];
-    let Written::Refused(error) = writer.close_fields(&out) else {
+    let Err(error) = writer.close_fields(&out) else {
         return true;
     };
     say(rt, b"    ");

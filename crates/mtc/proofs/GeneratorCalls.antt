@@ -1,4 +1,5 @@
 -- The generator: what its proofs cite. Assumes nothing.
+use Rattle.std.specs.Prelude.{Option, Some, None}
 use Prim.Native.Nat.{ℕ, ◌+◌, ◌%◌, ◌≤◌, ◌<◌}
 use mathlib.Core.Bool.{Bool, true, false, cond}
 use mathlib.Core.List.{List, [], ◌∷◌}
@@ -8,42 +9,40 @@ use borrow.Author.Tests.{le-leb, lt-leb}
 use lib.Dec.{T, lit≤, le→leb}
 use lib.ListN.{get_or}
 use Rattle.mtc.specs.QuarterFrame.{pieces}
-use Rattle.mtc.specs.Generator.{known, piece_next, time_next, sent_at, next_byte_of, next_byte, after_next_byte, GeneratorCall, next_byte_call, running, turn, locate, after_generator_call, after_generator_calls}
+use Rattle.mtc.specs.Generator.{known, piece_next, time_next, sent_at, next_byte, after_next_byte, GeneratorCall, next_byte_call, running, turn, locate, after_generator_call, after_generator_calls}
 use Rattle.mtc.specs.Reader.{piece_fits}
 use Rattle.labels.specs.declared.time.MtcTime.{MtcTime}
 use Rattle.mtc.specs.declared.generator.Direction.{Direction}
 use Rattle.mtc.specs.declared.generator.Direction.TheVariants.{Forward, Reverse}
-use Rattle.mtc.specs.declared.generator.MaybePiece.{MaybePiece}
-use Rattle.mtc.specs.declared.generator.MaybePiece.TheVariants.{NoPiece, Piece}
 use Rattle.mtc.specs.declared.generator.MtcGenerator.{MtcGenerator}
 use Rattle.mtc.specs.declared.generator.Sent.{Sent}
-use Rattle.universal.specs.Refusals.{gives, refused, refusal}
+use Rattle.universal.specs.Refusals.{gives, refused, refusal, answer_of}
 
 -- ---- a last piece above 7 is none
 
-pub known_within : {m : MaybePiece} {l : ℕ} → m ≡ Piece l → l ≤ 7 → known m ≡ Piece l
+pub known_within : {m : Option ℕ} {l : ℕ} → m ≡ Some l → l ≤ 7 → known m ≡ Some l
 known_within {m} {l} e h = rw (e, le-leb l 7 h)
 
-pub known_above : {m : MaybePiece} {l : ℕ} → m ≡ Piece l → 7 < l → known m ≡ NoPiece
+pub known_above : {m : Option ℕ} {l : ℕ} → m ≡ Some l → 7 < l → known m ≡ None
 known_above {m} {l} e h = rw (e, lt-leb l 7 h)
 
-pub known_none : {m : MaybePiece} → m ≡ NoPiece → known m ≡ NoPiece
+pub known_none : {m : Option ℕ} → m ≡ None → known m ≡ None
 known_none e = rw e
 
 -- ---- the next byte
 
 -- A running generator sends the piece after its last one.
-pub sends : (g : MtcGenerator) {m : MaybePiece} {t : MtcTime} {p : ℕ}
+pub sends : (g : MtcGenerator) {m : Option ℕ} {t : MtcTime} {p : ℕ}
     → g.running ≡ true → known g.last ≡ m → t ≡ time_next g.direction m g.time → p ≡ piece_next g.direction m
     → (gives (get_or (pieces t) p 0) ≡ next_byte g) × (sent_at t g.direction p ≡ after_next_byte g)
 unfolding next_byte after_next_byte
 sends g r k et ep = (rw (r, k, et, ep), rw (r, k, et, ep))
 
 -- So it is with an answer that sends that piece.
-pub answers : (g : MtcGenerator) (s : Sent) {m : MaybePiece} {t : MtcTime} {p : ℕ}
+pub answers : (g : MtcGenerator) (s : Sent) {m : Option ℕ} {t : MtcTime} {p : ℕ}
     → g.running ≡ true → known g.last ≡ m → t ≡ time_next g.direction m g.time → p ≡ piece_next g.direction m
-    → (next_byte_of s.byte ≡ gives (get_or (pieces t) p 0)) × (s.generator ≡ sent_at t g.direction p)
-    → (next_byte_of s.byte ≡ next_byte g) × (s.generator ≡ after_next_byte g)
+    → (answer_of s.byte ≡ gives (get_or (pieces t) p 0)) × (s.generator ≡ sent_at t g.direction p)
+    → (answer_of s.byte ≡ next_byte g) × (s.generator ≡ after_next_byte g)
 answers g s r k et ep q = let e = sends g r k et ep in (q.0 ∙ e.0, q.1 ∙ e.1)
 
 -- A stopped one refuses and stays as it is.
@@ -53,11 +52,11 @@ stopped_refuses g r = (rw r, rw r)
 
 -- ---- records that no calls leave
 
-next_small : (d : Direction) (m : MaybePiece) → piece_next d m ≤ 7
-next_small Forward NoPiece = lit≤ tt
-next_small Forward (Piece l) = omega arith
-next_small Reverse NoPiece = lit≤ tt
-next_small Reverse (Piece l) = omega arith
+next_small : (d : Direction) (m : Option ℕ) → piece_next d m ≤ 7
+next_small Forward None = lit≤ tt
+next_small Forward (Some l) = omega arith
+next_small Reverse None = lit≤ tt
+next_small Reverse (Some l) = omega arith
 
 next_fits : (g : MtcGenerator) → T (piece_fits g.last) → T (piece_fits (after_next_byte g).last)
 unfolding after_next_byte

@@ -1,5 +1,6 @@
 -- The laws that readers and upper crates cite: quarter frames, the full message and user bits, and what they mean by RP-004/008;
 -- the stream law. Assumes nothing.
+use Rattle.std.specs.Prelude.{Option}
 use Prim.Native.Nat.{ℕ, ◌+◌, ◌*◌, ◌%◌, ◌<◌}
 use mathlib.Core.Path.{◌≡◌, refl}
 use mathlib.Core.List.{List, [], ◌∷◌, map}
@@ -10,7 +11,6 @@ use Rattle.labels.specs.declared.time.MtcTime.{MtcTime}
 use Rattle.mtc.specs.declared.generator.Direction.{Direction}
 use Rattle.mtc.specs.declared.generator.Direction.TheVariants.{Forward, Reverse}
 use Rattle.mtc.specs.declared.generator.MtcGenerator.{MtcGenerator}
-use Rattle.mtc.specs.declared.reader.MaybeTime.{MaybeTime}
 use Rattle.mtc.specs.declared.reader.MtcReader.{MtcReader}
 use Rattle.mtc.specs.Generator.{final, sequence_frames, started, GeneratorCall, after_generator_calls}
 use Rattle.mtc.specs.QuarterFrame.{piece_of, quarter_frame, from_byte, to_byte, masked, pieces}
@@ -79,11 +79,11 @@ pub event_boundary : (r : MtcReader) (b : ℕ) → (event_of r b).boundary ≡ i
 event_boundary = QuarterFrames.event_boundary
 
 -- Forward the current time that a report of a valid label has is RP-004/008's.
-pub current_forward : (t : MtcTime) (p : MaybeTime) → T (is_valid t) → (sequence_of_label t Forward p).current ≡ current_time t
+pub current_forward : (t : MtcTime) (p : Option MtcTime) → T (is_valid t) → (sequence_of_label t Forward p).current ≡ current_time t
 current_forward = QuarterFrames.current_forward
 
 -- In reverse, where the page does not say, it is the label before.
-pub current_reverse : (t : MtcTime) (p : MaybeTime) → T (is_valid t) → (sequence_of_label t Reverse p).current ≡ label_before t
+pub current_reverse : (t : MtcTime) (p : Option MtcTime) → T (is_valid t) → (sequence_of_label t Reverse p).current ≡ label_before t
 current_reverse = QuarterFrames.current_reverse
 
 -- A reader that is ready for a sequence reads it, of every label whose numbers fit their widths, and is ready for the next one.

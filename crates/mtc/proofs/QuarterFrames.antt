@@ -1,6 +1,7 @@
 -- Laws of quarter frames: data bytes, the pieces of a label, the sequences that a generator sends and those that a reader reads
 -- are RP-004/008's, where the label's counts fit their widths, so of every valid one; what is sent and read beyond that; and which
 -- readers are ready. Assumes nothing.
+use Rattle.std.specs.Prelude.{Option, Some, None}
 use Prim.Native.Nat.{ℕ, zero, suc, ◌+◌, ◌*◌, ◌/◌, ◌%◌, ◌<◌}
 use mathlib.Core.Bool.{Bool, true, false, ◌&&◌}
 use mathlib.Core.List.{List, [], ◌∷◌, ◌++◌, map, reverse, append-nil}
@@ -22,10 +23,6 @@ use Rattle.labels.specs.declared.time.MtcTime.{MtcTime}
 use Rattle.mtc.specs.declared.generator.Direction.{Direction}
 use Rattle.mtc.specs.declared.generator.Direction.TheVariants.{Forward, Reverse}
 use Rattle.mtc.specs.declared.generator.MtcGenerator.{MtcGenerator}
-use Rattle.mtc.specs.declared.generator.MaybePiece.TheVariants.{Piece}
-use Rattle.mtc.specs.declared.reader.MaybeDirection.TheVariants.{NoDirection, Going}
-use Rattle.mtc.specs.declared.reader.MaybeSequence.TheVariants.{Sequence}
-use Rattle.mtc.specs.declared.reader.MaybeTime.{MaybeTime}
 use Rattle.mtc.specs.declared.reader.MtcReader.{MtcReader}
 use Rattle.mtc.proofs.Sequences.LabelNibbles.{bits_code, nibble, Values, nibbles_in_order, assembled, values, split, split_pieces, type_of_bits, raw_values}
 use Rattle.labels.proofs.Laws.{moved_valid, moved_by_sum, moved_by_one, moved_back_one}
@@ -161,10 +158,10 @@ sends_practice g t d (suc n) h =
 -- ---- what a reader says of it
 
 -- Forward the reported current time is RP-004/008's; in reverse it is the label before.
-pub current_forward : (t : MtcTime) (p : MaybeTime) → T (is_valid t) → (sequence_of_label t Forward p).current ≡ current_time t
+pub current_forward : (t : MtcTime) (p : Option MtcTime) → T (is_valid t) → (sequence_of_label t Forward p).current ≡ current_time t
 current_forward t p h = moves_practice t Forward h
 
-pub current_reverse : (t : MtcTime) (p : MaybeTime) → T (is_valid t) → (sequence_of_label t Reverse p).current ≡ label_before t
+pub current_reverse : (t : MtcTime) (p : Option MtcTime) → T (is_valid t) → (sequence_of_label t Reverse p).current ≡ label_before t
 current_reverse t p h = moved_back_one t h
 
 -- The event of a data byte has its piece.
@@ -179,7 +176,7 @@ event_boundary r b = refl
 
 -- Bytes of eight pieces in a direction's order are read as the label of their values.
 module _ (r : MtcReader) (d : Direction) (bs : List ℕ) (v : Values) (h : Ready d r) (e : map split bs ≡ nibbles_in_order d v) where
-  reports_are : reports_of (events r bs) ≡ silent 7 ++ (Sequence (sequence_of_label (assembled v) d r.previous) ∷ [])
+  reports_are : reports_of (events r bs) ≡ silent 7 ++ (Some (sequence_of_label (assembled v) d r.previous) ∷ [])
   unfolding run
   reports_are =
       reports_run bs r h.sound
@@ -196,7 +193,7 @@ module _ (r : MtcReader) (d : Direction) (bs : List ℕ) (v : Values) (h : Ready
         ready =
             record {
               sound = bytes_sound bs r h.sound;
-              starts = subst (λ (x : MtcReader). Starts d (control x)) (sym leaves) (starts_next d (first d) (Going d));
+              starts = subst (λ (x : MtcReader). Starts d (control x)) (sym leaves) (starts_next d (first d) (Some d));
             };
         previous = ap (λ (x : MtcReader). x.previous) leaves;
       }
@@ -304,7 +301,7 @@ reserved_ignored a b c d e f g h =
 
 -- A fresh reader is ready for either direction.
 pub fresh_ready : (d : Direction) → Ready d fresh
-fresh_ready d = record { sound = fresh_sound; starts = starts_anew d 0 0 NoDirection (inl refl) }
+fresh_ready d = record { sound = fresh_sound; starts = starts_anew d 0 0 None (inl refl) }
 
 -- So is a reader that just got a full message, unless it was going the other way.
 pub full_ready : (r : MtcReader) (d : Direction) (t : MtcTime) → Sound r → NotAgainst d r.direction → Ready d (after_full_message r t)
@@ -320,7 +317,7 @@ pub last_piece_ready : (cs : List Call) (b : ℕ) (d : Direction) → piece_of b
 unfolding newest after_calls
 last_piece_ready cs b d e =
     let p = past (byte b ∷ []) (newest [] cs) (after_calls fresh cs) (past cs [] fresh fresh_past) in
-    record { sound = p.sound; starts = starts_after_last d _ (after_byte (after_calls fresh cs) b) p.shape (last_is _ _ _ ∙ ap Piece e) }
+    record { sound = p.sound; starts = starts_after_last d _ (after_byte (after_calls fresh cs) b) p.shape (last_is _ _ _ ∙ ap Some e) }
 
 -- ---- a discontinuity
 

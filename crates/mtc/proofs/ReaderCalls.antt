@@ -1,4 +1,5 @@
 -- The reader: what its proofs cite, a lemma for each way through its code. Assumes nothing.
+use Rattle.std.specs.Prelude.{Option, Some, None}
 use Prim.Native.Nat.{ℕ, zero, suc, ◌+◌, ◌≤◌, ◌<◌}
 use mathlib.Core.Bool.{Bool, true, false, not, cond, ◌&&◌}
 use mathlib.Core.List.{List, [], ◌∷◌}
@@ -16,14 +17,7 @@ use Rattle.mtc.specs.Reader.{Standing, nibbles_fit, piece_fits, is_sound, or_fre
 use Rattle.labels.specs.Time.{add_frames, bits_of}
 use Rattle.labels.specs.declared.time.MtcTime.{MtcTime}
 use Rattle.mtc.specs.declared.generator.Direction.{Direction}
-use Rattle.mtc.specs.declared.generator.MaybePiece.{MaybePiece}
-use Rattle.mtc.specs.declared.generator.MaybePiece.TheVariants.{NoPiece, Piece}
 use Rattle.mtc.specs.declared.quarter_frame.QuarterFrame.{QuarterFrame}
-use Rattle.mtc.specs.declared.reader.MaybeDirection.{MaybeDirection}
-use Rattle.mtc.specs.declared.reader.MaybeDirection.TheVariants.{NoDirection, Going}
-use Rattle.mtc.specs.declared.reader.MaybeSequence.TheVariants.{NoSequence, Sequence}
-use Rattle.mtc.specs.declared.reader.MaybeTime.{MaybeTime}
-use Rattle.mtc.specs.declared.reader.MaybeTime.TheVariants.{Time}
 use Rattle.mtc.specs.declared.reader.MtcEvent.{MtcEvent}
 use Rattle.mtc.specs.declared.reader.MtcReader.{MtcReader}
 use Rattle.mtc.specs.declared.reader.MtcSequence.{MtcSequence}
@@ -134,9 +128,9 @@ module _ (r : MtcReader) where
     pub sound_first : r.first ≤ 7
     sound_first = leb→le r.first 7 (both_l (leb r.first 7) (piece_fits r.last && nibbles_fit 8 r.nibbles) rest)
 
-    pub sound_last : {l : ℕ} → r.last ≡ Piece l → l ≤ 7
+    pub sound_last : {l : ℕ} → r.last ≡ Some l → l ≤ 7
     sound_last {l} e =
-        leb→le l 7 (subst (λ (m : MaybePiece). T (piece_fits m)) e (both_l (piece_fits r.last) (nibbles_fit 8 r.nibbles) last_two))
+        leb→le l 7 (subst (λ (m : Option ℕ). T (piece_fits m)) e (both_l (piece_fits r.last) (nibbles_fit 8 r.nibbles) last_two))
 
     pub sound_nibbles : T (nibbles_fit 8 r.nibbles)
     sound_nibbles = both_r (piece_fits r.last) (nibbles_fit 8 r.nibbles) last_two
@@ -144,49 +138,49 @@ module _ (r : MtcReader) where
 -- ---- how a piece stands to those before it
 
 module _ (l p : ℕ) where
-  pub between_forward : after Direction.Forward l ≡ p → Going Direction.Forward ≡ direction_between l p
+  pub between_forward : after Direction.Forward l ≡ p → Some Direction.Forward ≡ direction_between l p
   between_forward h = rw (eq-eqb _ _ h)
 
-  pub between_reverse : (after Direction.Forward l ≡ p → ⊥) → after Direction.Reverse l ≡ p → Going Direction.Reverse ≡ direction_between l p
+  pub between_reverse : (after Direction.Forward l ≡ p → ⊥) → after Direction.Reverse l ≡ p → Some Direction.Reverse ≡ direction_between l p
   between_reverse n h = rw (ne_eqb _ _ n, eq-eqb _ _ h)
 
-  pub between_none : (after Direction.Forward l ≡ p → ⊥) → (after Direction.Reverse l ≡ p → ⊥) → NoDirection ≡ direction_between l p
+  pub between_none : (after Direction.Forward l ≡ p → ⊥) → (after Direction.Reverse l ≡ p → ⊥) → None ≡ direction_between l p
   between_none n h = rw (ne_eqb _ _ n, ne_eqb _ _ h)
 
-module _ (r : Control) (d f : MaybeDirection) where
-  pub no_neighbour : f ≡ NoDirection → ordered false d false ≡ out_of_order r d f
+module _ (r : Control) (d f : Option Direction) where
+  pub no_neighbour : f ≡ None → ordered false d false ≡ out_of_order r d f
   no_neighbour e = rw e (none d)
     where
-      none : (x : MaybeDirection) → ordered false x false ≡ out_of_order r x NoDirection
-      none NoDirection = refl
-      none (Going y) = refl
+      none : (x : Option Direction) → ordered false x false ≡ out_of_order r x None
+      none None = refl
+      none (Some y) = refl
 
-  pub turned : {x y : Direction} → d ≡ Going x → f ≡ Going y → ordered false (Going y) false ≡ out_of_order r d f
+  pub turned : {x y : Direction} → d ≡ Some x → f ≡ Some y → ordered false (Some y) false ≡ out_of_order r d f
   turned e g = rw (e, g)
 
-  pub second_alone : {y : Direction} → d ≡ NoDirection → f ≡ Going y → r.count ≡ 0 → ordered false (Going y) true ≡ out_of_order r d f
+  pub second_alone : {y : Direction} → d ≡ None → f ≡ Some y → r.count ≡ 0 → ordered false (Some y) true ≡ out_of_order r d f
   second_alone e g h = rw (e, g, h)
 
-  pub second : {y : Direction} → d ≡ NoDirection → f ≡ Going y → (r.count ≡ 0 → ⊥) → {b : ℕ} → b ≡ first y
-      → ordered (eqb r.first b) (Going y) true ≡ out_of_order r d f
+  pub second : {y : Direction} → d ≡ None → f ≡ Some y → (r.count ≡ 0 → ⊥) → {b : ℕ} → b ≡ first y
+      → ordered (eqb r.first b) (Some y) true ≡ out_of_order r d f
   second e g h i = rw (e, g, i, lt-ltb 0 r.count (omega (arith, h)))
 
 module _ (r : Control) (p : ℕ) where
-  pub order_alone : r.last ≡ NoPiece → ordered false r.direction true ≡ order_of r p
+  pub order_alone : r.last ≡ None → ordered false r.direction true ≡ order_of r p
   unfolding order_of
   order_alone e = rw e
 
-  module _ {l : ℕ} (e : r.last ≡ Piece l) where
-    pub order_second : {f : MaybeDirection} → f ≡ direction_between l p → r.direction ≡ NoDirection → out_of_order r r.direction f ≡ order_of r p
+  module _ {l : ℕ} (e : r.last ≡ Some l) where
+    pub order_second : {f : Option Direction} → f ≡ direction_between l p → r.direction ≡ None → out_of_order r r.direction f ≡ order_of r p
     unfolding order_of
     order_second i g = rw (i, e, g)
 
-    pub order_next : {d : Direction} → r.direction ≡ Going d → after d l ≡ p → ordered true (Going d) true ≡ order_of r p
+    pub order_next : {d : Direction} → r.direction ≡ Some d → after d l ≡ p → ordered true (Some d) true ≡ order_of r p
     unfolding order_of
     order_next g h = rw (e, g, eq-eqb _ _ h)
 
-    pub order_turned : {f : MaybeDirection} {d : Direction} → f ≡ direction_between l p → r.direction ≡ Going d → (after d l ≡ p → ⊥)
-        → out_of_order r (Going d) f ≡ order_of r p
+    pub order_turned : {f : Option Direction} {d : Direction} → f ≡ direction_between l p → r.direction ≡ Some d → (after d l ≡ p → ⊥)
+        → out_of_order r (Some d) f ≡ order_of r p
     unfolding order_of
     order_turned i g h = rw (i, e, g, ne_eqb _ _ h)
 
@@ -228,15 +222,15 @@ module _ (r₀ : MtcReader) (b : ℕ) {r : MtcReader} {q : QuarterFrame} {o : St
   abbrev pub Steps : MtcReader → MtcEvent → Type 0
   Steps s e = (s ≡ after_byte r₀ b) × (e ≡ event_of r₀ b)
 
-  pub passes : {s : MtcReader} {e : MtcEvent} → n ≡ 0 → s ≡ passed r o q.piece → e ≡ event_with q.piece NoSequence → Steps s e
+  pub passes : {s : MtcReader} {e : MtcEvent} → n ≡ 0 → s ≡ passed r o q.piece → e ≡ event_with q.piece None → Steps s e
   passes z x y = (x ∙ rw (← after_byte_lem, z), y ∙ rw (← event_byte, z))
 
   pub completes : {s : MtcReader} {e : MtcEvent} {t : MtcReader} → n ≡ 8 → t ≡ stored r o n q.piece q.value
-      → (s ≡ completed t) × (e ≡ event_with q.piece (Sequence (sequence_of t))) → Steps s e
+      → (s ≡ completed t) × (e ≡ event_with q.piece (Some (sequence_of t))) → Steps s e
   completes z et x = (x.0 ∙ rw (et, ← after_byte_lem, z), x.1 ∙ rw (et, ← event_byte, z))
 
   pub keeps : {s : MtcReader} {e : MtcEvent} → (n ≡ 0 → ⊥) → (n ≡ 8 → ⊥) → s ≡ stored r o n q.piece q.value
-      → e ≡ event_with q.piece NoSequence → Steps s e
+      → e ≡ event_with q.piece None → Steps s e
   keeps z w x y =
       (x ∙ rw (← after_byte_lem, ne_eqb n 0 z, ne_eqb n 8 w), y ∙ rw (← event_byte, ne_eqb n 8 w))
 
@@ -259,8 +253,8 @@ module _ (t u : MtcTime) where
     pub same_counts : t.frames ≡ u.frames → {a b : ℕ} → a ≡ bits_of t.rate → b ≡ bits_of u.rate → eqb a b ≡ same_time t u
     same_counts f i j = rw (eq-eqb _ _ h, eq-eqb _ _ m, eq-eqb _ _ s, eq-eqb _ _ f, i, j)
 
-pub jumps_from : (m : MaybeTime) (d : Direction) (raw : MtcTime) {t u : MtcTime} {b : Bool}
-    → m ≡ Time t → u ≡ add_frames t (sequence_frames d) → b ≡ same_time u raw → not b ≡ jumps m d raw
+pub jumps_from : (m : Option MtcTime) (d : Direction) (raw : MtcTime) {t u : MtcTime} {b : Bool}
+    → m ≡ Some t → u ≡ add_frames t (sequence_frames d) → b ≡ same_time u raw → not b ≡ jumps m d raw
 jumps_from m d raw e i j = rw (j, i, e)
 
 -- The sequence that eight nibbles, a direction and a previous label report.

@@ -1,16 +1,13 @@
 -- What mtc.rs's generator does, on every record: one definition for each public call of src/generator.rt. Assumes nothing.
-use Rattle.std.specs.Prelude.{ℕ, ◌+◌, ◌%◌, Bool, true, cond, List, [], ◌∷◌, leb, eqb, ℤ, pos, negsuc, get_or}
+use Rattle.universal.specs.declared.error.SysexError.{SysexError}
+use Rattle.std.specs.Prelude.{ℕ, ◌+◌, ◌%◌, Bool, true, cond, List, [], ◌∷◌, leb, eqb, ℤ, pos, negsuc, get_or, Option, Some, None, Result}
 use Rattle.mtc.specs.QuarterFrame.{pieces}
 use Rattle.labels.specs.Time.{add_frames}
 use Rattle.labels.specs.declared.time.MtcTime.{MtcTime}
 use Rattle.mtc.specs.declared.generator.Direction.{Direction}
 use Rattle.mtc.specs.declared.generator.Direction.TheVariants.{Forward, Reverse}
-use Rattle.mtc.specs.declared.generator.MaybePiece.{MaybePiece}
-use Rattle.mtc.specs.declared.generator.MaybePiece.TheVariants.{NoPiece, Piece}
 use Rattle.mtc.specs.declared.generator.MtcGenerator.{MtcGenerator}
-use Rattle.mtc.specs.declared.generator.NextByte.{NextByte}
-use Rattle.mtc.specs.declared.generator.NextByte.TheVariants.{Byte, Refused}
-use Rattle.universal.specs.Refusals.{Answer, gives, refused, refusal, refusal_of}
+use Rattle.universal.specs.Refusals.{Answer, gives, refused, refusal, refusal_of, answer_of}
 
 -- ---- the order of pieces
 
@@ -39,30 +36,30 @@ abbrev pub moved : Direction → ℕ → MtcTime → MtcTime
 moved d last t = cond (eqb last (final d)) (add_frames t (sequence_frames d)) t
 
 -- A last piece above 7 is none.
-abbrev pub known : MaybePiece → MaybePiece
-known NoPiece = NoPiece
-known (Piece l) = cond (leb l 7) (Piece l) NoPiece
+abbrev pub known : Option ℕ → Option ℕ
+known None = None
+known (Some l) = cond (leb l 7) (Some l) None
 
 -- The piece after the last one, or the first one.
-abbrev pub piece_next : Direction → MaybePiece → ℕ
-piece_next d NoPiece = first d
-piece_next d (Piece l) = after d l
+abbrev pub piece_next : Direction → Option ℕ → ℕ
+piece_next d None = first d
+piece_next d (Some l) = after d l
 
 -- The time of the sequence that it belongs to.
-abbrev pub time_next : Direction → MaybePiece → MtcTime → MtcTime
-time_next d NoPiece t = t
-time_next d (Piece l) t = moved d l t
+abbrev pub time_next : Direction → Option ℕ → MtcTime → MtcTime
+time_next d None t = t
+time_next d (Some l) t = moved d l t
 
 -- ---- the next byte
 
 -- The byte, or the refusal.
-abbrev pub next_byte_of : NextByte → Answer ℕ
-next_byte_of (Byte b) = gives b
-next_byte_of (Refused e) = refused (refusal_of e)
+abbrev pub answer_of : Result ℕ SysexError → Answer ℕ
+answer_of (Byte b) = gives b
+answer_of (Refused e) = refused (refusal_of e)
 
 -- A running generator that has just sent a piece.
 abbrev pub sent_at : MtcTime → Direction → ℕ → MtcGenerator
-sent_at t d p = record { time = t; direction = d; last = Piece p; running = true }
+sent_at t d p = record { time = t; direction = d; last = Some p; running = true }
 
 -- The next piece of the time; while stopped refusal 8.
 unfoldable pub next_byte : MtcGenerator → Answer ℕ
@@ -84,7 +81,7 @@ after_next_byte g =
 
 -- A running generator that has sent nothing.
 abbrev pub started : MtcTime → Direction → MtcGenerator
-started t d = record { time = t; direction = d; last = NoPiece; running = true }
+started t d = record { time = t; direction = d; last = None; running = true }
 
 -- Set running or stopped.
 abbrev pub with_running : MtcGenerator → Bool → MtcGenerator
@@ -96,7 +93,7 @@ with_direction g d = record { time = g.time; direction = d; last = g.last; runni
 
 -- At a new time: the last piece is forgotten, direction and running are kept.
 abbrev pub located : MtcGenerator → MtcTime → MtcGenerator
-located g t = record { time = t; direction = g.direction; last = NoPiece; running = g.running }
+located g t = record { time = t; direction = g.direction; last = None; running = g.running }
 
 -- ---- lists of calls
 

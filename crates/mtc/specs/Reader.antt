@@ -1,20 +1,12 @@
 -- What mtc.rs's reader does, on every record: one definition for each public call of src/reader.rt. The count, the first and
 -- last piece and the direction decide what becomes of a piece; nibbles, times and marks are carried along. Assumes nothing.
-use Rattle.std.specs.Prelude.{ℕ, zero, suc, ◌+◌, ◌*◌, ◌%◌, ◌≤◌, ◌<◌, Bool, true, false, not, cond, ◌&&◌, ◌||◌, List, ◌≡◌, T, leb, ltb, eqb, ℤ, pos, negsuc, length, get_or, set, replicate}
+use Rattle.std.specs.Prelude.{ℕ, zero, suc, ◌+◌, ◌*◌, ◌%◌, ◌≤◌, ◌<◌, Bool, true, false, not, cond, ◌&&◌, ◌||◌, List, ◌≡◌, T, leb, ltb, eqb, ℤ, pos, negsuc, length, get_or, set, replicate, Option, Some, None}
 use Rattle.mtc.specs.Generator.{first, after, sequence_frames}
 use Rattle.mtc.specs.QuarterFrame.{piece_of, value_of}
 use Rattle.labels.specs.Time.{add_frames, raw_time, bits_of}
 use Rattle.labels.specs.declared.time.MtcTime.{MtcTime}
 use Rattle.mtc.specs.declared.generator.Direction.{Direction}
 use Rattle.mtc.specs.declared.generator.Direction.TheVariants.{Forward, Reverse}
-use Rattle.mtc.specs.declared.generator.MaybePiece.{MaybePiece}
-use Rattle.mtc.specs.declared.generator.MaybePiece.TheVariants.{NoPiece, Piece}
-use Rattle.mtc.specs.declared.reader.MaybeDirection.{MaybeDirection}
-use Rattle.mtc.specs.declared.reader.MaybeDirection.TheVariants.{NoDirection, Going}
-use Rattle.mtc.specs.declared.reader.MaybeSequence.{MaybeSequence}
-use Rattle.mtc.specs.declared.reader.MaybeSequence.TheVariants.{NoSequence, Sequence}
-use Rattle.mtc.specs.declared.reader.MaybeTime.{MaybeTime}
-use Rattle.mtc.specs.declared.reader.MaybeTime.TheVariants.{NoTime, Time}
 use Rattle.mtc.specs.declared.reader.MtcEvent.{MtcEvent}
 use Rattle.mtc.specs.declared.reader.MtcReader.{MtcReader}
 use Rattle.mtc.specs.declared.reader.MtcSequence.{MtcSequence}
@@ -28,12 +20,12 @@ fresh =
       nibbles = replicate 8 0;
       count = 0;
       first = 0;
-      last = NoPiece;
-      direction = NoDirection;
+      last = None;
+      direction = None;
       locked = false;
       running = false;
-      previous = NoTime;
-      time = NoTime;
+      previous = None;
+      time = None;
     }
 
 -- The first k nibbles are at most 15.
@@ -42,9 +34,9 @@ nibbles_fit zero n = true
 nibbles_fit (suc k) n = nibbles_fit k n && leb (get_or n k 0) 15
 
 -- No piece, or one of 0 to 7.
-abbrev pub piece_fits : MaybePiece → Bool
-piece_fits NoPiece = true
-piece_fits (Piece p) = leb p 7
+abbrev pub piece_fits : Option ℕ → Bool
+piece_fits None = true
+piece_fits (Some p) = leb p 7
 
 -- Count and pieces at most 7, nibbles at most 15.
 unfoldable pub is_sound : MtcReader → Bool
@@ -59,7 +51,7 @@ pub record Sound (r : MtcReader) : Type 0 where
 pub record Bounds (r : MtcReader) : Type 0 where
   pub count : r.count ≤ 7
   pub first : r.first ≤ 7
-  pub last : (p : ℕ) → r.last ≡ Piece p → p ≤ 7
+  pub last : (p : ℕ) → r.last ≡ Some p → p ≤ 7
   pub nibbles : (j : ℕ) → j < 8 → get_or r.nibbles j 0 ≤ 15
   pub eight : length r.nibbles ≡ 8
 
@@ -73,48 +65,48 @@ or_fresh r = cond (is_sound r) r fresh
 pub record Control : Type 0 where
   pub count : ℕ
   pub first : ℕ
-  pub last : MaybePiece
-  pub direction : MaybeDirection
+  pub last : Option ℕ
+  pub direction : Option Direction
 
 abbrev pub control : MtcReader → Control
 control r = record { count = r.count; first = r.first; last = r.last; direction = r.direction }
 
 -- The direction in which a piece comes right after another.
-abbrev pub direction_between : ℕ → ℕ → MaybeDirection
-direction_between l p = cond (eqb (after Forward l) p) (Going Forward) (cond (eqb (after Reverse l) p) (Going Reverse) NoDirection)
+abbrev pub direction_between : ℕ → ℕ → Option Direction
+direction_between l p = cond (eqb (after Forward l) p) (Some Forward) (cond (eqb (after Reverse l) p) (Some Reverse) None)
 
 -- How a piece stands to those before it: it is the next one in its direction; the direction that it leaves; it keeps the lock.
 pub record Standing : Type 0 where
   pub next : Bool
-  pub direction : MaybeDirection
+  pub direction : Option Direction
   pub keeps : Bool
 
-abbrev pub ordered : Bool → MaybeDirection → Bool → Standing
+abbrev pub ordered : Bool → Option Direction → Bool → Standing
 ordered next d keeps = record { next = next; direction = d; keeps = keeps }
 
 -- Without a direction the second piece gives it, and goes on where the sequence began at that direction's first piece. A
 -- piece beside the last one turns a direction and drops the lock; any other only drops the lock.
-abbrev pub out_of_order : Control → MaybeDirection → MaybeDirection → Standing
-out_of_order c NoDirection (Going f) = ordered (ltb 0 c.count && eqb c.first (first f)) (Going f) true
-out_of_order c NoDirection NoDirection = ordered false NoDirection false
-out_of_order c (Going d) (Going f) = ordered false (Going f) false
-out_of_order c (Going d) NoDirection = ordered false (Going d) false
+abbrev pub out_of_order : Control → Option Direction → Option Direction → Standing
+out_of_order c None (Some f) = ordered (ltb 0 c.count && eqb c.first (first f)) (Some f) true
+out_of_order c None None = ordered false None false
+out_of_order c (Some d) (Some f) = ordered false (Some f) false
+out_of_order c (Some d) None = ordered false (Some d) false
 
 -- A piece after a last piece, in a direction: it is the next one, or out of order. The first piece of all is not the next one.
-abbrev pub order_after : Control → MaybePiece → MaybeDirection → ℕ → Standing
-order_after c NoPiece d p = ordered false d true
-order_after c (Piece l) NoDirection p = out_of_order c NoDirection (direction_between l p)
-order_after c (Piece l) (Going d) p =
-    cond (eqb (after d l) p) (ordered true (Going d) true) (out_of_order c (Going d) (direction_between l p))
+abbrev pub order_after : Control → Option ℕ → Option Direction → ℕ → Standing
+order_after c None d p = ordered false d true
+order_after c (Some l) None p = out_of_order c None (direction_between l p)
+order_after c (Some l) (Some d) p =
+    cond (eqb (after d l) p) (ordered true (Some d) true) (out_of_order c (Some d) (direction_between l p))
 
 -- How a piece stands to those before it.
 unfoldable pub order_of : Control → ℕ → Standing
 order_of c p = order_after c c.last c.direction p
 
 -- A piece starts a sequence: the first one of the direction, and without a direction 0 or 7.
-abbrev pub starts : MaybeDirection → ℕ → Bool
-starts NoDirection p = eqb p 0 || eqb p 7
-starts (Going d) p = eqb p (first d)
+abbrev pub starts : Option Direction → ℕ → Bool
+starts None p = eqb p 0 || eqb p 7
+starts (Some d) p = eqb p (first d)
 
 -- The number of a piece in its sequence, 1 to 8, after `held` pieces; 0 where it belongs to none.
 abbrev pub number_after : ℕ → Bool → ℕ
@@ -139,9 +131,9 @@ offset Forward = pos 2
 offset Reverse = negsuc 0
 
 -- Pieces that end without a direction count as forward.
-abbrev pub direction_of : MaybeDirection → Direction
-direction_of NoDirection = Forward
-direction_of (Going d) = d
+abbrev pub direction_of : Option Direction → Direction
+direction_of None = Forward
+direction_of (Some d) = d
 
 -- Two labels are one, rate included.
 abbrev pub same_time : MtcTime → MtcTime → Bool
@@ -151,12 +143,12 @@ same_time t u =
     && (eqb t.seconds u.seconds && (eqb t.frames u.frames && eqb (bits_of t.rate) (bits_of u.rate))))
 
 -- There is a previous label, and a sequence further on it is not this one.
-abbrev pub jumps : MaybeTime → Direction → MtcTime → Bool
-jumps NoTime d raw = false
-jumps (Time t) d raw = not (same_time (add_frames t (sequence_frames d)) raw)
+abbrev pub jumps : Option MtcTime → Direction → MtcTime → Bool
+jumps None d raw = false
+jumps (Some t) d raw = not (same_time (add_frames t (sequence_frames d)) raw)
 
 -- The report of a label, after a previous one.
-abbrev pub sequence_of_label : MtcTime → Direction → MaybeTime → MtcSequence
+abbrev pub sequence_of_label : MtcTime → Direction → Option MtcTime → MtcSequence
 sequence_of_label raw d previous =
     record { raw = raw; current = add_frames raw (offset d); direction = d; discontinuity = jumps previous d raw }
 
@@ -175,8 +167,8 @@ completed r =
       direction = r.direction;
       locked = true;
       running = r.running;
-      previous = Time (sequence_of r).raw;
-      time = Time (sequence_of r).current;
+      previous = Some (sequence_of r).raw;
+      time = Some (sequence_of r).current;
     }
 
 -- ---- one piece
@@ -188,7 +180,7 @@ with_piece r o p nibbles count first =
       nibbles = nibbles;
       count = count;
       first = first;
-      last = Piece p;
+      last = Some p;
       direction = o.direction;
       locked = o.keeps && r.locked;
       running = true;
@@ -210,18 +202,18 @@ reader_by_number r o n p v =
     cond (eqb n 0) (passed r o p) (cond (eqb n 8) (completed (stored r o n p v)) (stored r o n p v))
 
 -- Only the eighth piece reports.
-abbrev pub report_by_number : MtcReader → Standing → ℕ → ℕ → ℕ → MaybeSequence
-report_by_number r o n p v = cond (eqb n 8) (Sequence (sequence_of (stored r o n p v))) NoSequence
+abbrev pub report_by_number : MtcReader → Standing → ℕ → ℕ → ℕ → Option MtcSequence
+report_by_number r o n p v = cond (eqb n 8) (Some (sequence_of (stored r o n p v))) None
 
 -- A piece, with pieces 0 and 4 marking frame boundaries, and what it reports.
-abbrev pub event_with : ℕ → MaybeSequence → MtcEvent
+abbrev pub event_with : ℕ → Option MtcSequence → MtcEvent
 event_with p s = record { piece = p; boundary = eqb p 0 || eqb p 4; sequence = s }
 
 -- The reader that a piece and its value leave, and what they report.
 unfoldable pub after_piece : MtcReader → ℕ → ℕ → MtcReader
 after_piece r p v = reader_by_number r (order_of (control r) p) (number_of (control r) (order_of (control r) p) p) p v
 
-unfoldable pub report_of : MtcReader → ℕ → ℕ → MaybeSequence
+unfoldable pub report_of : MtcReader → ℕ → ℕ → Option MtcSequence
 report_of r p v = report_by_number r (order_of (control r) p) (number_of (control r) (order_of (control r) p) p) p v
 
 -- ---- the calls
@@ -235,9 +227,9 @@ abbrev pub event_of : MtcReader → ℕ → MtcEvent
 event_of r byte = event_with (piece_of byte) (report_of (or_fresh r) (piece_of byte) (value_of byte))
 
 -- Where a report's labels stay: the reader that it leaves has both, and without a report those that it had.
-abbrev pub ReportLabels : MaybeSequence → MtcReader → MtcReader → Type 0
-ReportLabels NoSequence before left = (left.previous ≡ before.previous) × (left.time ≡ before.time)
-ReportLabels (Sequence s) before left = (left.previous ≡ Time s.raw) × (left.time ≡ Time s.current)
+abbrev pub ReportLabels : Option MtcSequence → MtcReader → MtcReader → Type 0
+ReportLabels None before left = (left.previous ≡ before.previous) × (left.time ≡ before.time)
+ReportLabels (Some s) before left = (left.previous ≡ Some s.raw) × (left.time ≡ Some s.current)
 
 -- The time is the message's, the reader is stopped, and last piece, count and previous time are forgotten.
 abbrev pub informed : MtcReader → MtcTime → MtcReader
@@ -246,12 +238,12 @@ informed r t =
       nibbles = r.nibbles;
       count = 0;
       first = r.first;
-      last = NoPiece;
+      last = None;
       direction = r.direction;
       locked = false;
       running = false;
-      previous = NoTime;
-      time = Time t;
+      previous = None;
+      time = Some t;
     }
 
 -- The reader that a full message leaves.

@@ -1,15 +1,11 @@
 -- A reader on one whole sequence: when it is ready for one, and what it then answers and leaves. Assumes nothing.
-use Rattle.std.specs.Prelude.{ℕ, List, [], ◌∷◌, ◌++◌, map, ◌⊎◌, ◌≡◌}
+use Rattle.std.specs.Prelude.{ℕ, List, [], ◌∷◌, ◌++◌, map, ◌⊎◌, ◌≡◌, Option, Some, None}
 use Rattle.mtc.specs.Generator.{first}
 use Rattle.mtc.specs.QuarterFrame.{value_of}
 use Rattle.mtc.specs.Reader.{Sound, Control, control, order_of, number_of, raw_of, sequence_of_label}
 use Rattle.mtc.specs.Stream.{byte, after_calls, events, silent, in_order}
 use Rattle.labels.specs.declared.time.MtcTime.{MtcTime}
 use Rattle.mtc.specs.declared.generator.Direction.{Direction}
-use Rattle.mtc.specs.declared.reader.MaybeDirection.{MaybeDirection}
-use Rattle.mtc.specs.declared.reader.MaybeDirection.TheVariants.{NoDirection, Going}
-use Rattle.mtc.specs.declared.reader.MaybeSequence.TheVariants.{Sequence}
-use Rattle.mtc.specs.declared.reader.MaybeTime.TheVariants.{Time}
 use Rattle.mtc.specs.declared.reader.MtcReader.{MtcReader}
 
 -- ---- ready
@@ -24,8 +20,8 @@ pub record Ready (d : Direction) (r : MtcReader) : Type 0 where
   pub starts : Starts d (control r)
 
 -- No direction is known, or this one.
-abbrev pub NotAgainst : Direction → MaybeDirection → Type 0
-NotAgainst d m = (m ≡ NoDirection) ⊎ (m ≡ Going d)
+abbrev pub NotAgainst : Direction → Option Direction → Type 0
+NotAgainst d m = (m ≡ None) ⊎ (m ≡ Some d)
 
 -- ---- eight bytes
 
@@ -44,6 +40,6 @@ after_bytes r bs = after_calls r (map byte bs)
 -- Eight bytes are read as a label: seven report nothing, the eighth reports the label, and the reader is ready for the next
 -- sequence, with the label as the previous one.
 pub record ReadsLabel (d : Direction) (bs : List ℕ) (t : MtcTime) (r : MtcReader) : Type 0 where
-  pub reports : map (λ e. e.sequence) (events r bs) ≡ silent 7 ++ (Sequence (sequence_of_label t d r.previous) ∷ [])
+  pub reports : map (λ e. e.sequence) (events r bs) ≡ silent 7 ++ (Some (sequence_of_label t d r.previous) ∷ [])
   pub ready : Ready d (after_bytes r bs)
-  pub previous : (after_bytes r bs).previous ≡ Time t
+  pub previous : (after_bytes r bs).previous ≡ Some t

@@ -1,7 +1,7 @@
 -- Demand 3's claim on quarter frames, as document 01 reads it ("Sequence"): a reader that got any list of calls from fresh on,
 -- then the twenty-four bytes of a generator that was located at a valid time and set running in a direction. The lists are
 -- folded with the definitions in the contracts of the calls. Assumes nothing.
-use Rattle.std.specs.Prelude.{ℕ, zero, suc, Bool, true, false, List, [], ◌∷◌, ◌++◌, map, reverse, ◌⊎◌, ◌≢◌, ◌≡◌, T, ℤ, pos, neg_ℤ, length, take, get_or, replicate}
+use Rattle.std.specs.Prelude.{ℕ, zero, suc, Bool, true, false, List, [], ◌∷◌, ◌++◌, map, reverse, ◌⊎◌, ◌≢◌, ◌≡◌, T, ℤ, pos, neg_ℤ, length, take, get_or, replicate, Option, Some, None}
 use Rattle.mtc.specs.Generator.{next_byte, after_next_byte, located, with_direction, with_running}
 use Rattle.mtc.specs.QuarterFrame.{piece_of, pieces}
 use Rattle.mtc.specs.Reader.{fresh, after_byte, event_of, after_full_message}
@@ -11,8 +11,6 @@ use Rattle.labels.specs.declared.time.MtcTime.{MtcTime}
 use Rattle.mtc.specs.declared.generator.Direction.{Direction}
 use Rattle.mtc.specs.declared.generator.Direction.TheVariants.{Forward, Reverse}
 use Rattle.mtc.specs.declared.generator.MtcGenerator.{MtcGenerator}
-use Rattle.mtc.specs.declared.reader.MaybeSequence.{MaybeSequence}
-use Rattle.mtc.specs.declared.reader.MaybeSequence.TheVariants.{NoSequence, Sequence}
 use Rattle.mtc.specs.declared.reader.MtcEvent.{MtcEvent}
 use Rattle.mtc.specs.declared.reader.MtcReader.{MtcReader}
 use Rattle.universal.specs.Refusals.{Answer, gives, refused}
@@ -66,15 +64,15 @@ abbrev pub last_seven : List Call → List ℕ
 last_seven cs = reverse (take 7 (newest [] cs))
 
 -- Answers without a report.
-abbrev pub silent : ℕ → List MaybeSequence
-silent n = replicate n NoSequence
+abbrev pub silent : ℕ → List (Option MtcSequence)
+silent n = replicate n None
 
 -- ---- the claim
 
 -- What the n-th byte reports; the first is number 1.
-abbrev pub nth_report : ℕ → List MtcEvent → MaybeSequence
-nth_report zero es = NoSequence
-nth_report (suc n) es = get_or (map (λ e. e.sequence) es) n NoSequence
+abbrev pub nth_report : ℕ → List MtcEvent → Option MtcSequence
+nth_report zero es = None
+nth_report (suc n) es = get_or (map (λ e. e.sequence) es) n None
 
 -- So many frames on forward, so many back in reverse.
 abbrev pub frames : Direction → ℕ → ℕ → ℤ
@@ -86,9 +84,9 @@ abbrev pub shifted : MtcTime → Direction → ℕ → ℕ → MtcTime
 shifted t d on back = add_frames t (frames d on back)
 
 -- A report of a raw and a current time.
-abbrev pub report_with : Direction → MtcTime → MtcTime → Bool → MaybeSequence
+abbrev pub report_with : Direction → MtcTime → MtcTime → Bool → Option MtcSequence
 report_with d raw current jump =
-    Sequence (record { raw = raw; current = current; direction = d; discontinuity = jump })
+    Some (record { raw = raw; current = current; direction = d; discontinuity = jump })
 
 -- The seven pieces after which a direction's first piece ends a sequence of the other direction.
 abbrev pub seven_before : Direction → List ℕ
@@ -100,10 +98,10 @@ pub record Answers (calls : List Call) (d : Direction) (t : MtcTime) (es : List 
   -- there are twenty-four
   pub count : length es ≡ 24
   -- the first reports nothing, unless the last seven bytes were pieces 7 down to 1 (reverse: 0 up to 6)
-  pub first : (nth_report 1 es ≡ NoSequence) ⊎ (map piece_of (last_seven calls) ≡ seven_before d)
+  pub first : (nth_report 1 es ≡ None) ⊎ (map piece_of (last_seven calls) ≡ seven_before d)
   -- the eighth reports nothing or T, with T plus 2 as the current time (reverse: minus 1)
   pub eighth :
-      (nth_report 8 es ≡ NoSequence)
+      (nth_report 8 es ≡ None)
       ⊎ ((jump : Bool) × (nth_report 8 es ≡ report_with d t (shifted t d 2 1) jump))
   -- the sixteenth reports T plus 2 and T plus 4 (reverse: minus 2, minus 3)
   pub sixteenth :
@@ -112,7 +110,7 @@ pub record Answers (calls : List Call) (d : Direction) (t : MtcTime) (es : List 
   -- the twenty-fourth reports T plus 4 and T plus 6 (reverse: minus 4, minus 5), without a discontinuity
   pub twenty_fourth : nth_report 24 es ≡ report_with d (shifted t d 4 4) (shifted t d 6 5) false
   -- no other byte reports
-  pub others : (n : ℕ) → n ≢ 1 → n ≢ 8 → n ≢ 16 → n ≢ 24 → nth_report n es ≡ NoSequence
+  pub others : (n : ℕ) → n ≢ 1 → n ≢ 8 → n ≢ 16 → n ≢ 24 → nth_report n es ≡ None
 
 -- The stream law: after any list of calls from fresh on, whatever the generator's record was, for every valid T and each direction.
 abbrev pub StreamLaw : Type 0

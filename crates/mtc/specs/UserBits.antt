@@ -1,15 +1,12 @@
 -- What mtc.rs does with user bits, on every input: one definition for each public call of src/user_bits.rt. Assumes nothing.
-use Rattle.std.specs.Prelude.{ℕ, ◌+◌, ◌*◌, ◌/◌, ◌%◌, Bool, true, ◌&&◌, List, [], ◌∷◌, ◌++◌, leb, eqb, length, get_or}
-use Rattle.std.proofs.Math.Option.{Option, none, some}
+use Rattle.universal.specs.declared.error.SysexError.{SysexError}
+use Rattle.std.specs.Prelude.{ℕ, ◌+◌, ◌*◌, ◌/◌, ◌%◌, Bool, true, ◌&&◌, List, [], ◌∷◌, ◌++◌, leb, eqb, length, get_or, Option, Some, None, Result}
 use Rattle.universal.specs.Emission.{Emission}
-use Rattle.universal.specs.Refusals.{Answer, gives, refused, refusal_of}
+use Rattle.universal.specs.Refusals.{Answer, gives, refused, refusal_of, answer_of}
 use Rattle.universal.specs.declared.message.Universal.{Universal}
 use Rattle.mtc.specs.Rp004Messages.{Groups}
 use Rattle.mtc.specs.Kind.{is_time_code, read_kind, write_kind}
 use Rattle.mtc.specs.declared.user_bits.UserBits.{UserBits}
-use Rattle.mtc.specs.declared.user_bits.UserBitsAnswer.{UserBitsAnswer}
-use Rattle.mtc.specs.declared.user_bits.UserBitsAnswer.TheVariants.{Message, NotThis, Refused}
-use Rattle.mtc.specs.declared.user_bits.ReadUserBits.{ReadUserBits}
 
 -- User bits of a device, eight groups and the flags.
 abbrev pub user_bits : ℕ → List ℕ → ℕ → UserBits
@@ -19,13 +16,13 @@ user_bits device gs f = record { device_id = device; groups = gs; flags = f }
 
 -- An answer and the message beside it: the message, "not this" (none), or the refusal.
 abbrev pub answer_with : UserBitsAnswer → UserBits → Answer (Option UserBits)
-answer_with Message b = gives (some b)
-answer_with NotThis b = gives none
+answer_with Message b = gives (Some b)
+answer_with NotThis b = gives None
 answer_with (Refused e) b = refused (refusal_of e)
 
 -- So of the answer as it is given.
-abbrev pub read_user_bits_of : ReadUserBits → Answer (Option UserBits)
-read_user_bits_of r = answer_with r.answer r.bits
+abbrev pub answer_of : Result (Option UserBits) SysexError → Answer (Option UserBits)
+answer_of r = answer_with r.answer r.bits
 
 -- Device 0, with all groups and flags 0.
 abbrev pub no_bits : UserBits
@@ -33,8 +30,8 @@ no_bits = user_bits 0 (0 ∷ 0 ∷ 0 ∷ 0 ∷ 0 ∷ 0 ∷ 0 ∷ 0 ∷ []) 0
 
 -- The message of an answer, or `noBits` where it has none.
 abbrev pub bits_in : Answer (Option UserBits) → UserBits
-bits_in (gives (some b)) = b
-bits_in (gives none) = no_bits
+bits_in (gives (Some b)) = b
+bits_in (gives None) = no_bits
 bits_in (refused r) = no_bits
 
 -- The 4 bits of the data byte at a place.

@@ -1,10 +1,10 @@
 // The quarter frame generator: pieces 0 to 7 forward and 7 to 0 in reverse. Each sequence encodes the frame that starts at
 // its piece 0, and the time moves two frames for each sequence (RP-004/008, p. 3).
 ghost use Rattle.std.specs.Prelude.{◌≡◌, ◌≤◌, get_or};
-ghost use Rattle.universal.specs.Refusals.{gives};
+ghost use Rattle.universal.specs.Refusals.{gives, answer_of};
 ghost use Rattle.mtc.specs.QuarterFrame.{pieces};
 ghost use Rattle.labels.specs.Time.{add_frames};
-ghost use Rattle.mtc.specs.Generator.{first, after, final, sequence_frames, moved, started, next_byte_of, next_byte, after_next_byte, sent_at, with_running, with_direction, located};
+ghost use Rattle.mtc.specs.Generator.{first, after, final, sequence_frames, moved, started, next_byte, after_next_byte, sent_at, with_running, with_direction, located};
 
 use crate::quarter_frame::QuarterFrame;
 use labels::MtcTime;
@@ -61,35 +61,21 @@ impl Direction {
     }
 }
 
-// A piece, or none.
-#[derive(Clone, Copy)]
-pub enum MaybePiece {
-    NoPiece,
-    Piece(u8),
-}
-
 // The time that the current or next sequence encodes, the direction, the last piece sent, and whether it runs. The caller
 // sends each data byte at its quarter frame, piece 0 at the start of the frame that the sequence encodes.
 #[derive(Clone, Copy)]
 pub struct MtcGenerator {
     pub time: MtcTime,
     pub direction: Direction,
-    pub last: MaybePiece,
+    pub last: Option<u8>,
     pub running: bool,
-}
-
-// A data byte, or refusal 8.
-#[derive(Clone, Copy)]
-pub enum NextByte {
-    Byte(u8),
-    Refused(SysexError),
 }
 
 // The answer of `next_byte`, with the generator that comes back.
 #[derive(Clone, Copy)]
 pub struct Sent {
     pub generator: MtcGenerator,
-    pub byte: NextByte,
+    pub byte: Result<u8, SysexError>,
 }
 
 impl MtcGenerator {
@@ -100,7 +86,7 @@ impl MtcGenerator {
         MtcGenerator {
             time,
             direction,
-            last: MaybePiece::NoPiece,
+            last: None,
             running: true,
         }
     }
@@ -108,18 +94,18 @@ impl MtcGenerator {
     // The data byte of the next piece, or refusal 8 while stopped. A forward sequence after a piece 7 encodes the time plus
     // two frames, a reverse sequence after a piece 0 the time minus two frames. A last piece above 7 is taken as none.
     pub fn next_byte(self) -> Sent
-        ensures { (next_byte_of result.byte ≡ next_byte self) × (result.generator ≡ after_next_byte self) }
+        ensures { (answer_of result.byte ≡ next_byte self) × (result.generator ≡ after_next_byte self) }
     {
         if !self.running {
             return Sent {
                 generator: self,
-                byte: NextByte::Refused(SysexError::Stopped),
+                byte: Err(SysexError::Stopped),
             };
         }
         let time = self.time;
         let direction = self.direction;
         let last = self.last;
-        let MaybePiece::Piece(l) = last else {
+        let Some(l) = last else {
             return send(time, direction, direction.first());
         };
         if l > 7 {
@@ -160,7 +146,7 @@ impl MtcGenerator {
         MtcGenerator {
             time,
             direction,
-            last: MaybePiece::NoPiece,
+            last: None,
             running: self.running,
         }
     }
@@ -186,15 +172,15 @@ fn moved_on(time: MtcTime, direction: Direction, last: u8) -> MtcTime
 // One piece of a time, and the running generator that has just sent it.
 fn send(time: MtcTime, direction: Direction, piece: u8) -> Sent
     requires { piece ≤ 7 }
-    ensures { (next_byte_of result.byte ≡ gives (get_or (pieces time) piece 0)) × (result.generator ≡ sent_at time direction piece) }
+    ensures { (answer_of result.byte ≡ gives (get_or (pieces time) piece 0)) × (result.generator ≡ sent_at time direction piece) }
 {
     Sent {
         generator: MtcGenerator {
             time,
             direction,
-            last: MaybePiece::Piece(piece),
+            last: Some(piece),
             running: true,
         },
-        byte: NextByte::Byte(QuarterFrame::piece(time, piece)),
+        byte: Ok(QuarterFrame::piece(time, piece)),
     }
 }

@@ -2,7 +2,7 @@
 ghost use Rattle.std.specs.Prelude.{◌≡◌};
 ghost use Rattle.mtc.specs.Kind.{is_time_code, time_code};
 
-use universal::{MaybeSubId2, Universal};
+use universal::{Universal};
 
 // Sub-ID 1 of MIDI Time Code.
 const MIDI_TIME_CODE: u8 = 0x01;
@@ -19,7 +19,7 @@ pub fn time_code(device_id: u8, sub_id2: u8) -> Universal
         real_time: true,
         device_id,
         sub_id1: MIDI_TIME_CODE,
-        sub_id2: MaybeSubId2::SubId2(sub_id2),
+        sub_id2: Some(sub_id2),
     }
 }
 
@@ -35,7 +35,7 @@ pub fn is_time_code(u: Universal, sub_id2: u8) -> bool
         return false;
     }
     match found {
-        MaybeSubId2::NoSubId2 => false,
-        MaybeSubId2::SubId2(s) => s == sub_id2,
+        None => false,
+        Some(s) => s == sub_id2,
     }
 }

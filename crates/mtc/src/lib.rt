@@ -10,12 +10,12 @@ mod quarter_frame;
 mod reader;
 mod user_bits;
 
-pub use full_message::{FullMessage, ReadFullMessage};
-pub use generator::{Direction, MaybePiece, MtcGenerator, NextByte, Sent};
-pub use labels::{MtcTime, NewTime, TimeCodeType};
+pub use full_message::{FullMessage};
+pub use generator::{Direction, MtcGenerator, Sent};
+pub use labels::{MtcTime, TimeCodeType};
 pub use quarter_frame::QuarterFrame;
 pub use reader::{
-    MaybeDirection, MaybeSequence, MaybeTime, MtcEvent, MtcReader, MtcSequence, Stepped, event,
+    MtcEvent, MtcReader, MtcSequence, Stepped, event,
     same,
 };
-pub use user_bits::{ReadUserBits, UserBits, UserBitsAnswer};
+pub use user_bits::{UserBits, UserBitsAnswer};

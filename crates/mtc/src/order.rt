@@ -3,15 +3,15 @@
 ghost use Rattle.std.specs.Prelude.{◌≡◌, ◌≤◌, cond, T};
 ghost use Rattle.mtc.specs.Reader.{is_sound, control, ordered, direction_between, out_of_order, order_of, starts, number_of};
 
-use crate::generator::{Direction, MaybePiece};
-use crate::reader::{MaybeDirection, MtcReader};
+use crate::generator::{Direction};
+use crate::reader::{MtcReader};
 
 // How a piece stands to those before it: whether it is the next one, the direction that it leaves, and whether it keeps the
 // lock.
 #[derive(Clone, Copy)]
 pub(crate) struct Order {
     pub next: bool,
-    pub direction: MaybeDirection,
+    pub direction: Option<Direction>,
     pub keeps: bool,
 }
 
@@ -22,12 +22,12 @@ pub(crate) fn order_of(r: MtcReader, p: u8) -> Order
 {
     let last = r.last;
     let direction = r.direction;
-    let MaybePiece::Piece(l) = last else {
+    let Some(l) = last else {
         return ordered(false, direction, true);
     };
     match direction {
-        MaybeDirection::NoDirection => out_of_order(r, direction, direction_between(l, p)),
-        MaybeDirection::Going(d) => {
+        None => out_of_order(r, direction, direction_between(l, p)),
+        Some(d) => {
             if d.after(l) == p {
                 return ordered(true, direction, true);
             }
@@ -38,13 +38,13 @@ pub(crate) fn order_of(r: MtcReader, p: u8) -> Order
 
 // The second piece gives the direction, and goes on where the sequence began at its first piece. A piece beside the last
 // one turns a direction and drops the lock; any other only drops the lock.
-fn out_of_order(r: MtcReader, direction: MaybeDirection, found: MaybeDirection) -> Order
+fn out_of_order(r: MtcReader, direction: Option<Direction>, found: Option<Direction>) -> Order
     ensures { ordered result.next result.direction result.keeps ≡ out_of_order (control r) direction found }
 {
-    let MaybeDirection::Going(f) = found else {
+    let Some(f) = found else {
         return ordered(false, direction, false);
     };
-    let MaybeDirection::Going(_) = direction else {
+    let Some(_) = direction else {
         if r.count == 0 {
             return ordered(false, found, true);
         }
@@ -70,7 +70,7 @@ pub(crate) fn number_of(r: MtcReader, o: Order, p: u8) -> u8
 }
 
 // How a piece stands to those before it, put together.
-fn ordered(next: bool, direction: MaybeDirection, keeps: bool) -> Order
+fn ordered(next: bool, direction: Option<Direction>, keeps: bool) -> Order
     ensures { ordered result.next result.direction result.keeps ≡ ordered next direction keeps }
 {
     Order {
@@ -81,17 +81,17 @@ fn ordered(next: bool, direction: MaybeDirection, keeps: bool) -> Order
 }
 
 // The direction in which `p` comes right after `last`.
-fn direction_between(last: u8, p: u8) -> MaybeDirection
+fn direction_between(last: u8, p: u8) -> Option<Direction>
     requires { last ≤ 7 }
     ensures { result ≡ direction_between last p }
 {
     if Direction::Forward.after(last) == p {
-        return MaybeDirection::Going(Direction::Forward);
+        return Some(Direction::Forward);
     }
     if Direction::Reverse.after(last) == p {
-        return MaybeDirection::Going(Direction::Reverse);
+        return Some(Direction::Reverse);
     }
-    MaybeDirection::NoDirection
+    None
 }
 
 // The pieces of a sequence that the next one, or one that is not the next, finds held.
@@ -105,16 +105,16 @@ fn held(next: bool, count: u8) -> u8
 }
 
 // A piece starts a sequence: the first one of the direction, and without a direction 0 or 7.
-fn starts(direction: MaybeDirection, p: u8) -> bool
+fn starts(direction: Option<Direction>, p: u8) -> bool
     ensures { result ≡ starts direction p }
 {
     match direction {
-        MaybeDirection::NoDirection => {
+        None => {
             if p == 0 {
                 return true;
             }
             p == 7
         }
-        MaybeDirection::Going(d) => p == d.first(),
+        Some(d) => p == d.first(),
     }
 }

@@ -1,28 +1,14 @@
 // The quarter frame reader: assembles full sequences, and gives the lock, the direction and the current time, which is the
 // assembled time plus two frames forward and minus one frame in reverse (RP-004/008, p. 3).
-ghost use Rattle.std.specs.Prelude.{◌≡◌, ◌≤◌, cond, T, eqb};
+ghost use Rattle.std.specs.Prelude.{◌≡◌, ◌≤◌, cond, T, eqb, Some};
 ghost use Rattle.labels.specs.Time.{add_frames};
 ghost use Rattle.mtc.specs.Reader.{fresh, nibbles_fit, piece_fits, is_sound, or_fresh, ordered, raw_of, offset, direction_of, same_time, jumps, sequence_of_label, sequence_of, completed, with_piece, passed, stored, event_with, after_byte, event_of, after_full_message};
 
 use crate::full_message::FullMessage;
-use crate::generator::{Direction, MaybePiece};
+use crate::generator::{Direction};
 use crate::order::{Order, number_of, order_of};
 use crate::quarter_frame::QuarterFrame;
 use labels::MtcTime;
-
-// A direction, or none yet.
-#[derive(Clone, Copy)]
-pub enum MaybeDirection {
-    NoDirection,
-    Going(Direction),
-}
-
-// A label, or none.
-#[derive(Clone, Copy)]
-pub enum MaybeTime {
-    NoTime,
-    Time(MtcTime),
-}
 
 // The end of a full sequence: the assembled label with its counts as received, the current time, the direction, and whether
 // the label is not the previous one plus two frames, or minus two in reverse.
@@ -34,20 +20,13 @@ pub struct MtcSequence {
     pub discontinuity: bool,
 }
 
-// A full sequence, or none.
-#[derive(Clone, Copy)]
-pub enum MaybeSequence {
-    NoSequence,
-    Sequence(MtcSequence),
-}
-
 // What one data byte gives: its piece, whether it marks a frame boundary, as pieces 0 and 4 do, and the full sequence that it
 // ends.
 #[derive(Clone, Copy)]
 pub struct MtcEvent {
     pub piece: u8,
     pub boundary: bool,
-    pub sequence: MaybeSequence,
+    pub sequence: Option<MtcSequence>,
 }
 
 // The reader's record. One with a count or piece above 7 or a nibble above 15, which no call leaves, is taken as fresh.
@@ -56,12 +35,12 @@ pub struct MtcReader {
     pub nibbles: [u8; 8],
     pub count: u8,
     pub first: u8,
-    pub last: MaybePiece,
-    pub direction: MaybeDirection,
+    pub last: Option<u8>,
+    pub direction: Option<Direction>,
     pub locked: bool,
     pub running: bool,
-    pub previous: MaybeTime,
-    pub time: MaybeTime,
+    pub previous: Option<MtcTime>,
+    pub time: Option<MtcTime>,
 }
 
 // What one data byte gives, with the reader that it leaves.
@@ -80,12 +59,12 @@ impl MtcReader {
             nibbles: [0; 8],
             count: 0,
             first: 0,
-            last: MaybePiece::NoPiece,
-            direction: MaybeDirection::NoDirection,
+            last: None,
+            direction: None,
             locked: false,
             running: false,
-            previous: MaybeTime::NoTime,
-            time: MaybeTime::NoTime,
+            previous: None,
+            time: None,
         }
     }
 
@@ -119,7 +98,7 @@ impl MtcReader {
         if n == 0 {
             return Stepped {
                 reader: r.passed(o, p),
-                event: event(p, MaybeSequence::NoSequence),
+                event: event(p, None),
             };
         }
         let s = r.stored(o, n, p, q.value);
@@ -128,7 +107,7 @@ impl MtcReader {
         }
         Stepped {
             reader: s,
-            event: event(p, MaybeSequence::NoSequence),
+            event: event(p, None),
         }
     }
 
@@ -139,18 +118,18 @@ impl MtcReader {
         let r = self.or_fresh();
         let nibbles = r.nibbles;
         let direction = r.direction;
-        let previous = MaybeTime::NoTime;
+        let previous = None;
         let time = message.time;
         MtcReader {
             nibbles,
             count: 0,
             first: r.first,
-            last: MaybePiece::NoPiece,
+            last: None,
             direction,
             locked: false,
             running: false,
             previous,
-            time: MaybeTime::Time(time),
+            time: Some(time),
         }
     }
 
@@ -171,7 +150,7 @@ impl MtcReader {
     }
 
     // The direction, once two pieces gave it.
-    pub fn direction(self) -> MaybeDirection
+    pub fn direction(self) -> Option<Direction>
         ensures { result ≡ (or_fresh self).direction }
     {
         let r = self.or_fresh();
@@ -179,7 +158,7 @@ impl MtcReader {
     }
 
     // The current time of the last full sequence, or the time of a full message after it.
-    pub fn time(self) -> MaybeTime
+    pub fn time(self) -> Option<MtcTime>
         ensures { result ≡ (or_fresh self).time }
     {
         let r = self.or_fresh();
@@ -225,7 +204,7 @@ impl MtcReader {
             nibbles,
             count,
             first,
-            last: MaybePiece::Piece(p),
+            last: Some(p),
             direction,
             locked: o.keeps && self.locked,
             running: true,
@@ -255,7 +234,7 @@ impl MtcReader {
     // The end of a full sequence, at its last piece.
     fn complete(self, p: u8) -> Stepped
         requires { T (nibbles_fit 8 self.nibbles) }
-        ensures { (result.reader ≡ completed self) × (result.event ≡ event_with p (MaybeSequence.Sequence (sequence_of self))) }
+        ensures { (result.reader ≡ completed self) × (result.event ≡ event_with p (Some (sequence_of self))) }
     {
         let nibbles = self.nibbles;
         let direction = self.direction;
@@ -273,21 +252,21 @@ impl MtcReader {
                 direction,
                 locked: true,
                 running: self.running,
-                previous: MaybeTime::Time(time),
-                time: MaybeTime::Time(current),
+                previous: Some(time),
+                time: Some(current),
             },
-            event: event(p, MaybeSequence::Sequence(s)),
+            event: event(p, Some(s)),
         }
     }
 }
 
 // No piece, or one of 0 to 7.
-fn piece_fits(last: MaybePiece) -> bool
+fn piece_fits(last: Option<u8>) -> bool
     ensures { result ≡ piece_fits last }
 {
     match last {
-        MaybePiece::NoPiece => true,
-        MaybePiece::Piece(p) => p <= 7,
+        None => true,
+        Some(p) => p <= 7,
     }
 }
 
@@ -316,7 +295,7 @@ fn began(n: u8, p: u8, first: u8) -> u8
 }
 
 // What a piece gives: pieces 0 and 4 mark frame boundaries.
-pub fn event(p: u8, sequence: MaybeSequence) -> MtcEvent
+pub fn event(p: u8, sequence: Option<MtcSequence>) -> MtcEvent
     ensures { result ≡ event_with p sequence }
 {
     MtcEvent {
@@ -340,17 +319,17 @@ fn raw(n: [u8; 8]) -> MtcTime
 }
 
 // The direction of eight pieces; those that end without one count as forward.
-fn way(direction: MaybeDirection) -> Direction
+fn way(direction: Option<Direction>) -> Direction
     ensures { result ≡ direction_of direction }
 {
     match direction {
-        MaybeDirection::NoDirection => Direction::Forward,
-        MaybeDirection::Going(d) => d,
+        None => Direction::Forward,
+        Some(d) => d,
     }
 }
 
 // What a full sequence reports after a previous label.
-fn report(raw: MtcTime, direction: Direction, previous: MaybeTime) -> MtcSequence
+fn report(raw: MtcTime, direction: Direction, previous: Option<MtcTime>) -> MtcSequence
     ensures { result ≡ sequence_of_label raw direction previous }
 {
     MtcSequence {
@@ -372,10 +351,10 @@ fn current(raw: MtcTime, direction: Direction) -> MtcTime
 }
 
 // There is a previous label, and a sequence further on it is not this one.
-fn jumps(previous: MaybeTime, direction: Direction, raw: MtcTime) -> bool
+fn jumps(previous: Option<MtcTime>, direction: Direction, raw: MtcTime) -> bool
     ensures { result ≡ jumps previous direction raw }
 {
-    let MaybeTime::Time(t) = previous else {
+    let Some(t) = previous else {
         return false;
     };
     !same(direction.next_time(t), raw)

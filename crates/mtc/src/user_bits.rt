@@ -1,12 +1,12 @@
 // User bits: eight binary groups and two flag bits, `F0 7F <device ID> 01 02 u1 .. u8 u9 F7` (RP-004/008, p. 6).
+ghost use Rattle.universal.specs.Refusals.{answer_of};
 ghost use Rattle.std.specs.Prelude.{◌≡◌, length};
 ghost use Rattle.universal.specs.Emission.{answer};
-ghost use Rattle.universal.specs.Message.{written_of};
 ghost use Rattle.universal.specs.Overlay.{overlay};
-ghost use Rattle.mtc.specs.UserBits.{read_user_bits_of, user_bits_from, bits_in, no_bits, all_nibbles, user_bits_written, group_bytes};
+ghost use Rattle.mtc.specs.UserBits.{user_bits_from, bits_in, no_bits, all_nibbles, user_bits_written, group_bytes};
 
 use crate::kind::{USER_BITS, is_time_code, time_code};
-use universal::{SysexError, Universal, Written};
+use universal::{SysexError, Universal};
 
 // A user bits message.
 #[derive(Clone, Copy)]
@@ -27,18 +27,11 @@ pub enum UserBitsAnswer {
     Refused(SysexError),
 }
 
-// The answer of `UserBits::from_universal`, with the message beside it: device 0 and all zeros where there is none.
-#[derive(Clone, Copy)]
-pub struct ReadUserBits {
-    pub answer: UserBitsAnswer,
-    pub bits: UserBits,
-}
-
 // An answer without a message.
-fn no_bits(answer: UserBitsAnswer) -> ReadUserBits
+fn no_bits(answer: UserBitsAnswer) -> Result<Option<UserBits>, SysexError>
     ensures { (result.answer ≡ answer) × (result.bits ≡ no_bits) }
 {
-    ReadUserBits {
+    Result<Option<UserBits>, SysexError> {
         answer,
         bits: UserBits {
             device_id: 0,
@@ -65,8 +58,8 @@ fn all_nibbles(values: &[u8]) -> bool
 impl UserBits {
     // Reads a message's split parts: "not this" for another kind, 2 where the data is not nine bytes. The reserved bits
     // are ignored, and the device is passed on.
-    pub fn from_universal(u: Universal, data: &[u8]) -> ReadUserBits
-        ensures result_value { read_user_bits_of result ≡ user_bits_from u «data».now }
+    pub fn from_universal(u: Universal, data: &[u8]) -> Result<Option<UserBits>, SysexError>
+        ensures result_value { answer_of result ≡ user_bits_from u «data».now }
         ensures bits_value { result.bits ≡ bits_in (user_bits_from u «data».now) }
     {
         if !is_time_code(u, USER_BITS) {
@@ -85,7 +78,7 @@ impl UserBits {
             data[6] % 16,
             data[7] % 16,
         ];
-        ReadUserBits {
+        Result<Option<UserBits>, SysexError> {
             answer: UserBitsAnswer::Message,
             bits: UserBits {
                 device_id: u.device_id,
@@ -97,21 +90,21 @@ impl UserBits {
 
     // Writes the whole message: 5 for a device above 127, then 3 for a group above 0FH or flags above 03H, with nothing
     // emitted, then 4 for a buffer that is too small.
-    pub fn write(self, out: &mut [u8]) -> Written
-        ensures result_value { written_of result ≡ answer (user_bits_written self) (length out.old) }
+    pub fn write(self, out: &mut [u8]) -> Result<usize, SysexError>
+        ensures result_value { answer_of result ≡ answer (user_bits_written self) (length out.old) }
         ensures out_after { out.new ≡ overlay out.old 0 (user_bits_written self).bytes }
     {
         let device_id = self.device_id;
         let g = self.groups;
         let flags = self.flags;
         if device_id > 0x7F {
-            return Written::Refused(SysexError::Device);
+            return Err(SysexError::Device);
         }
         if !all_nibbles(&g) {
-            return Written::Refused(SysexError::OutOfRange);
+            return Err(SysexError::OutOfRange);
         }
         if flags > 0x03 {
-            return Written::Refused(SysexError::OutOfRange);
+            return Err(SysexError::OutOfRange);
         }
         let data = [g[0], g[1], g[2], g[3], g[4], g[5], g[6], g[7], flags];
         time_code(device_id, USER_BITS).write(&data, out)

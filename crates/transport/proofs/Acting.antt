@@ -1,8 +1,8 @@
 -- What a target resolves to and what a command does, by cases, for the calls' proofs. Assumes nothing.
+use Rattle.std.specs.Prelude.{Option, Some, None}
 use Prim.Native.Nat.{ℕ, ◌≤◌, ◌<◌}
 use mathlib.Core.Path.{◌≡◌, refl, sym, ap, ◌∙◌}
 use mathlib.Core.Bool.{Bool, true, false, cond, ◌&&◌}
-use mathlib.Core.Option.{Option, none, some}
 use lib.Dec.{T, leb}
 use borrow.Author.Tests.{le-leb, lt-leb}
 use Rattle.mmc.specs.declared.command.MmcCommand.{MmcCommand}
@@ -22,29 +22,29 @@ use Rattle.transport.specs.Transport.{resolved, Outcome, not_mine, unchanged, lo
 -- ---- a target
 
 -- A blank target is none.
-pub blank_none : (c : StandardTimeCode) → c.blank ≡ true → resolved c ≡ none
+pub blank_none : (c : StandardTimeCode) → c.blank ≡ true → resolved c ≡ None
 unfolding resolved
 blank_none c b = rw b
 
 -- One still invalid is none.
 pub invalid_none : (c : StandardTimeCode) (t : MtcTime) → c.blank ≡ false → t ≡ next_valid c.time → is_valid t ≡ false
-    → resolved c ≡ none
+    → resolved c ≡ None
 unfolding resolved
 invalid_none c t b e v = rw (b, ← e, v)
 
 -- Any other is its label, past the skipped ones.
 pub valid_some : (c : StandardTimeCode) (t : MtcTime) → c.blank ≡ false → t ≡ next_valid c.time → is_valid t ≡ true
-    → resolved c ≡ some t
+    → resolved c ≡ Some t
 unfolding resolved
 valid_some c t b e v = rw (b, ← e, v)
 
 -- A valid label that is not blank is itself.
-pub valid_same : (c : StandardTimeCode) → c.blank ≡ false → T (is_valid c.time) → resolved c ≡ some c.time
+pub valid_same : (c : StandardTimeCode) → c.blank ≡ false → T (is_valid c.time) → resolved c ≡ Some c.time
 valid_same c b v = valid_some c c.time b (sym (next_valid_valid c.time v)) (holds_true (is_valid c.time) v)
 
 -- A skipped label that is not blank, with hours and minutes in range, is the least valid label above it.
 pub skipped_moved : (c : StandardTimeCode) → c.blank ≡ false → T (is_skipped c.time) → c.time.hours ≤ 23 → c.time.minutes ≤ 59
-    → (resolved c ≡ some (next_valid c.time)) × LeastAbove c.time (next_valid c.time)
+    → (resolved c ≡ Some (next_valid c.time)) × LeastAbove c.time (next_valid c.time)
 skipped_moved c b k h m =
     let l : LeastAbove c.time (next_valid c.time) = next_valid_least c.time k h m in
     (valid_some c (next_valid c.time) b refl (holds_true (is_valid (next_valid c.time)) l.valid), l)
@@ -87,8 +87,8 @@ mine g device own c h k a = rw (le-leb device 127 h, le-leb own 127 k, a)
 -- ---- a generator's last piece
 
 locate_fits : (g : MtcGenerator) (t : Option MtcTime) → T (piece_fits g.last) → T (piece_fits (locate_outcome g t).generator.last)
-locate_fits g none h = h
-locate_fits g (some t) h = tt
+locate_fits g None h = h
+locate_fits g (Some t) h = tt
 
 acted_fits : (g : MtcGenerator) (c : MmcCommand) → T (piece_fits g.last) → T (piece_fits (acted g c).generator.last)
 unfolding acted

@@ -1,10 +1,10 @@
 -- Demand 3, proved: the string that an accepted writing left, read back and applied; in reverse; and by what is written. Assumes
 -- nothing.
+use Rattle.std.specs.Prelude.{Some}
 use Prim.Native.Nat.{ℕ, ◌≤◌}
 use mathlib.Core.Path.{◌≡◌, ap, ◌∙◌}
 use mathlib.Core.Bool.{false}
 use mathlib.Core.List.{List, [], ◌∷◌}
-use mathlib.Core.Option.{some}
 use lib.Dec.{T}
 use Rattle.mmc.specs.declared.command.MmcCommand.{MmcCommand}
 use Rattle.mmc.specs.declared.command.MmcCommand.TheVariants.{LocateTarget, Play}
@@ -74,10 +74,10 @@ demand3_reverse g calls t v = stream_law calls g t Reverse v
 -- ---- by what is written
 
 -- A target that is valid and not blank is written as it is, and resolves to its time.
-written_resolves : (c : StandardTimeCode) → T (is_valid c.time) → c.blank ≡ false → resolved (zeroed c) ≡ some c.time
+written_resolves : (c : StandardTimeCode) → T (is_valid c.time) → c.blank ≡ false → resolved (zeroed c) ≡ Some c.time
 written_resolves c v k =
     let w : written_label c ≡ c.time = rw k in
-    valid_same (zeroed c) k (rw w v) ∙ ap some w
+    valid_same (zeroed c) k (rw w v) ∙ ap Some w
 
 -- A list that is written so ends so when it is read back.
 ends_at : (gs : List (Given Commands)) (a b : List ℕ) (c : StandardTimeCode) (device : ℕ) (out : List ℕ) (n : ℕ)

@@ -2,6 +2,7 @@
 -- give, beside what the document says. A label stands as hours, minutes, seconds, frames and the rate's two bits; an answer as 0 and
 -- its number, or as a refusal's number and values. A buffer begins as bytes EEH, so that a byte that was not written shows. Assumes
 -- nothing.
+use Rattle.std.specs.Prelude.{Option, Some, None}
 use Prim.Native.Nat.{ℕ, suc}
 use mathlib.Core.Path.{◌≡◌, refl}
 use mathlib.Core.List.{List, [], ◌∷◌, ◌++◌, map, reverse}
@@ -9,8 +10,6 @@ use lib.IntN.{pos}
 use Rattle.labels.specs.declared.time.MtcTime.{MtcTime}
 use Rattle.labels.specs.declared.time.TimeCodeType.TheVariants.{Fps30Drop, Fps30, Fps25}
 use Rattle.mtc.specs.declared.generator.Direction.TheVariants.{Forward}
-use Rattle.mtc.specs.declared.reader.MaybeSequence.{MaybeSequence}
-use Rattle.mtc.specs.declared.reader.MaybeSequence.TheVariants.{NoSequence, Sequence}
 use Rattle.mtc.specs.declared.reader.MtcEvent.{MtcEvent}
 use Rattle.mtc.specs.Generator.{next_byte, after_next_byte, started}
 use Rattle.mtc.specs.QuarterFrame.{pieces}
@@ -56,18 +55,18 @@ abbrev t : MtcTime
 t = label Fps30 1 37 52 16
 
 -- The current times that events report.
-abbrev current : MaybeSequence → List ℕ
-current NoSequence = []
-current (Sequence s) = numbers s.current
+abbrev current : Option MtcSequence → List ℕ
+current None = []
+current (Some s) = numbers s.current
 
 abbrev currents : List MtcEvent → List ℕ
 currents [] = []
 currents (e ∷ es) = current e.sequence ++ currents es
 
 -- The numbers of the events that report, counted from n.
-abbrev report_number : ℕ → MaybeSequence → List ℕ
-report_number n NoSequence = []
-report_number n (Sequence s) = n ∷ []
+abbrev report_number : ℕ → Option MtcSequence → List ℕ
+report_number n None = []
+report_number n (Some s) = n ∷ []
 
 abbrev report_numbers : ℕ → List MtcEvent → List ℕ
 report_numbers n [] = []

@@ -1,9 +1,9 @@
 -- What a run leaves: the commands read, applied one by one. Assumes nothing.
+use Rattle.std.specs.Prelude.{Option, Some, None}
 use Prim.Native.Nat.{ℕ, zero, suc, ◌≤◌}
 use mathlib.Core.Path.{◌≡◌, refl, sym, ap, ◌∙◌}
 use mathlib.Core.Bool.{Bool, true, false, cond, ◌&&◌}
 use mathlib.Core.List.{List, [], ◌∷◌, ◌++◌, append-nil}
-use mathlib.Core.Option.{Option, none, some}
 use native.Mathlib.Omega.{arith}
 use lib.Dec.{T, leb}
 use lib.ListN.{length}
@@ -86,8 +86,8 @@ cut_acts a b device own g h k =
 
 -- A target that resolves to none, or to a label.
 refused_locate : (g : MtcGenerator) (t : Option MtcTime) (r : Refusal) → (locate_outcome g t).answer ≡ refused r → (locate_outcome g t).generator ≡ g
-refused_locate g (some t) r h = let z : ◌≡◌ {A = ℕ} 0 1 = cc in absurd (omega arith)
-refused_locate g none r h = refl
+refused_locate g (Some t) r h = let z : ◌≡◌ {A = ℕ} 0 1 = cc in absurd (omega arith)
+refused_locate g None r h = refl
 
 -- A command that is refused leaves the generator.
 refused_acted : (g : MtcGenerator) (c : MmcCommand) (r : Refusal) → (acted g c).answer ≡ refused r → (acted g c).generator ≡ g
@@ -140,22 +140,22 @@ answers_each device own g [] = refl
 answers_each device own g (x ∷ xs) = ap suc (answers_each device own (applied g device own x).generator xs)
 
 -- What a target resolves to is valid.
-pub resolved_valid : (c : StandardTimeCode) (t : MtcTime) → resolved c ≡ some t → T (is_valid t)
+pub resolved_valid : (c : StandardTimeCode) (t : MtcTime) → resolved c ≡ Some t → T (is_valid t)
 unfolding resolved
 resolved_valid c t = go c.blank (is_valid (next_valid c.time)) refl
   where
-    go : (b v : Bool) → is_valid (next_valid c.time) ≡ v → cond b none (cond v (some (next_valid c.time)) none) ≡ some t → T (is_valid t)
+    go : (b v : Bool) → is_valid (next_valid c.time) ≡ v → cond b None (cond v (Some (next_valid c.time)) None) ≡ Some t → T (is_valid t)
     go true v e h = let z : ◌≡◌ {A = ℕ} 0 1 = cc in absurd (omega arith)
     go false true e h = let s : is_valid t ≡ true = cc in rw s tt
     go false false e h = let z : ◌≡◌ {A = ℕ} 0 1 = cc in absurd (omega arith)
 
 -- Locate to a target that resolves to T, and then Play: the generator as it is located at T and set running forward.
 pub locate_play : (device own : ℕ) (g : MtcGenerator) (c : StandardTimeCode) (t : MtcTime) → device ≤ 127 → own ≤ 127
-    → is_addressed device own ≡ true → resolved c ≡ some t
+    → is_addressed device own ≡ true → resolved c ≡ Some t
     → applied_all device own g (LocateTarget c ∷ Play ∷ []) ≡ run_from g t Forward
 unfolding applied_all acted
 locate_play device own g c t h k a e =
-    let l : applied g device own (LocateTarget c) ≡ locate_outcome g (some t) =
+    let l : applied g device own (LocateTarget c) ≡ locate_outcome g (Some t) =
     mine g device own (LocateTarget c) h k a ∙ ap (locate_outcome g) e in
     ap (λ (o : Outcome). (applied o.generator device own Play).generator) l
-    ∙ ap (λ (o : Outcome). o.generator) (mine (locate_outcome g (some t)).generator device own Play h k a)
+    ∙ ap (λ (o : Outcome). o.generator) (mine (locate_outcome g (Some t)).generator device own Play h k a)

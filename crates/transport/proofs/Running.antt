@@ -5,17 +5,13 @@ use mathlib.Core.List.{List, ◌∷◌}
 use native.Mathlib.Omega.{arith}
 use lib.ListN.{length}
 use Rattle.mmc.proofs.StringLaws.{read_goes_on}
-use Rattle.mmc.specs.declared.command.CommandAnswer.TheVariants as C
 use Rattle.mmc.specs.declared.command.MmcCommand.{MmcCommand}
-use Rattle.mmc.specs.declared.command.NextCommand.{NextCommand}
 use Rattle.mmc.specs.declared.length.Kind.TheVariants.{Commands}
-use Rattle.mmc.specs.Command.{next_command, next_command_of, command_answer_of}
-use Rattle.mmc.specs.Split.{Next}
+use Rattle.mmc.specs.Command.{next_command}
+use Rattle.mmc.specs.Split.{Next, next_item_of}
 use Rattle.mtc.specs.declared.generator.MtcGenerator.{MtcGenerator}
 use Rattle.transport.specs.declared.run.Turn.{Turn}
-use Rattle.transport.specs.declared.run.TurnAnswer.TheVariants as A
 use Rattle.transport.specs.declared.transport.Applied.{Applied}
-use Rattle.transport.specs.declared.transport.TransportAnswer.{TransportAnswer}
 use Rattle.transport.specs.Demand3.{Run, over, answered, on_read, obey_from, obey}
 use Rattle.transport.specs.Obey.{CommandReply, TurnOutcome, turn_by, obey_next, command_reply_of, turn_of, one_refused, refused_in, Summary, summed_up, summary_after}
 use Rattle.transport.specs.Transport.{Outcome, applied, applied_of, answer_of}
@@ -25,7 +21,7 @@ use Rattle.universal.specs.declared.error.SysexError.{SysexError}
 
 -- ---- one turn
 
-module _ (body : List ℕ) (device own place : ℕ) (g : MtcGenerator) (n : NextCommand) (h : next_command_of n ≡ next_command body place) where
+module _ (body : List ℕ) (device own place : ℕ) (g : MtcGenerator) (n : NextCommand) (h : next_item_of n ≡ next_command body place) where
   -- A command that is read is applied.
   pub turn_read : (c : MmcCommand) (b : Applied) → n.answer ≡ C.Command c → applied_of b ≡ applied g device own c
       → record { generator = b.generator; told = gives (record { command = c; reply = answer_of b.answer }); place = n.place }
@@ -33,7 +29,7 @@ module _ (body : List ℕ) (device own place : ℕ) (g : MtcGenerator) (n : Next
   unfolding obey_next
   turn_read c b a e =
       ap (λ (o : Outcome). record { generator = o.generator; told = gives (record { command = c; reply = o.answer }); place = n.place }) e
-      ∙ ap (λ (x : Answer MmcCommand). turn_by x n.place (applied g device own) g) (sym (ap command_answer_of a))
+      ∙ ap (λ (x : Answer MmcCommand). turn_by x n.place (applied g device own) g) (sym (ap answer_of a))
       ∙ ap (λ (x : Next MmcCommand). turn_by x.answer x.place (applied g device own) g) h
 
   -- A refused read leaves the generator.
@@ -41,7 +37,7 @@ module _ (body : List ℕ) (device own place : ℕ) (g : MtcGenerator) (n : Next
       → record { generator = g; told = refused (refusal_of e); place = n.place } ≡ obey_next body device own place g
   unfolding obey_next
   turn_ended e a =
-      ap (λ (x : Answer MmcCommand). turn_by x n.place (applied g device own) g) (sym (ap command_answer_of a))
+      ap (λ (x : Answer MmcCommand). turn_by x n.place (applied g device own) g) (sym (ap answer_of a))
       ∙ ap (λ (x : Next MmcCommand). turn_by x.answer x.place (applied g device own) g) h
 
 -- ---- what a turn tells

@@ -3,8 +3,7 @@
 -- bytes. The lists are folded with the definitions in the contracts of the calls: `stringAnswer` and `stringOf` with those of the
 -- writer, `messageFrom` and `nextCommand` with those of the reading, `applied` with that of the transport, `bytesSent`, `afterCalls` and
 -- `events` with those of generator and reader. Assumes nothing.
-use Rattle.std.specs.Prelude.{ℕ, zero, suc, ◌≤◌, ◌≡◌, false, List, [], ◌∷◌, ◌++◌, T}
-use Rattle.std.proofs.Math.Option.{Option, none, some}
+use Rattle.std.specs.Prelude.{ℕ, zero, suc, ◌≤◌, ◌≡◌, false, List, [], ◌∷◌, ◌++◌, T, Option, Some, None}
 use Rattle.transport.specs.Transport.{Reply, Outcome, resolved, applied}
 use Rattle.mmc.specs.declared.command.MmcCommand.{MmcCommand}
 use Rattle.mmc.specs.declared.command.MmcCommand.TheVariants.{LocateTarget, Play}
@@ -63,9 +62,9 @@ obey body device own g = obey_from (reads_of body) body device own 0 g
 
 -- Commands are obeyed, for the device that the message names; anything else changes nothing.
 abbrev pub obey_message : Answer (Option MmcMessage) → List ℕ → ℕ → MtcGenerator → Run
-obey_message (gives (some (M.Commands device))) body own g = obey body device own g
-obey_message (gives (some (M.Responses device))) body own g = over g (refusal 0)
-obey_message (gives none) body own g = over g (refusal 0)
+obey_message (gives (Some (M.Commands device))) body own g = obey body device own g
+obey_message (gives (Some (M.Responses device))) body own g = over g (refusal 0)
+obey_message (gives None) body own g = over g (refusal 0)
 obey_message (refused r) body own g = over g r
 
 -- What became of a string that was read back.
@@ -96,12 +95,12 @@ pub record EndsAt (s : List ℕ) (t : MtcTime) : Type 0 where
   pub before : List MmcCommand
   pub target : StandardTimeCode
   pub read : (commands_read (body_of s)).items ≡ before ++ (LocateTarget target ∷ Play ∷ [])
-  pub resolves : resolved target ≡ some t
+  pub resolves : resolved target ≡ Some t
 
 -- What demand 3 promises of a string for a device, a transport's own device and generator, a reader's calls before, and T.
 pub record Promised (s : List ℕ) (device own : ℕ) (g : MtcGenerator) (calls : List Call) (t : MtcTime) : Type 0 where
   -- it reads back as commands for the device
-  pub message : message_from (header_of s) (body_of s) ≡ gives (some (M.Commands device))
+  pub message : message_from (header_of s) (body_of s) ≡ gives (Some (M.Commands device))
   -- its commands are read to the end
   pub whole : (obeyed s own g).stop ≡ refusal 9
   -- each of them is answered, as the transport answers it

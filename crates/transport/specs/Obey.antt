@@ -3,8 +3,6 @@
 use Rattle.std.specs.Prelude.{ℕ, ◌+◌, List, [], ◌∷◌, length}
 use Rattle.transport.specs.declared.run.Obeyed.{Obeyed}
 use Rattle.transport.specs.declared.run.Turn.{Turn}
-use Rattle.transport.specs.declared.run.TurnAnswer.{TurnAnswer}
-use Rattle.transport.specs.declared.run.TurnAnswer.TheVariants as A
 use Rattle.transport.specs.Demand3.{Run}
 use Rattle.transport.specs.Transport.{Reply, Outcome, applied, answer_of}
 use Rattle.mmc.specs.declared.command.MmcCommand.{MmcCommand}

@@ -1,12 +1,7 @@
 -- What the transport does, on every input (document 01, "Transport", refusals 5 and 7): what a Locate target resolves to, what each
 -- command does to a generator, and what one call answers. Assumes nothing.
-use Rattle.std.specs.Prelude.{ℕ, true, false, cond, ◌&&◌, leb}
-use Rattle.std.proofs.Math.Option.{Option, none, some}
+use Rattle.std.specs.Prelude.{ℕ, true, false, cond, ◌&&◌, leb, Option, Some, None}
 use Rattle.transport.specs.declared.transport.Applied.{Applied}
-use Rattle.transport.specs.declared.transport.Target.{Target}
-use Rattle.transport.specs.declared.transport.Target.TheVariants.{At, Nowhere}
-use Rattle.transport.specs.declared.transport.TransportAnswer.{TransportAnswer}
-use Rattle.transport.specs.declared.transport.TransportAnswer.TheVariants as A
 use Rattle.mmc.specs.declared.command.MmcCommand.{MmcCommand}
 use Rattle.mmc.specs.declared.command.MmcCommand.TheVariants.{Stop, Play, DeferredPlay, FastForward, Rewind, RecordStrobe, RecordExit, Pause, Reset, Write, LocateField, LocateTarget, Move, Other}
 use Rattle.codes.specs.declared.time_code.StandardTimeCode.{StandardTimeCode}
@@ -17,23 +12,23 @@ use Rattle.mtc.specs.declared.generator.Direction.TheVariants.{Forward}
 use Rattle.mtc.specs.declared.generator.MtcGenerator.{MtcGenerator}
 use Rattle.labels.specs.declared.time.MtcTime.{MtcTime}
 use Rattle.universal.specs.Message.{is_addressed}
-use Rattle.universal.specs.Refusals.{Answer, gives, refused, refusal, refusal_of}
+use Rattle.universal.specs.Refusals.{Answer, gives, refused, refusal, refusal_of, answer_of}
 
 -- ---- a Locate target
 
 -- A valid label, or none.
 abbrev pub if_valid : MtcTime → Option MtcTime
-if_valid t = cond (is_valid t) (some t) none
+if_valid t = cond (is_valid t) (Some t) None
 
 -- What a target resolves to: a skipped label is moved by `next_valid`; a blank target, and one still invalid, is none. Subframes and
 -- sign are unread.
 unfoldable pub resolved : StandardTimeCode → Option MtcTime
-resolved c = cond c.blank none (if_valid (next_valid c.time))
+resolved c = cond c.blank None (if_valid (next_valid c.time))
 
 -- The code's own form of it.
 abbrev pub target_of : Target → Option MtcTime
-target_of (At t) = some t
-target_of Nowhere = none
+target_of (At t) = Some t
+target_of Nowhere = None
 
 -- ---- what a call answers
 
@@ -75,8 +70,8 @@ playing g = with_running (with_direction g Forward) true
 
 -- Located at a target and stopped; 7 where it resolves to none.
 abbrev pub locate_outcome : MtcGenerator → Option MtcTime → Outcome
-locate_outcome g (some t) = finished (stopped (located g t))
-locate_outcome g none = unchanged g 7
+locate_outcome g (Some t) = finished (stopped (located g t))
+locate_outcome g None = unchanged g 7
 
 -- What a command does to a generator.
 unfoldable pub acted : MtcGenerator → MmcCommand → Outcome

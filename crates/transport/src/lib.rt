@@ -4,5 +4,5 @@
 mod run;
 mod transport;
 
-pub use run::{Obeyed, Turn, TurnAnswer, obey, obey_next};
-pub use transport::{Applied, TransportAnswer, apply};
+pub use run::{Obeyed, Turn, obey, obey_next};
+pub use transport::{Applied, apply};

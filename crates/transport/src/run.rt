@@ -1,29 +1,19 @@
 // A message's data, read from the front to its end, each command applied as it is read.
+ghost use Rattle.universal.specs.Refusals.{answer_of};
 ghost use Rattle.std.specs.Prelude.{◌≡◌, ◌≤◌};
 ghost use Rattle.transport.specs.Demand3.{obey};
 ghost use Rattle.transport.specs.Obey.{turn_of, obey_next, one_refused, obeyed_of, summary};
-ghost use Rattle.transport.specs.Transport.{answer_of};
 
-use crate::transport::{TransportAnswer, apply};
-use mmc::{CommandAnswer, MmcCommand, next_command};
+use crate::transport::{apply};
+use mmc::{MmcCommand, next_command};
 use mtc::MtcGenerator;
 use universal::SysexError;
-
-// What one read gives: a command with the transport's answer to it, or the refusal that ends the reading.
-#[derive(Clone, Copy)]
-pub enum TurnAnswer {
-    Command {
-        command: MmcCommand,
-        reply: TransportAnswer,
-    },
-    Ended(SysexError),
-}
 
 // It, with the generator that came back and the place to read on from.
 #[derive(Clone, Copy)]
 pub struct Turn {
     pub generator: MtcGenerator,
-    pub answer: TurnAnswer,
+    pub answer: Result<TurnReply, SysexError>,
     pub place: usize,
 }
 
@@ -35,19 +25,19 @@ pub fn obey_next(generator: MtcGenerator, device_id: u8, own: u8, body: &[u8], p
     let read = next.answer;
     let after = next.place;
     match read {
-        CommandAnswer::Command(command) => {
+        Ok(command) => {
             let applied = apply(generator, device_id, own, command);
             let left = applied.generator;
             let reply = applied.answer;
             Turn {
                 generator: left,
-                answer: TurnAnswer::Command { command, reply },
+                answer: Ok(TurnReply { command, reply }),
                 place: after,
             }
         }
-        CommandAnswer::Refused(e) => Turn {
+        Err(e) => Turn {
             generator,
-            answer: TurnAnswer::Ended(e),
+            answer: Err(e),
             place: after,
         },
     }
@@ -64,13 +54,13 @@ pub struct Obeyed {
 }
 
 // 1 for a refusal.
-fn one_refused(answer: TransportAnswer) -> usize
+fn one_refused(answer: Result<Reply, SysexError>) -> usize
     ensures { (result ≡ one_refused (answer_of answer)) × (result ≤ 1) }
 {
     match answer {
-        TransportAnswer::Done => 0,
-        TransportAnswer::NotMine => 0,
-        TransportAnswer::Refused(_) => 1,
+        Ok(Reply::Done) => 0,
+        Ok(Reply::NotMine) => 0,
+        Err(_) => 1,
     }
 }
 
@@ -86,8 +76,8 @@ pub fn obey(start: MtcGenerator, device_id: u8, own: u8, body: &[u8]) -> Obeyed
         let turn = obey_next(generator, device_id, own, body, place);
         let answer = turn.answer;
         let reply = match answer {
-            TurnAnswer::Command { command: _, reply } => reply,
-            TurnAnswer::Ended(e) => {
+            Ok(TurnReply { command: _, reply }) => reply,
+            Err(e) => {
                 return Obeyed {
                     generator,
                     commands,

@@ -1,25 +1,17 @@
 // The transport: one command of a message, applied to the generator of the device that the message is for. Commands take effect
 // one by one, and a refused one leaves the generator as it was.
 ghost use Rattle.std.specs.Prelude.{◌≡◌};
-ghost use Rattle.transport.specs.Transport.{target_of, resolved, applied_of, finished, acted, applied};
+ghost use Rattle.transport.specs.Transport.{resolved, applied_of, finished, acted, applied};
 
 use mmc::{MmcCommand, StandardTimeCode};
 use mtc::{Direction, MtcGenerator, MtcTime};
 use universal::{SysexError, addressed};
 
-// What became of a command: done, for another device, or refused.
-#[derive(Clone, Copy)]
-pub enum TransportAnswer {
-    Done,
-    NotMine,
-    Refused(SysexError),
-}
-
 // The answer of `apply`, with the generator that comes back.
 #[derive(Clone, Copy)]
 pub struct Applied {
     pub generator: MtcGenerator,
-    pub answer: TransportAnswer,
+    pub answer: Result<Reply, SysexError>,
 }
 
 // The label that a Locate target resolves to, or none.
@@ -31,7 +23,7 @@ enum Target {
 
 // A skipped label is moved by `next_valid`. A blank target, and one still invalid, is none; subframes and sign are unread.
 fn resolve(code: StandardTimeCode) -> Target
-    ensures { target_of result ≡ resolved code }
+    ensures { result ≡ resolved code }
 {
     if code.blank {
         return Target::Nowhere;
@@ -50,7 +42,7 @@ fn done(generator: MtcGenerator) -> Applied
 {
     Applied {
         generator,
-        answer: TransportAnswer::Done,
+        answer: Ok(Reply::Done),
     }
 }
 
@@ -65,7 +57,7 @@ fn locate(generator: MtcGenerator, code: StandardTimeCode) -> Applied
         }
         Target::Nowhere => Applied {
             generator,
-            answer: TransportAnswer::Refused(SysexError::Target),
+            answer: Err(SysexError::Target),
         },
     }
 }
@@ -111,19 +103,19 @@ pub fn apply(generator: MtcGenerator, device_id: u8, own: u8, command: MmcComman
     if device_id > 127 {
         return Applied {
             generator,
-            answer: TransportAnswer::Refused(SysexError::Device),
+            answer: Err(SysexError::Device),
         };
     }
     if own > 127 {
         return Applied {
             generator,
-            answer: TransportAnswer::Refused(SysexError::Device),
+            answer: Err(SysexError::Device),
         };
     }
     if !addressed(device_id, own) {
         return Applied {
             generator,
-            answer: TransportAnswer::NotMine,
+            answer: Ok(Reply::NotMine),
         };
     }
     act(generator, command)

@@ -1,12 +1,12 @@
 -- The laws of this crate's definitions: bytes put into a buffer, emissions, and Universal messages. A crate above cites
 -- these and opens no definition. Assumes nothing.
+use Rattle.std.specs.Prelude.{Option, Some, None}
 use mathlib.Core.Path.{◌≡◌, refl, sym, ap, ◌∙◌}
 use mathlib.Core.Logic.{◌⊎◌, inl, inr, ⊎_elim, ◌↔◌}
 use Prim.Native.Nat.{ℕ, zero, suc, ◌+◌, ◌-◌, ◌≤◌, ◌<◌, suc-le-suc}
 use native.Mathlib.Nat.{add-zero, not-suc-le-zero, le_of_suc-le-suc, zero-lt-suc}
 use native.Mathlib.Omega.{arith}
 use mathlib.Core.Bool.{Bool, true, false, ◌&&◌, and_assoc}
-use mathlib.Core.Option.{Option, none, some}
 use mathlib.Core.List.{List, [], ◌∷◌, ◌++◌, append_assoc, append-nil}
 use lib.Dec.{leb}
 use borrow.Author.Tests.{le-leb, lt-leb, leb-true}
@@ -20,7 +20,6 @@ use Rattle.universal.specs.Emission.{Emission, sent, refusing, check, resume, �
 use Rattle.universal.specs.Midi1.{has_sub_id2, sub_id2_given, sub_id2_bytes, class_id, inside, universal_bytes, InLayout, Allowed}
 use Rattle.universal.specs.Message.{sub_id2_value, all_low, data_emission, header, opening, message, length_at, closing}
 use Rattle.universal.specs.declared.message.Universal.{Universal}
-use Rattle.universal.specs.declared.message.MaybeSubId2.TheVariants.{NoSubId2, SubId2}
 use Rattle.universal.proofs.Emissions.{resume_after}
 -- A value is no refusal, and nothing is none.
 pub use Rattle.universal.proofs.Emissions.{gives_refused, none_some}
@@ -101,11 +100,11 @@ overlay_byte out at bytes i room from to =
 -- ---- emissions
 
 -- What follows an emission that was not refused goes out after it.
-pub then_sent : (d e : Emission) → d.stop ≡ none → d then e ≡ record { bytes = d.bytes ++ e.bytes; stop = e.stop }
+pub then_sent : (d e : Emission) → d.stop ≡ None → d then e ≡ record { bytes = d.bytes ++ e.bytes; stop = e.stop }
 then_sent d e h = ap (λ (s : Option Refusal). resume d.bytes s e) h
 
 -- Nothing follows a refusal.
-pub then_refused : (d e : Emission) (r : Refusal) → d.stop ≡ some r → d then e ≡ d
+pub then_refused : (d e : Emission) (r : Refusal) → d.stop ≡ Some r → d then e ≡ d
 then_refused d e r h =
     ap (λ (s : Option Refusal). resume d.bytes s e) h
     ∙ ap (λ (s : Option Refusal). record { bytes = d.bytes; stop = s }) (sym h)
@@ -115,21 +114,21 @@ pub then_assoc : (a b c : Emission) → (a then b) then c ≡ a then b then c
 then_assoc a b c = go a.stop
   where
     go : (s : Option Refusal) → resume a.bytes s b then c ≡ resume a.bytes s (b then c)
-    go none = resume_after a.bytes b c
-    go (some r) = refl
+    go None = resume_after a.bytes b c
+    go (Some r) = refl
 
 -- A check that does not refuse held.
-pub check_held : (t : Bool) (n : ℕ) → (check t n).stop ≡ none → t ≡ true
+pub check_held : (t : Bool) (n : ℕ) → (check t n).stop ≡ None → t ≡ true
 check_held true n h = refl
 check_held false n h = absurd (none_some (refusal n) h)
 
 -- Of two emissions of which none is refused, neither is.
-pub then_accepted : (d e : Emission) → (d then e).stop ≡ none → (d.stop ≡ none) × (e.stop ≡ none)
+pub then_accepted : (d e : Emission) → (d then e).stop ≡ None → (d.stop ≡ None) × (e.stop ≡ None)
 then_accepted d e h = go d.stop h
   where
-    go : (s : Option Refusal) → (resume d.bytes s e).stop ≡ none → (s ≡ none) × (e.stop ≡ none)
-    go none p = (refl, p)
-    go (some r) p = absurd (none_some r p)
+    go : (s : Option Refusal) → (resume d.bytes s e).stop ≡ None → (s ≡ None) × (e.stop ≡ None)
+    go None p = (refl, p)
+    go (Some r) p = absurd (none_some r p)
 
 -- A refusal is told by its number and the needed length.
 pub error_back : (e : SysexError) → error_of (refusal_of e).number (needed_of (refusal_of e)) ≡ e
@@ -151,19 +150,19 @@ unfolding answer
 answer_by e room = refl
 
 -- The answer of a message that is not refused and fits is its length.
-pub answer_fits : (e : Emission) (room : ℕ) → e.stop ≡ none → length e.bytes ≤ room
+pub answer_fits : (e : Emission) (room : ℕ) → e.stop ≡ None → length e.bytes ≤ room
     → answer e room ≡ gives (length e.bytes)
 unfolding answer
 answer_fits e room h fit = rw (h, le-leb (length e.bytes) room fit)
 
 -- Where the buffer is too small it is 4, with the needed length.
-pub answer_short : (e : Emission) (room : ℕ) → e.stop ≡ none → room < length e.bytes
+pub answer_short : (e : Emission) (room : ℕ) → e.stop ≡ None → room < length e.bytes
     → answer e room ≡ refused (too_small (length e.bytes))
 unfolding answer
 answer_short e room h short = rw (h, lt-leb (length e.bytes) room short)
 
 -- The answer of a refused message is its refusal, however large the buffer.
-pub answer_refused : (e : Emission) (room : ℕ) (r : Refusal) → e.stop ≡ some r → answer e room ≡ refused r
+pub answer_refused : (e : Emission) (room : ℕ) (r : Refusal) → e.stop ≡ Some r → answer e room ≡ refused r
 unfolding answer
 answer_refused e room r h = rw h
 
@@ -177,36 +176,36 @@ answer_gives e room n h = go e.stop h
     fits false q p = absurd (gives_refused n _ p)
 
     go : (s : Option Refusal) → answer_in s (length e.bytes) room ≡ gives n → (n ≡ length e.bytes) × (n ≤ room)
-    go none p = fits (leb (length e.bytes) room) refl p
-    go (some r) p = absurd (gives_refused n r p)
+    go None p = fits (leb (length e.bytes) room) refl p
+    go (Some r) p = absurd (gives_refused n r p)
 
 -- A part that is not refused has come to its length.
-pub reached_sent : (e : Emission) → e.stop ≡ none → reached e ≡ gives (length e.bytes)
+pub reached_sent : (e : Emission) → e.stop ≡ None → reached e ≡ gives (length e.bytes)
 unfolding reached
 reached_sent e h = rw h
 
 -- A part that is refused has come to its refusal.
-pub reached_refusing : (e : Emission) (r : Refusal) → e.stop ≡ some r → reached e ≡ refused r
+pub reached_refusing : (e : Emission) (r : Refusal) → e.stop ≡ Some r → reached e ≡ refused r
 unfolding reached
 reached_refusing e r h = rw h
 
 -- Where a part has come to a position, it was not refused, and is as long.
-pub reached_gives : (e : Emission) (n : ℕ) → reached e ≡ gives n → (e.stop ≡ none) × (length e.bytes ≡ n)
+pub reached_gives : (e : Emission) (n : ℕ) → reached e ≡ gives n → (e.stop ≡ None) × (length e.bytes ≡ n)
 unfolding reached
 reached_gives e n h = go e.stop h
   where
-    go : (s : Option Refusal) → reached_in s (length e.bytes) ≡ gives n → (s ≡ none) × (length e.bytes ≡ n)
-    go none p = (refl, cc)
-    go (some r) p = absurd (gives_refused n r p)
+    go : (s : Option Refusal) → reached_in s (length e.bytes) ≡ gives n → (s ≡ None) × (length e.bytes ≡ n)
+    go None p = (refl, cc)
+    go (Some r) p = absurd (gives_refused n r p)
 
 -- Where a part has come to a refusal, that is its own.
-pub reached_refused : (e : Emission) (r : Refusal) → reached e ≡ refused r → e.stop ≡ some r
+pub reached_refused : (e : Emission) (r : Refusal) → reached e ≡ refused r → e.stop ≡ Some r
 unfolding reached
 reached_refused e r h = go e.stop h
   where
-    go : (s : Option Refusal) → reached_in s (length e.bytes) ≡ refused r → s ≡ some r
-    go none p = absurd (gives_refused (length e.bytes) r (sym p))
-    go (some q) p = cc
+    go : (s : Option Refusal) → reached_in s (length e.bytes) ≡ refused r → s ≡ Some r
+    go None p = absurd (gives_refused (length e.bytes) r (sym p))
+    go (Some q) p = cc
 
 -- ---- data bytes
 
@@ -276,52 +275,52 @@ opening_family u d f = rw (le-leb u.device_id 127 d, beq_other _ _ f)
 -- A sub-ID 1 above 7FH is refused with 3 after the device.
 pub opening_sub_id1 : (u : Universal) → u.device_id ≤ 127
     → sub_id2_given u.sub_id2 ≡ has_sub_id2 u.real_time u.sub_id1 → 127 < u.sub_id1
-    → opening u ≡ record { bytes = 240 ∷ class_id u.real_time ∷ u.device_id ∷ []; stop = some (refusal 3) }
+    → opening u ≡ record { bytes = 240 ∷ class_id u.real_time ∷ u.device_id ∷ []; stop = Some (refusal 3) }
 opening_sub_id1 u d f h = opening_fields u d f ∙ rw (value_high u.sub_id1 h)
 
 module _ (real_time : Bool) (device sub_id1 : ℕ) (low : device ≤ 127) where
   -- The opening of a family that carries no sub-ID 2.
   pub opening_plain : has_sub_id2 real_time sub_id1 ≡ false → sub_id1 ≤ 127
-      → opening (header real_time device sub_id1 NoSubId2) ≡ sent (240 ∷ class_id real_time ∷ device ∷ sub_id1 ∷ [])
-  opening_plain f h = opening_fields (header real_time device sub_id1 NoSubId2) low (sym f) ∙ rw (value_low sub_id1 h)
+      → opening (header real_time device sub_id1 None) ≡ sent (240 ∷ class_id real_time ∷ device ∷ sub_id1 ∷ [])
+  opening_plain f h = opening_fields (header real_time device sub_id1 None) low (sym f) ∙ rw (value_low sub_id1 h)
 
   -- The opening of a family that carries one.
   pub opening_with_sub_id2 : (sub_id2 : ℕ) → has_sub_id2 real_time sub_id1 ≡ true → sub_id1 ≤ 127 → sub_id2 ≤ 127
-      → opening (header real_time device sub_id1 (SubId2 sub_id2)) ≡ sent (240 ∷ class_id real_time ∷ device ∷ sub_id1 ∷ sub_id2 ∷ [])
+      → opening (header real_time device sub_id1 (Some sub_id2)) ≡ sent (240 ∷ class_id real_time ∷ device ∷ sub_id1 ∷ sub_id2 ∷ [])
   opening_with_sub_id2 v f h l =
-      opening_fields (header real_time device sub_id1 (SubId2 v)) low (sym f) ∙ rw (value_low sub_id1 h, value_low v l)
+      opening_fields (header real_time device sub_id1 (Some v)) low (sym f) ∙ rw (value_low sub_id1 h, value_low v l)
 
   -- A sub-ID 2 above 7FH is refused with 3 after the sub-ID 1.
   pub opening_sub_id2 : (sub_id2 : ℕ) → has_sub_id2 real_time sub_id1 ≡ true → sub_id1 ≤ 127 → 127 < sub_id2
-      → opening (header real_time device sub_id1 (SubId2 sub_id2))
-      ≡ record { bytes = 240 ∷ class_id real_time ∷ device ∷ sub_id1 ∷ []; stop = some (refusal 3) }
+      → opening (header real_time device sub_id1 (Some sub_id2))
+      ≡ record { bytes = 240 ∷ class_id real_time ∷ device ∷ sub_id1 ∷ []; stop = Some (refusal 3) }
   opening_sub_id2 v f h g =
-      opening_fields (header real_time device sub_id1 (SubId2 v)) low (sym f) ∙ rw (value_low sub_id1 h, value_high v g)
+      opening_fields (header real_time device sub_id1 (Some v)) low (sym f) ∙ rw (value_low sub_id1 h, value_high v g)
 
 -- The bytes of an opening that is not refused.
-pub opening_bytes : (u : Universal) → (opening u).stop ≡ none
+pub opening_bytes : (u : Universal) → (opening u).stop ≡ None
     → (opening u).bytes ≡ 240 ∷ class_id u.real_time ∷ u.device_id ∷ u.sub_id1 ∷ (sub_id2_value u.sub_id2).bytes
 opening_bytes u h = (accepted u h).emits
 
 -- It is at most five bytes.
-pub opening_length : (u : Universal) → (opening u).stop ≡ none → length (opening u).bytes ≤ 5
+pub opening_length : (u : Universal) → (opening u).stop ≡ None → length (opening u).bytes ≤ 5
 opening_length u h = rw (opening_bytes u h) (omega (arith, sub_id2_short u.sub_id2))
 
 -- ---- the whole message
 
 -- A message whose opening is refused is that opening.
-pub message_refused : (u : Universal) (bs : List ℕ) (r : Refusal) → (opening u).stop ≡ some r → message u bs ≡ opening u
+pub message_refused : (u : Universal) (bs : List ℕ) (r : Refusal) → (opening u).stop ≡ Some r → message u bs ≡ opening u
 unfolding message
 message_refused u bs r h = then_refused (opening u) _ r h
 
 -- Data with a byte above 7FH is refused with 1, and none of it goes out.
-pub message_data : (u : Universal) (bs : List ℕ) → (opening u).stop ≡ none → all_low bs ≡ false
-    → message u bs ≡ record { bytes = (opening u).bytes; stop = some (refusal 1) }
+pub message_data : (u : Universal) (bs : List ℕ) → (opening u).stop ≡ None → all_low bs ≡ false
+    → message u bs ≡ record { bytes = (opening u).bytes; stop = Some (refusal 1) }
 unfolding message
 message_data u bs h l = then_sent (opening u) (data_emission bs then sent (247 ∷ [])) h ∙ rw (data_refused bs l, append-nil)
 
 -- A message in which nothing is refused.
-pub message_whole : (u : Universal) (bs : List ℕ) → (opening u).stop ≡ none → all_low bs ≡ true
+pub message_whole : (u : Universal) (bs : List ℕ) → (opening u).stop ≡ None → all_low bs ≡ true
     → message u bs ≡ sent ((opening u).bytes ++ bs ++ 247 ∷ [])
 unfolding message
 message_whole u bs h l =
@@ -329,7 +328,7 @@ message_whole u bs h l =
     ∙ rw (data_sent bs l, append_assoc (opening u).bytes bs (247 ∷ []))
 
 -- In a message that is not refused neither the opening nor the data is.
-pub message_accepted : (u : Universal) (bs : List ℕ) → (message u bs).stop ≡ none → ((opening u).stop ≡ none) × (all_low bs ≡ true)
+pub message_accepted : (u : Universal) (bs : List ℕ) → (message u bs).stop ≡ None → ((opening u).stop ≡ None) × (all_low bs ≡ true)
 unfolding message data_emission
 message_accepted u bs h =
     let parts = then_accepted (opening u) _ h in
@@ -337,7 +336,7 @@ message_accepted u bs h =
     (parts.0, check_held (all_low bs) 1 (then_accepted (check (all_low bs) 1) (sent bs) inner.0).0)
 
 -- The bytes of a message that is not refused: opening, data, F7H.
-pub message_bytes : (u : Universal) (bs : List ℕ) → (message u bs).stop ≡ none
+pub message_bytes : (u : Universal) (bs : List ℕ) → (message u bs).stop ≡ None
     → (message u bs).bytes ≡ (opening u).bytes ++ bs ++ 247 ∷ []
 message_bytes u bs h =
     let parts = message_accepted u bs h in
@@ -353,7 +352,7 @@ middle_low first last xs (suc k) h l r =
     rw (get_or-append xs (last ∷ []) 0 k inside) (suc-le-suc (all_low_byte xs k h inside))
 
 -- All its bytes but the first and the last are below 128.
-pub message_low : (u : Universal) (bs : List ℕ) (i : ℕ) → (message u bs).stop ≡ none → 0 < i
+pub message_low : (u : Universal) (bs : List ℕ) (i : ℕ) → (message u bs).stop ≡ None → 0 < i
     → i + 1 < length (message u bs).bytes → get_or (message u bs).bytes i 0 < 128
 message_low u bs i h first last =
     let parts = message_accepted u bs h in
@@ -385,10 +384,10 @@ pub message_by_midi1 : (u : Universal) (bs : List ℕ) → Allowed u bs → mess
 message_by_midi1 u bs a = message_in_layout u bs a.layout
 
 -- A message is accepted just where it is in that layout. So more is accepted than MIDI 1.0 has: families that it does not define.
-pub accepted_by_midi1 : (u : Universal) (bs : List ℕ) → ((message u bs).stop ≡ none) ↔ InLayout u bs
+pub accepted_by_midi1 : (u : Universal) (bs : List ℕ) → ((message u bs).stop ≡ None) ↔ InLayout u bs
 accepted_by_midi1 u bs = (laid, λ a. ap (λ (e : Emission). e.stop) (message_in_layout u bs a))
   where
-    laid : (message u bs).stop ≡ none → InLayout u bs
+    laid : (message u bs).stop ≡ None → InLayout u bs
     laid h =
         let parts = message_accepted u bs h in
         let a : Accepted u = accepted u parts.0 in
@@ -419,7 +418,7 @@ pub closing_largest : (at room : ℕ) → at ≡ 18446744073709551615 → room <
 closing_largest at room e h = closing_at at room at (omega arith) ∙ rw (lt-leb at room h)
 
 -- The answer of a close is that of the message which it ends.
-pub closing_answer : (e : Emission) (at room : ℕ) → e.stop ≡ none → length e.bytes ≡ at + 1 → at < 18446744073709551615
+pub closing_answer : (e : Emission) (at room : ℕ) → e.stop ≡ None → length e.bytes ≡ at + 1 → at < 18446744073709551615
     → closing at room ≡ answer e room
 unfolding answer
 closing_answer e at room h n most = closing_at at room (length e.bytes) (omega arith) ∙ rw h

@@ -1,9 +1,9 @@
 -- Lemmas on the fields of a message: a value in range or not, and what holds of an opening that is not refused. Assumes nothing.
+use Rattle.std.specs.Prelude.{Option, Some, None}
 use mathlib.Core.Path.{◌≡◌, refl}
 use Prim.Native.Nat.{ℕ, ◌≤◌, ◌<◌, zero-le}
 use native.Mathlib.Nat.{le_refl}
 use mathlib.Core.Bool.{Bool, true, false, beq}
-use mathlib.Core.Option.{none}
 use mathlib.Core.List.{List, [], ◌∷◌, ◌++◌}
 use lib.Dec.{leb}
 use lib.ListN.{length}
@@ -12,8 +12,6 @@ use Rattle.universal.specs.Refusals.{refusal}
 use Rattle.universal.specs.Emission.{Emission, sent, refusing, check, ◌then◌}
 use Rattle.universal.specs.Midi1.{has_sub_id2, sub_id2_given, sub_id2_bytes, class_id}
 use Rattle.universal.specs.Message.{sub_id2_value, value, all_low, opening}
-use Rattle.universal.specs.declared.message.MaybeSubId2.{MaybeSubId2}
-use Rattle.universal.specs.declared.message.MaybeSubId2.TheVariants.{NoSubId2, SubId2}
 use Rattle.universal.specs.declared.message.Universal.{Universal}
 use Rattle.universal.proofs.Emissions.{none_some}
 use Rattle.universal.proofs.Tests.{and_parts, beq_same, beq_true}
@@ -31,7 +29,7 @@ pub record Accepted (u : Universal) : Type 0 where
   pub device : u.device_id ≤ 127
   pub family : sub_id2_given u.sub_id2 ≡ has_sub_id2 u.real_time u.sub_id1
   pub sub_id1_lem : u.sub_id1 ≤ 127
-  pub sub_id2_lem : (sub_id2_value u.sub_id2).stop ≡ none
+  pub sub_id2_lem : (sub_id2_value u.sub_id2).stop ≡ None
   pub emits : (opening u).bytes ≡ 240 ∷ class_id u.real_time ∷ u.device_id ∷ u.sub_id1 ∷ (sub_id2_value u.sub_id2).bytes
 
 module _ (bs : List ℕ) (v : ℕ) (rest : Emission) where
@@ -40,8 +38,8 @@ module _ (bs : List ℕ) (v : ℕ) (rest : Emission) where
   checked a b t = check a 5 then check b 3 then sent bs then (check t 3 then sent (v ∷ [])) then rest
 
   -- Where it is not refused each check held.
-  unchecked : (a b t : Bool) → (checked a b t).stop ≡ none
-      → (a ≡ true) × (b ≡ true) × (t ≡ true) × (rest.stop ≡ none) × ((checked a b t).bytes ≡ bs ++ v ∷ rest.bytes)
+  unchecked : (a b t : Bool) → (checked a b t).stop ≡ None
+      → (a ≡ true) × (b ≡ true) × (t ≡ true) × (rest.stop ≡ None) × ((checked a b t).bytes ≡ bs ++ v ∷ rest.bytes)
   unfolding checked
   unchecked false b t h = absurd (none_some (refusal 5) h)
   unchecked true false t h = absurd (none_some (refusal 3) h)
@@ -49,7 +47,7 @@ module _ (bs : List ℕ) (v : ℕ) (rest : Emission) where
   unchecked true true true h = (refl, refl, refl, h, refl)
 
 -- So it is with an opening.
-pub accepted : (u : Universal) → (opening u).stop ≡ none → Accepted u
+pub accepted : (u : Universal) → (opening u).stop ≡ None → Accepted u
 unfolding opening checked
 accepted u h =
     let given : Bool = sub_id2_given u.sub_id2 in
@@ -71,34 +69,34 @@ class_low true = refl
 class_low false = refl
 
 -- The byte of a sub-ID 2 that is not refused is low.
-pub sub_id2_low : (m : MaybeSubId2) → (sub_id2_value m).stop ≡ none → all_low (sub_id2_value m).bytes ≡ true
+pub sub_id2_low : (m : Option ℕ) → (sub_id2_value m).stop ≡ None → all_low (sub_id2_value m).bytes ≡ true
 unfolding all_low
-sub_id2_low NoSubId2 h = refl
-sub_id2_low (SubId2 v) h = go (leb v 127) refl h
+sub_id2_low None h = refl
+sub_id2_low (Some v) h = go (leb v 127) refl h
   where
-    go : (t : Bool) → leb v 127 ≡ t → (check t 3 then sent (v ∷ [])).stop ≡ none → all_low (check t 3 then sent (v ∷ [])).bytes ≡ true
+    go : (t : Bool) → leb v 127 ≡ t → (check t 3 then sent (v ∷ [])).stop ≡ None → all_low (check t 3 then sent (v ∷ [])).bytes ≡ true
     go true e p = rw e
     go false e p = absurd (none_some (refusal 3) p)
 
 -- What it emits is its byte.
-pub sub_id2_bytes_lem : (m : MaybeSubId2) → (sub_id2_value m).stop ≡ none → (sub_id2_value m).bytes ≡ sub_id2_bytes m
-sub_id2_bytes_lem NoSubId2 h = refl
-sub_id2_bytes_lem (SubId2 v) h = go (leb v 127) h
+pub sub_id2_bytes_lem : (m : Option ℕ) → (sub_id2_value m).stop ≡ None → (sub_id2_value m).bytes ≡ sub_id2_bytes m
+sub_id2_bytes_lem None h = refl
+sub_id2_bytes_lem (Some v) h = go (leb v 127) h
   where
-    go : (t : Bool) → (check t 3 then sent (v ∷ [])).stop ≡ none → (check t 3 then sent (v ∷ [])).bytes ≡ v ∷ []
+    go : (t : Bool) → (check t 3 then sent (v ∷ [])).stop ≡ None → (check t 3 then sent (v ∷ [])).bytes ≡ v ∷ []
     go true p = refl
     go false p = absurd (none_some (refusal 3) p)
 
 -- One whose byte is low is not refused.
-pub sub_id2_sent : (m : MaybeSubId2) → all_low (sub_id2_bytes m) ≡ true → sub_id2_value m ≡ sent (sub_id2_bytes m)
+pub sub_id2_sent : (m : Option ℕ) → all_low (sub_id2_bytes m) ≡ true → sub_id2_value m ≡ sent (sub_id2_bytes m)
 unfolding all_low
-sub_id2_sent NoSubId2 h = refl
-sub_id2_sent (SubId2 v) h = rw (and_parts (leb v 127) true h).0
+sub_id2_sent None h = refl
+sub_id2_sent (Some v) h = rw (and_parts (leb v 127) true h).0
 
 -- A sub-ID 2 is at most one byte.
-pub sub_id2_short : (m : MaybeSubId2) → length (sub_id2_value m).bytes ≤ 1
-sub_id2_short NoSubId2 = zero-le
-sub_id2_short (SubId2 v) = go (leb v 127)
+pub sub_id2_short : (m : Option ℕ) → length (sub_id2_value m).bytes ≤ 1
+sub_id2_short None = zero-le
+sub_id2_short (Some v) = go (leb v 127)
   where
     go : (t : Bool) → length (check t 3 then sent (v ∷ [])).bytes ≤ 1
     go true = le_refl 1

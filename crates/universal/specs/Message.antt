@@ -1,30 +1,25 @@
 -- What universal.rs does with Universal System Exclusive messages: the opening bytes, the data and the close, each with its check and
 -- its refusal. Which messages there are is said in Midi1.antt. Assumes nothing.
-use Rattle.std.specs.Prelude.{ℕ, ◌+◌, min, Bool, true, ◌&&◌, List, [], ◌∷◌, leb}
+use Rattle.universal.specs.declared.error.SysexError.{SysexError}
+use Rattle.std.specs.Prelude.{ℕ, ◌+◌, min, Bool, true, ◌&&◌, List, [], ◌∷◌, leb, Option, Some, None, Result}
 use Rattle.std.specs.Bool.{beq}
-use Rattle.universal.specs.Refusals.{Answer, gives, refused, refusal_of}
+use Rattle.universal.specs.Refusals.{Answer, gives, refused, refusal_of, answer_of}
 use Rattle.universal.specs.Emission.{Emission, sent, check, ◌then◌, fitted}
 -- The parts that MIDI 1.0 names.
 pub use Rattle.universal.specs.Midi1.{is_addressed, has_sub_id2, sub_id2_given, class_id}
-use Rattle.universal.specs.declared.message.MaybeSubId2.{MaybeSubId2}
-use Rattle.universal.specs.declared.message.MaybeSubId2.TheVariants.{NoSubId2, SubId2}
 use Rattle.universal.specs.declared.message.Universal.{Universal}
-use Rattle.universal.specs.declared.message.Opened.{Opened}
-use Rattle.universal.specs.declared.message.Opened.TheVariants as O
-use Rattle.universal.specs.declared.message.Written.{Written}
-use Rattle.universal.specs.declared.message.Written.TheVariants as W
 
 -- ---- the answers, in the paper's numbers
 
 -- The position after the opening bytes, or the refusal.
-abbrev pub opened_of : Opened → Answer ℕ
-opened_of (O.At n) = gives n
-opened_of (O.Refused e) = refused (refusal_of e)
+abbrev pub answer_of : Result ℕ SysexError → Answer ℕ
+answer_of (O.At n) = gives n
+answer_of (O.Refused e) = refused (refusal_of e)
 
 -- The message's length, or the refusal.
-abbrev pub written_of : Written → Answer ℕ
-written_of (W.Length n) = gives n
-written_of (W.Refused e) = refused (refusal_of e)
+abbrev pub answer_of : Result ℕ SysexError → Answer ℕ
+answer_of (W.Length n) = gives n
+answer_of (W.Refused e) = refused (refusal_of e)
 
 -- ---- the parts of a message
 
@@ -33,9 +28,9 @@ abbrev pub value : ℕ → Emission
 value v = check (leb v 127) 3 then sent (v ∷ [])
 
 -- A sub-ID 2, where there is one.
-abbrev pub sub_id2_value : MaybeSubId2 → Emission
-sub_id2_value NoSubId2 = sent []
-sub_id2_value (SubId2 s) = value s
+abbrev pub sub_id2_value : Option ℕ → Emission
+sub_id2_value None = sent []
+sub_id2_value (Some s) = value s
 
 -- Each byte is at most 7FH.
 unfoldable pub all_low : List ℕ → Bool
@@ -48,7 +43,7 @@ data_emission bs = check (all_low bs) 1 then sent bs
 
 -- ---- a message
 
-abbrev pub header : Bool → ℕ → ℕ → MaybeSubId2 → Universal
+abbrev pub header : Bool → ℕ → ℕ → Option ℕ → Universal
 header real_time device sub_id1 sub_id2 =
     record { real_time = real_time; device_id = device; sub_id1 = sub_id1; sub_id2 = sub_id2 }
 

@@ -1,9 +1,7 @@
 -- MIDI 1.0 detailed specification v4.2.1, System Exclusive: the bytes of a Universal message (pp. 34, 35; Table VII, p. T-8),
 -- which families carry a sub-ID 2 (Table VIIa, pp. T-9, T-10), which messages there are, and whom a device ID addresses
 -- (p. 35). Left out: manufacturers' messages, and what the data of each says. Assumes nothing.
-use Rattle.std.specs.Prelude.{ℕ, ◌≤◌, ◌<◌, ◌≡◌, Bool, true, false, ◌&&◌, ◌||◌, List, [], ◌∷◌, ◌++◌, leb, eqb, length, get_or}
-use Rattle.universal.specs.declared.message.MaybeSubId2.{MaybeSubId2}
-use Rattle.universal.specs.declared.message.MaybeSubId2.TheVariants.{NoSubId2, SubId2}
+use Rattle.std.specs.Prelude.{ℕ, ◌≤◌, ◌<◌, ◌≡◌, Bool, true, false, ◌&&◌, ◌||◌, List, [], ◌∷◌, ◌++◌, leb, eqb, length, get_or, Option, Some, None}
 use Rattle.universal.specs.declared.message.Universal.{Universal}
 
 -- ---- the device ID
@@ -20,14 +18,14 @@ has_sub_id2 true n = eqb n 1 || (eqb n 3 || (eqb n 4 || (eqb n 5 || eqb n 8)))
 has_sub_id2 false n = leb 4 n && leb n 9
 
 -- A message has a sub-ID 2, or has none.
-abbrev pub sub_id2_given : MaybeSubId2 → Bool
-sub_id2_given NoSubId2 = false
-sub_id2_given (SubId2 s) = true
+abbrev pub sub_id2_given : Option ℕ → Bool
+sub_id2_given None = false
+sub_id2_given (Some s) = true
 
 -- Its byte, where there is one.
-abbrev pub sub_id2_bytes : MaybeSubId2 → List ℕ
-sub_id2_bytes NoSubId2 = []
-sub_id2_bytes (SubId2 s) = s ∷ []
+abbrev pub sub_id2_bytes : Option ℕ → List ℕ
+sub_id2_bytes None = []
+sub_id2_bytes (Some s) = s ∷ []
 
 -- ---- the message
 

@@ -7,6 +7,6 @@ mod out;
 
 pub use error::SysexError;
 pub use message::{
-    ALL_DEVICES, MaybeSubId2, Opened, Universal, Written, addressed, all_low, close, has_sub_id2,
+    ALL_DEVICES, Universal, addressed, all_low, close, has_sub_id2,
 };
 pub use out::{put, put_part};

@@ -1,10 +1,11 @@
 // The Universal message writer: F0H, the class, the device, the sub-IDs, the data and F7H, put into a lent buffer. It
 // counts on past the end of the buffer, so that a refusal for room gives the needed length.
-ghost use Rattle.std.specs.Prelude.{◌≡◌, ◌<◌, ◌∷◌, [], length};
+ghost use Rattle.universal.specs.Refusals.{answer_of};
+ghost use Rattle.std.specs.Prelude.{◌≡◌, ◌<◌, ◌∷◌, [], length, Some, None};
 ghost use Rattle.universal.specs.Overlay.{overlay};
 ghost use Rattle.universal.specs.Emission.{answer, reached};
 ghost use Rattle.universal.specs.Midi1.{is_addressed, has_sub_id2, class_id};
-ghost use Rattle.universal.specs.Message.{opened_of, written_of, all_low, header, opening, message, closing};
+ghost use Rattle.universal.specs.Message.{all_low, header, opening, message, closing};
 
 use crate::error::SysexError;
 use crate::out::{put, put_part};
@@ -21,13 +22,6 @@ const REAL_TIME: u8 = 0x7F;
 // The device ID that addresses all devices.
 pub const ALL_DEVICES: u8 = 0x7F;
 
-// A sub-ID 2, which only some families carry.
-#[derive(Clone, Copy)]
-pub enum MaybeSubId2 {
-    NoSubId2,
-    SubId2(u8),
-}
-
 // The split parts of a Universal message but its data, which stand beside it as lent bytes.
 #[derive(Clone, Copy)]
 pub struct Universal {
@@ -35,21 +29,7 @@ pub struct Universal {
     pub real_time: bool,
     pub device_id: u8,
     pub sub_id1: u8,
-    pub sub_id2: MaybeSubId2,
-}
-
-// The answer of an opening: the position after it, or the refusal.
-#[derive(Clone, Copy)]
-pub enum Opened {
-    At(usize),
-    Refused(SysexError),
-}
-
-// The answer of a writing: the message's length, or the refusal.
-#[derive(Clone, Copy)]
-pub enum Written {
-    Length(usize),
-    Refused(SysexError),
+    pub sub_id2: Option<u8>,
 }
 
 // True when a received device ID addresses the device `own`.
@@ -109,20 +89,20 @@ pub fn all_low(bytes: &[u8]) -> bool
 }
 
 // The opening of a family that carries no sub-ID 2.
-fn open_family(out: &mut [u8], real_time: bool, device_id: u8, sub_id1: u8) -> Opened
+fn open_family(out: &mut [u8], real_time: bool, device_id: u8, sub_id1: u8) -> Result<usize, SysexError>
     requires { device_id < 128 }
-    ensures result_value { opened_of result ≡ reached (opening (header real_time device_id sub_id1 MaybeSubId2.NoSubId2)) }
-    ensures out_after { out.new ≡ overlay out.old 0 (opening (header real_time device_id sub_id1 MaybeSubId2.NoSubId2)).bytes }
+    ensures result_value { answer_of result ≡ reached (opening (header real_time device_id sub_id1 None)) }
+    ensures out_after { out.new ≡ overlay out.old 0 (opening (header real_time device_id sub_id1 None)).bytes }
 {
     if has_sub_id2(real_time, sub_id1) {
-        return Opened::Refused(SysexError::OutOfRange);
+        return Err(SysexError::OutOfRange);
     }
     put_start(out, real_time, device_id);
     if sub_id1 > 0x7F {
-        return Opened::Refused(SysexError::OutOfRange);
+        return Err(SysexError::OutOfRange);
     }
     put(out, 3, sub_id1);
-    Opened::At(4)
+    Ok(4)
 }
 
 // The opening of a family that carries one.
@@ -132,45 +112,45 @@ fn open_with_sub_id2(
     device_id: u8,
     sub_id1: u8,
     sub_id2: u8,
-) -> Opened
+) -> Result<usize, SysexError>
     requires { device_id < 128 }
-    ensures result_value { opened_of result ≡ reached (opening (header real_time device_id sub_id1 (MaybeSubId2.SubId2 sub_id2))) }
-    ensures out_after { out.new ≡ overlay out.old 0 (opening (header real_time device_id sub_id1 (MaybeSubId2.SubId2 sub_id2))).bytes }
+    ensures result_value { answer_of result ≡ reached (opening (header real_time device_id sub_id1 (Some sub_id2))) }
+    ensures out_after { out.new ≡ overlay out.old 0 (opening (header real_time device_id sub_id1 (Some sub_id2))).bytes }
 {
     if !has_sub_id2(real_time, sub_id1) {
-        return Opened::Refused(SysexError::OutOfRange);
+        return Err(SysexError::OutOfRange);
     }
     put_start(out, real_time, device_id);
     if sub_id1 > 0x7F {
-        return Opened::Refused(SysexError::OutOfRange);
+        return Err(SysexError::OutOfRange);
     }
     put(out, 3, sub_id1);
     if sub_id2 > 0x7F {
-        return Opened::Refused(SysexError::OutOfRange);
+        return Err(SysexError::OutOfRange);
     }
     put(out, 4, sub_id2);
-    Opened::At(5)
+    Ok(5)
 }
 
 // Puts F7H at a position, and answers the whole length, or that the buffer is too small for it.
-pub fn close(out: &mut [u8], at: usize) -> Written
-    ensures result_value { written_of result ≡ closing at (length out.old) }
+pub fn close(out: &mut [u8], at: usize) -> Result<usize, SysexError>
+    ensures result_value { answer_of result ≡ closing at (length out.old) }
     ensures out_after { out.new ≡ overlay out.old at (247 ∷ []) }
 {
     put(out, at, EOX);
     if at < out.len() {
-        return Written::Length(at + 1);
+        return Ok(at + 1);
     }
     if at == 0xFFFF_FFFF_FFFF_FFFF {
-        return Written::Refused(SysexError::BufferTooSmall { needed: at });
+        return Err(SysexError::BufferTooSmall { needed: at });
     }
-    Written::Refused(SysexError::BufferTooSmall { needed: at + 1 })
+    Err(SysexError::BufferTooSmall { needed: at + 1 })
 }
 
 impl Universal {
     // Puts the opening bytes, F0H to the last sub-ID, at the start of the buffer.
-    pub fn open(self, out: &mut [u8]) -> Opened
-        ensures result_value { opened_of result ≡ reached (opening self) }
+    pub fn open(self, out: &mut [u8]) -> Result<usize, SysexError>
+        ensures result_value { answer_of result ≡ reached (opening self) }
         ensures out_after { out.new ≡ overlay out.old 0 (opening self).bytes }
     {
         let real_time = self.real_time;
@@ -178,24 +158,24 @@ impl Universal {
         let sub_id1 = self.sub_id1;
         let sub_id2 = self.sub_id2;
         if device_id > 0x7F {
-            return Opened::Refused(SysexError::Device);
+            return Err(SysexError::Device);
         }
         match sub_id2 {
-            MaybeSubId2::NoSubId2 => open_family(out, real_time, device_id, sub_id1),
-            MaybeSubId2::SubId2(s) => open_with_sub_id2(out, real_time, device_id, sub_id1, s),
+            None => open_family(out, real_time, device_id, sub_id1),
+            Some(s) => open_with_sub_id2(out, real_time, device_id, sub_id1, s),
         }
     }
 
     // Writes the whole message, F0H to F7H.
-    pub fn write(self, data: &[u8], out: &mut [u8]) -> Written
-        ensures result_value { written_of result ≡ answer (message self «data».now) (length out.old) }
+    pub fn write(self, data: &[u8], out: &mut [u8]) -> Result<usize, SysexError>
+        ensures result_value { answer_of result ≡ answer (message self «data».now) (length out.old) }
         ensures out_after { out.new ≡ overlay out.old 0 (message self «data».now).bytes }
     {
         match self.open(out) {
-            Opened::Refused(e) => Written::Refused(e),
-            Opened::At(at) => {
+            Err(e) => Err(e),
+            Ok(at) => {
                 if !all_low(data) {
-                    return Written::Refused(SysexError::DataByte);
+                    return Err(SysexError::DataByte);
                 }
                 put_part(out, at, data);
                 close(out, at + data.len())

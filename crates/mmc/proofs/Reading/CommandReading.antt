@@ -1,12 +1,12 @@
 -- The page's bytes of commands and fields are read as what stands for them; and which names and data are read as each case,
 -- exactly. Assumes nothing.
+use Rattle.std.specs.Prelude.{None}
 use Prim.Native.Nat.{ℕ, suc, ◌+◌, ◌-◌, ◌≤◌, ◌<◌, zero-le}
 use native.Mathlib.Nat.{zero-add}
 use mathlib.Core.Path.{◌≡◌, refl, sym, ap, ap₂, subst, ◌∙◌}
 use mathlib.Core.Bool.{Bool, true, false, cond, true≢false}
 use mathlib.Core.Logic.{◌↔◌, ◌≢◌}
 use mathlib.Core.List.{List, [], ◌∷◌, ◌++◌}
-use mathlib.Core.Option.{none}
 use native.Mathlib.Omega.{arith}
 use borrow.Author.Tests.{eq-eqb, ne_eqb, eqb-true, eqb-false, le-leb, le-ltb}
 use lib.Dec.{ltb, eqb}
@@ -138,7 +138,7 @@ pub field_read_by_page : (p : Field) (body pre post : List ℕ) (place : ℕ) �
 field_read_by_page p body pre post place h e q =
     let g : Given Fields = given Fields [] (field_meant p) in
     let w : emission Fields g ≡ sent (field_bytes p) = field_written_by_page p [] (field_meant p) h (stands_of p) in
-    let ok : (emission Fields g).stop ≡ none = ap (λ (x : Emission). x.stop) w in
+    let ok : (emission Fields g).stop ≡ None = ap (λ (x : Emission). x.stop) w in
     let s : AcceptedItem Fields (pair_of Fields g) (emission Fields g).bytes = item_accepted Fields g ok in
     let x : Item = pair_of Fields g in
     let b : field_bytes p ≡ item_bytes Fields x = ap (λ (y : Emission). y.bytes) (sym w) ∙ s.are_item_bytes in
@@ -378,7 +378,7 @@ unfolding as_given
 own_item p past h e =
     let g : Given Commands = as_given p in
     let w : emission Commands g ≡ sent (command_bytes p) = command_written_by_page p (made p).source (made p).command h (made p).stands in
-    let ok : (emission Commands g).stop ≡ none = ap (λ (y : Emission). y.stop) w in
+    let ok : (emission Commands g).stop ≡ None = ap (λ (y : Emission). y.stop) w in
     let s : AcceptedItem Commands (pair_of Commands g) (emission Commands g).bytes = item_accepted Commands g ok in
     record {
       x = pair_of Commands g;

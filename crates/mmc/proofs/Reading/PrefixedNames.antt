@@ -1,4 +1,6 @@
 -- A name that begins with 00H has more than one byte. Assumes nothing.
+use Rattle.universal.specs.declared.error.SysexError.{SysexError}
+use Rattle.std.specs.Prelude.{Result}
 use Prim.Native.Nat.{ℕ, ◌+◌, ◌-◌, ◌≤◌, ◌<◌}
 use mathlib.Core.Path.{◌≡◌, refl, sym, ap, ◌∙◌}
 use mathlib.Core.Bool.{Bool, true, false, cond, ◌&&◌, true≢false}
@@ -14,11 +16,9 @@ use Rattle.mmc.specs.declared.length.Length.TheVariants.{Fixed, Count}
 use Rattle.mmc.specs.declared.part.Part.{Part}
 use Rattle.mmc.specs.declared.split.Parts.{Parts}
 use Rattle.mmc.specs.declared.split.Parts.TheVariants.{Item, Cut}
-use Rattle.mmc.specs.declared.split.PartsAnswer.{PartsAnswer}
-use Rattle.mmc.specs.declared.split.PartsAnswer.TheVariants.{Found}
 use Rattle.mmc.specs.Length.{length_of}
 use Rattle.mmc.specs.Part.{part, part_of, is_inside}
-use Rattle.mmc.specs.Split.{ItemPlace, Next, prefixes_at, measured, by_length, split_at, found, next, next_parts_of}
+use Rattle.mmc.specs.Split.{ItemPlace, Next, prefixes_at, measured, by_length, split_at, found, next, next_item_of}
 use Rattle.universal.specs.Refusals.{Answer, gives, refused}
 use Rattle.mmc.proofs.RangeTests.{get_d_any}
 
@@ -58,7 +58,7 @@ split_named kind body at = go (ltb (at + prefixes_at body at) (length body))
 
 -- What is found is a name with them.
 item_named : (s : Parts) (p n d : Part) (end at : ℕ) → Named p s
-    → next_parts_of (record { answer = Found n d; place = at }) ≡ found s end → n ≡ p
+    → next_item_of (record { answer = Found n d; place = at }) ≡ found s end → n ≡ p
 item_named (Item m a after) p n d end at h e = ap (λ (x : Next ItemPlace). name_in x.answer) e ∙ h
   where
     name_in : Answer ItemPlace → Part
@@ -83,8 +83,8 @@ part_one body p h = go (leb p.start (length body)) (leb p.len (length body - p.s
     go true false s t h = omega arith
     go false b s t h = omega arith
 
-module _ (kind : Kind) (body : List ℕ) (place at : ℕ) (l : place < length body) (z : get_or body place 0 ≡ 0) (k : PartsAnswer)
-    (e : next_parts_of (record { answer = k; place = at }) ≡ next kind body place) where
+module _ (kind : Kind) (body : List ℕ) (place at : ℕ) (l : place < length body) (z : get_or body place 0 ≡ 0) (k : Result ItemPlace SysexError)
+    (e : next_item_of (record { answer = k; place = at }) ≡ next kind body place) where
   some_zeros : 1 ≤ prefixes_at body place
   unfolding prefixes_at
   some_zeros = rw (get_d_any body place 1 0 l, z) (go (eqb (get_or body (place + 1) 1) 0))
@@ -97,8 +97,8 @@ module _ (kind : Kind) (body : List ℕ) (place at : ℕ) (l : place < length bo
   pub long : (n d : Part) → k ≡ Found n d → length (part_of body n) ≡ 1 → ⊥
   unfolding next
   long n d q h =
-      let f : next_parts_of (record { answer = Found n d; place = at }) ≡ found (split_at kind body place) (length body) =
-      ap (λ (y : PartsAnswer). next_parts_of (record { answer = y; place = at })) (sym q) ∙ e ∙ rw (lt-ltb place (length body) l) refl in
+      let f : next_item_of (record { answer = Found n d; place = at }) ≡ found (split_at kind body place) (length body) =
+      ap (λ (y : Result ItemPlace SysexError). next_item_of (record { answer = y; place = at })) (sym q) ∙ e ∙ rw (lt-ltb place (length body) l) refl in
       let m : n.len ≡ prefixes_at body place + 1 =
       ap (λ (p : Part). p.len)
       (item_named (split_at kind body place) (part place (prefixes_at body place + 1)) n d (length body) at

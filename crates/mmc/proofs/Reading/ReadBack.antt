@@ -1,8 +1,8 @@
 -- What the name and data of an accepted command or field are read as. Assumes nothing.
+use Rattle.std.specs.Prelude.{None}
 use Prim.Native.Nat.{ℕ, ◌+◌, ◌-◌}
 use mathlib.Core.Path.{◌≡◌, refl, ap}
 use mathlib.Core.List.{List, [], ◌∷◌}
-use mathlib.Core.Option.{none}
 use native.Mathlib.Omega.{arith}
 use borrow.Author.Tests.{ne_eqb}
 use Rattle.mmc.specs.declared.command.MmcCommand.{MmcCommand}
@@ -22,22 +22,22 @@ use Rattle.mmc.proofs.RangeTests.{within_range, above_range}
 
 -- ---- commands
 
-locate_field_back : (r : ℕ) → (locate_field_item r).stop ≡ none → read_command (68 ∷ []) (0 ∷ r ∷ []) ≡ locate_field r
+locate_field_back : (r : ℕ) → (locate_field_item r).stop ≡ None → read_command (68 ∷ []) (0 ∷ r ∷ []) ≡ locate_field r
 unfolding read_command command_by_name read_locate
 locate_field_back r h = let t = locate_field_checks r h in rw (ne_eqb r 0 (λ e. omega (arith, t.0)))
 
-locate_target_back : (c : StandardTimeCode) → (locate_target_item c).stop ≡ none
+locate_target_back : (c : StandardTimeCode) → (locate_target_item c).stop ≡ None
     → read_command (68 ∷ []) (1 ∷ standard_list c) ≡ locate_target (zeroed c)
 unfolding read_command command_by_name read_locate
 locate_target_back c h = rw (five_listed c) (ap locate_target (read_back c (locate_target_checks c h).0))
 
-move_read_back : (d s : ℕ) → (move_item d s).stop ≡ none → read_command (76 ∷ []) (d ∷ s ∷ []) ≡ move d s
+move_read_back : (d s : ℕ) → (move_item d s).stop ≡ None → read_command (76 ∷ []) (d ∷ s ∷ []) ≡ move d s
 unfolding read_command command_by_name read_move
 move_read_back d s h =
     let t = move_checks d s h in
     rw (ne_eqb d 0 (λ e. omega (arith, t.0)), ne_eqb s 0 (λ e. omega (arith, t.2)))
 
-pub command_back_lem : (source : List ℕ) (c : MmcCommand) → (command_item source c).stop ≡ none
+pub command_back_lem : (source : List ℕ) (c : MmcCommand) → (command_item source c).stop ≡ None
     → read_command (command_pair source c).name (command_pair source c).«data» ≡ command_back source c
 unfolding command_item command_pair read_command command_by_name
 command_back_lem source C.Stop h = refl
@@ -57,13 +57,13 @@ command_back_lem source (C.Other n d) h = refl
 
 -- ---- fields
 
-time_code_back : (f : ℕ) (c : StandardTimeCode) → (time_code_item f c).stop ≡ none
+time_code_back : (f : ℕ) (c : StandardTimeCode) → (time_code_item f c).stop ≡ None
     → read_field (f ∷ []) (standard_list c) ≡ time_code_field f (zeroed c)
 unfolding read_field field_by_name
 time_code_back f c h =
     let t = time_code_checks f c h in rw (five_listed c, within_range 1 32 f t.0 t.1) (ap (time_code_field f) (read_back c t.2))
 
-short_code_back : (f : ℕ) (c : ShortTimeCode) → (short_code_item f c).stop ≡ none
+short_code_back : (f : ℕ) (c : ShortTimeCode) → (short_code_item f c).stop ≡ None
     → read_field ((f + 32) ∷ []) (short_list c) ≡ short_field f c
 unfolding read_field field_by_name
 short_code_back f c h =
@@ -77,7 +77,7 @@ short_code_back f c h =
     )
     (ap (short_field f) (short_read_back c t.2))
 
-pub field_back_lem : (source : List ℕ) (f : InfoField) → (field_item source f).stop ≡ none
+pub field_back_lem : (source : List ℕ) (f : InfoField) → (field_item source f).stop ≡ None
     → read_field (field_pair source f).name (field_pair source f).«data» ≡ field_back source f
 unfolding field_item field_pair
 field_back_lem source (F.TimeCode f c) h = time_code_back f c h

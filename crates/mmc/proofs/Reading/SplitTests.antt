@@ -1,4 +1,5 @@
 -- The splitter, test by test. Assumes nothing.
+use Rattle.std.specs.Prelude.{Result}
 use Prim.Native.Nat.{ℕ, ◌+◌, ◌-◌, ◌≤◌, ◌<◌}
 use mathlib.Core.Path.{◌≡◌, sym, ap, ap₂, ◌∙◌}
 use mathlib.Core.Bool.{Bool, true, false, cond}
@@ -9,12 +10,10 @@ use lib.ListN.{length, get_or, get_or-eq_default}
 use Rattle.mmc.specs.declared.length.Kind.{Kind}
 use Rattle.mmc.specs.declared.length.Length.TheVariants.{Fixed, Count}
 use Rattle.mmc.specs.declared.part.Part.{Part}
-use Rattle.mmc.specs.declared.split.PartsAnswer.{PartsAnswer}
-use Rattle.mmc.specs.declared.split.PartsAnswer.TheVariants.{Found, Refused}
 use Rattle.mmc.specs.declared.split.Parts.TheVariants.{Item, Cut}
 use Rattle.mmc.specs.Length.{length_of}
 use Rattle.mmc.specs.Part.{part, part_of}
-use Rattle.mmc.specs.Split.{prefixes_at, measured, split_at, ItemPlace, Next, next, next_parts_of, next_as}
+use Rattle.mmc.specs.Split.{prefixes_at, measured, split_at, ItemPlace, Next, next, next_as, next_item_of}
 use Rattle.universal.specs.Refusals.{gives, refused, refusal, refusal_of}
 use Rattle.universal.specs.declared.error.SysexError.{SysexError}
 use Rattle.mmc.proofs.RangeTests.{get_d_any}
@@ -105,19 +104,19 @@ module _ (kind : Kind) (body : List ℕ) (place : ℕ) where
   next_item n d after h e = rw (lt-ltb place (length body) h, e)
 
 -- It is read as something where it was found, and its refusal stays.
-module _ {A : Type 0} (f : ItemPlace → A) (x : Next ItemPlace) (k : PartsAnswer) (place : ℕ)
-    (e : next_parts_of (record { answer = k; place = place }) ≡ x) where
+module _ {A : Type 0} (f : ItemPlace → A) (x : Next ItemPlace) (k : Result ItemPlace SysexError) (place : ℕ)
+    (e : next_item_of (record { answer = k; place = place }) ≡ x) where
   pub read_found : (n d : Part) (r : A) → k ≡ Found n d → r ≡ f (record { name = n; «data» = d })
       → ◌≡◌ {A = Next A} (record { answer = gives r; place = place }) (next_as f x)
   read_found n d r q p =
       ap (λ (y : A). record { answer = gives y; place = place }) p
-      ∙ ap (λ (y : PartsAnswer). next_as f (next_parts_of (record { answer = y; place = place }))) (sym q)
+      ∙ ap (λ (y : Result ItemPlace SysexError). next_as f (next_item_of (record { answer = y; place = place }))) (sym q)
       ∙ ap (next_as f) e
 
   pub read_refused : (r : SysexError) → k ≡ Refused r
       → ◌≡◌ {A = Next A} (record { answer = refused (refusal_of r); place = place }) (next_as f x)
   read_refused r q =
-      ap (λ (y : PartsAnswer). next_as f (next_parts_of (record { answer = y; place = place }))) (sym q) ∙ ap (next_as f) e
+      ap (λ (y : Result ItemPlace SysexError). next_as f (next_item_of (record { answer = y; place = place }))) (sym q) ∙ ap (next_as f) e
 
 -- What is read of bytes that are two parts of a string.
 pub read_parts : {A : Type 0} (g : List ℕ → List ℕ → Part → Part → A) (body x y : List ℕ) (n d : Part) (r : A) → r ≡ g x y n d

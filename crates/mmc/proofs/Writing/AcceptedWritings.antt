@@ -1,10 +1,10 @@
 -- A writing that is accepted: what that tells of its opening, its items and its close; and how far calls bring a writing. Assumes
 -- nothing.
+use Rattle.std.specs.Prelude.{Option, Some, None}
 use Prim.Native.Nat.{ℕ, ◌+◌, ◌*◌, ◌≤◌, ◌<◌}
 use mathlib.Core.Path.{◌≡◌, refl, sym, ap, ap₂, subst, ◌∙◌}
 use mathlib.Core.Bool.{Bool, true, false, not, cond, ◌&&◌}
 use mathlib.Core.List.{List, [], ◌∷◌, ◌++◌}
-use mathlib.Core.Option.{Option, none, some}
 use native.Mathlib.Nat.{add-zero, zero-add}
 use native.Mathlib.Omega.{arith}
 use borrow.Author.Tests.{le-leb, leb-true, leb-false}
@@ -24,7 +24,6 @@ use Rattle.universal.specs.Refusals.{Refusal, refusal, gives}
 use Rattle.universal.specs.Emission.{Emission, sent, check, ◌then◌, fitted, answer_in}
 use Rattle.universal.specs.Message.{opening, header}
 use Rattle.universal.specs.Overlay.{overlay}
-use Rattle.universal.specs.declared.message.MaybeSubId2.TheVariants.{NoSubId2}
 use Rattle.universal.proofs.Laws.{overlay_none, overlay_append, overlay_fits, then_sent, then_accepted, check_held, opening_device, opening_bytes, gives_refused, none_some}
 use Rattle.mmc.proofs.RangeTests.{within_told}
 use Rattle.mmc.proofs.StringLaws.{emissions_none, emissions_cons}
@@ -33,22 +32,22 @@ use Rattle.mmc.proofs.Writing.WriterCalls.{ready_told, repeats, takes, close_sen
 -- ---- one item
 
 -- A writing that goes on has not failed.
-pub not_failed : (w : Writing) → (or_failed w).stop ≡ none → w.stop ≡ none
+pub not_failed : (w : Writing) → (or_failed w).stop ≡ None → w.stop ≡ None
 unfolding or_failed
 not_failed w = go (leb w.items 256 && leb w.at 40000)
   where
-    go : (b : Bool) → (cond b w (record { at = w.at; items = w.items; stop = some (refusal 10) })).stop ≡ none → w.stop ≡ none
+    go : (b : Bool) → (cond b w (record { at = w.at; items = w.items; stop = Some (refusal 10) })).stop ≡ None → w.stop ≡ None
     go true h = h
     go false h = absurd (none_some (refusal 10) h)
 
 -- Of an item that was accepted its own emission went out, and that has no refusal.
 pub record AcceptedEmission (w : Writing) (e : Emission) : Type 0 where
-  pub going : w.stop ≡ none
-  pub own : e.stop ≡ none
+  pub going : w.stop ≡ None
+  pub own : e.stop ≡ None
   pub whole : admitted w e ≡ e
   pub room : w.items < 256
 
-pub emission_accepted : (w : Writing) (e : Emission) → (admitted w e).stop ≡ none → AcceptedEmission w e
+pub emission_accepted : (w : Writing) (e : Emission) → (admitted w e).stop ≡ None → AcceptedEmission w e
 unfolding admitted
 emission_accepted w e h =
     let k = then_accepted (record { bytes = []; stop = ready w }) e h in
@@ -58,12 +57,12 @@ emission_accepted w e h =
 
 -- What a list that was accepted leaves: the list's own emission at the position.
 pub record ListAccepted (kind : Kind) (s : State) (gs : List (Given kind)) : Type 0 where
-  pub going : s.writing.stop ≡ none
-  pub own : (emissions kind gs).stop ≡ none
+  pub going : s.writing.stop ≡ None
+  pub own : (emissions kind gs).stop ≡ None
   pub at : (after_items kind s gs).writing.at ≡ s.writing.at + length (emissions kind gs).bytes
   pub out : (after_items kind s gs).out ≡ overlay s.out s.writing.at (emissions kind gs).bytes
 
-none_accepted : (kind : Kind) (s : State) → (after_items kind s []).writing.stop ≡ none → ListAccepted kind s []
+none_accepted : (kind : Kind) (s : State) → (after_items kind s []).writing.stop ≡ None → ListAccepted kind s []
 unfolding after_items
 none_accepted kind s h =
     record {
@@ -74,7 +73,7 @@ none_accepted kind s h =
     }
 
 -- The list's own emission, where its first item is accepted.
-cons_bytes : (kind : Kind) (g : Given kind) (gs : List (Given kind)) → (emission kind g).stop ≡ none
+cons_bytes : (kind : Kind) (g : Given kind) (gs : List (Given kind)) → (emission kind g).stop ≡ None
     → emissions kind (g ∷ gs) ≡ record { bytes = (emission kind g).bytes ++ (emissions kind gs).bytes; stop = (emissions kind gs).stop }
 cons_bytes kind g gs h = emissions_cons kind g gs ∙ then_sent (emission kind g) (emissions kind gs) h
 
@@ -108,7 +107,7 @@ more_accepted kind s g gs ih =
     sum : (x y z : ℕ) → x + y + z ≡ x + (y + z)
     sum x y z = omega arith
 
-pub all_accepted : (kind : Kind) (gs : List (Given kind)) (s : State) → (after_items kind s gs).writing.stop ≡ none → ListAccepted kind s gs
+pub all_accepted : (kind : Kind) (gs : List (Given kind)) (s : State) → (after_items kind s gs).writing.stop ≡ None → ListAccepted kind s gs
 unfolding after_items
 all_accepted kind [] s h = none_accepted kind s h
 all_accepted kind (g ∷ gs) s h = more_accepted kind s g gs (all_accepted kind gs (after_item kind s g) h)
@@ -120,20 +119,20 @@ pub record OpenedWhole (kind : Kind) (device : ℕ) : Type 0 where
   pub low_device : device ≤ 127
   pub bytes : (opening_of kind device).bytes ≡ 240 ∷ 127 ∷ device ∷ sub_id1_of kind ∷ []
 
-opening_low : (device n : ℕ) → (opening (header true device n NoSubId2)).stop ≡ none → device ≤ 127
+opening_low : (device n : ℕ) → (opening (header true device n None)).stop ≡ None → device ≤ 127
 opening_low device n h = go (leb device 127) refl
   where
     go : (b : Bool) → leb device 127 ≡ b → device ≤ 127
     go true e = leb-true device 127 e
     go false e =
-        absurd (none_some (refusal 5) (sym (ap (λ (x : Emission). x.stop) (opening_device (header true device n NoSubId2) (leb-false device 127 e))) ∙ h))
+        absurd (none_some (refusal 5) (sym (ap (λ (x : Emission). x.stop) (opening_device (header true device n None) (leb-false device 127 e))) ∙ h))
 
-pub opened_whole : (kind : Kind) (device : ℕ) → (opening_of kind device).stop ≡ none → OpenedWhole kind device
+pub opened_whole : (kind : Kind) (device : ℕ) → (opening_of kind device).stop ≡ None → OpenedWhole kind device
 unfolding opened_commands opened_responses
 opened_whole Commands device h =
-    record { low_device = opening_low device 6 h; bytes = opening_bytes (header true device 6 NoSubId2) h }
+    record { low_device = opening_low device 6 h; bytes = opening_bytes (header true device 6 None) h }
 opened_whole Fields device h =
-    let u = header true device 7 NoSubId2 in
+    let u = header true device 7 None in
     let rest = then_accepted (check (leb device 127) 5) (check (not (eqb device 127)) 3 then opening u) h in
     let last = then_accepted (check (not (eqb device 127)) 3) (opening u) rest.1 in
     record {
@@ -143,7 +142,7 @@ opened_whole Fields device h =
 
 -- A close that answered a length.
 record Closed (w : Writing) (room n : ℕ) : Type 0 where
-  going : w.stop ≡ none
+  going : w.stop ≡ None
   from : 5 ≤ w.at
   to : w.at < 53
   whole : n ≡ w.at + 1
@@ -151,13 +150,13 @@ record Closed (w : Writing) (room n : ℕ) : Type 0 where
   close : closed_message w ≡ sent (247 ∷ [])
 
 -- An answer with a length came after no refusal, and the length fits.
-pub answer_in_gives : (s : Option Refusal) (m room n : ℕ) → answer_in s m room ≡ gives n → (s ≡ none) × (n ≡ m) × (n ≤ room)
-answer_in_gives none m room n e = go (leb m room) refl e
+pub answer_in_gives : (s : Option Refusal) (m room n : ℕ) → answer_in s m room ≡ gives n → (s ≡ None) × (n ≡ m) × (n ≤ room)
+answer_in_gives None m room n e = go (leb m room) refl e
   where
-    go : (b : Bool) → leb m room ≡ b → fitted b m ≡ gives n → (◌≡◌ {A = Option Refusal} none none) × (n ≡ m) × (n ≤ room)
+    go : (b : Bool) → leb m room ≡ b → fitted b m ≡ gives n → (◌≡◌ {A = Option Refusal} None None) × (n ≡ m) × (n ≤ room)
     go true t p = let same : n ≡ m = cc in (refl, same, omega (arith, leb-true m room t))
     go false t p = absurd (gives_refused n _ p)
-answer_in_gives (some r) m room n e = absurd (gives_refused n r e)
+answer_in_gives (Some r) m room n e = absurd (gives_refused n r e)
 
 closed : (w : Writing) (room n : ℕ) → whole_message w room ≡ gives n → Closed w room n
 unfolding whole_message closed_message
@@ -180,9 +179,9 @@ closed w room n h =
 -- A writing that is accepted: its opening and the list's own emission are, the device is at most 127, the body has 1 to 48 bytes,
 -- the answer is the whole length, and the buffer begins with the message.
 pub record WrittenWhole (kind : Kind) (device : ℕ) (gs : List (Given kind)) (out : List ℕ) (n : ℕ) : Type 0 where
-  pub opened : (opening_of kind device).stop ≡ none
-  pub going : (string_state kind device gs out).writing.stop ≡ none
-  pub accepted : (emissions kind gs).stop ≡ none
+  pub opened : (opening_of kind device).stop ≡ None
+  pub going : (string_state kind device gs out).writing.stop ≡ None
+  pub accepted : (emissions kind gs).stop ≡ None
   pub low_device : device ≤ 127
   pub some_body : 1 ≤ length (emissions kind gs).bytes
   pub most_body : length (emissions kind gs).bytes ≤ 48
@@ -236,14 +235,14 @@ written_whole kind device gs out n h =
 pub record KeptByCalls (w : Writing) : Type 0 where
   pub few : w.items ≤ 256
   pub near : w.at ≤ 4 + 131 * w.items + 131
-  pub going : w.stop ≡ none → w.at ≤ 4 + 131 * w.items
+  pub going : w.stop ≡ None → w.at ≤ 4 + 131 * w.items
 
 -- It does not pass 40,000, so no call leaves a record that is failed by 10.
 pub kept_not_failed : (w : Writing) → KeptByCalls w → or_failed w ≡ w
 unfolding or_failed
 kept_not_failed w k = rw (le-leb w.items 256 k.few, le-leb w.at 40000 (omega (arith, k.few, k.near)))
 
-refused_kept : (w : Writing) (r : Refusal) → KeptByCalls w → KeptByCalls (writing_past w (record { len = 0; stop = some r }))
+refused_kept : (w : Writing) (r : Refusal) → KeptByCalls w → KeptByCalls (writing_past w (record { len = 0; stop = Some r }))
 refused_kept w r k =
     record {
       few = k.few;
@@ -251,19 +250,19 @@ refused_kept w r k =
       going = λ h. absurd (none_some r h);
     }
 
-item_kept : (w : Writing) (e : Emission) → KeptByCalls w → w.stop ≡ none → w.items < 256 → length e.bytes ≤ 131 → KeptByCalls (writing_past w (extent_of e))
+item_kept : (w : Writing) (e : Emission) → KeptByCalls w → w.stop ≡ None → w.items < 256 → length e.bytes ≤ 131 → KeptByCalls (writing_past w (extent_of e))
 item_kept w e k g l h = go e.stop
   where
     go : (s : Option Refusal) → KeptByCalls (writing_past w (record { len = length e.bytes; stop = s }))
-    go none = record { few = omega arith; near = omega (arith, k.going g); going = λ _. omega (arith, k.going g) }
-    go (some r) = record { few = k.few; near = omega (arith, k.going g); going = λ z. absurd (none_some r z) }
+    go None = record { few = omega arith; near = omega (arith, k.going g); going = λ _. omega (arith, k.going g) }
+    go (Some r) = record { few = k.few; near = omega (arith, k.going g); going = λ z. absurd (none_some r z) }
 
 pub after_kept : (w : Writing) (e : Emission) → KeptByCalls w → length e.bytes ≤ 131 → KeptByCalls (W.writing_after w e)
 unfolding W.writing_after
 after_kept w e k h = go (ready w) refl
   where
     go : (s : Option Refusal) → ready w ≡ s → KeptByCalls (writing_past w (extent_of (admitted w e)))
-    go none r =
+    go None r =
         subst (λ (x : Emission). KeptByCalls (writing_past w (extent_of x))) (sym (takes w e r))
         (item_kept w e k (not_failed w (ready_told w r).0) (ready_told w r).1 h)
-    go (some q) r = subst (λ (x : Emission). KeptByCalls (writing_past w (extent_of x))) (sym (repeats w e q r)) (refused_kept w q k)
+    go (Some q) r = subst (λ (x : Emission). KeptByCalls (writing_past w (extent_of x))) (sym (repeats w e q r)) (refused_kept w q k)

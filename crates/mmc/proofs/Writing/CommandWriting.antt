@@ -1,12 +1,12 @@
 -- The page's bytes of commands and fields are written from what stands for them; and which commands and fields are accepted,
 -- exactly. Assumes nothing.
+use Rattle.std.specs.Prelude.{None}
 use Prim.Native.Nat.{ℕ, suc, ◌+◌, ◌≤◌, suc-le-suc}
 use native.Mathlib.Nat.{zero-lt-suc}
 use mathlib.Core.Path.{◌≡◌, refl, sym, ap, ◌∙◌}
 use mathlib.Core.Bool.{Bool, true, false, not, cond, ◌&&◌, true≢false}
 use mathlib.Core.Logic.{◌↔◌}
 use mathlib.Core.List.{List, [], ◌∷◌}
-use mathlib.Core.Option.{none}
 use native.Mathlib.Omega.{arith}
 use borrow.Author.Tests.{eqb-true, le-leb}
 use lib.Dec.{eqb, lit≤}
@@ -95,7 +95,7 @@ other_sent kind source n d i j w = rw (i, j) (named_sent kind (part_of source n)
 accepted_writable : (kind : Kind) (name d bytes : List ℕ) → AcceptedItem kind (item name d) bytes → Writable kind name d
 accepted_writable kind name d bytes s = record { fits = s.fits; low = ap all_low (sym s.are_item_bytes) ∙ s.low }
 
-other_inside : (kind : Kind) (source : List ℕ) (n d : Part) → (other_item kind source n d).stop ≡ none
+other_inside : (kind : Kind) (source : List ℕ) (n d : Part) → (other_item kind source n d).stop ≡ None
     → (is_inside source n ≡ true) × (is_inside source d ≡ true)
 unfolding other_item
 other_inside kind source n d h =
@@ -103,7 +103,7 @@ other_inside kind source n d h =
     (check_held (is_inside source n && is_inside source d) 6
     (then_accepted (check (is_inside source n && is_inside source d) 6) (named_item kind (part_of source n) (part_of source d)) h).0)
 
-write_is_inside : (source : List ℕ) (d : Part) → (write_item source d).stop ≡ none → is_inside source d ≡ true
+write_is_inside : (source : List ℕ) (d : Part) → (write_item source d).stop ≡ None → is_inside source d ≡ true
 unfolding write_item
 write_is_inside source d h =
     check_held (is_inside source d) 6
@@ -184,18 +184,18 @@ told_subframes : (f : FinalByte) → is_subframes f ≡ true → IsFf f
 told_subframes (Subframes b) h = tt
 told_subframes (Status s) h = absurd (true≢false (sym h))
 
-target_form : (c : StandardTimeCode) → (locate_target_item c).stop ≡ none → IsFf c.final_byte
+target_form : (c : StandardTimeCode) → (locate_target_item c).stop ≡ None → IsFf c.final_byte
 unfolding locate_target_item
 target_form c h =
     told_subframes c.final_byte
     (check_held (is_subframes c.final_byte) 3
     (then_accepted (check (is_subframes c.final_byte) 3) (sent (68 ∷ 6 ∷ 1 ∷ []) then standard_item c) h).0)
 
-stop_of : (e : Emission) (bs : List ℕ) → e ≡ sent bs → e.stop ≡ none
+stop_of : (e : Emission) (bs : List ℕ) → e ≡ sent bs → e.stop ≡ None
 stop_of e bs p = ap (λ (x : Emission). x.stop) p
 
 -- A command is accepted exactly where it is said that it may be written; any other is refused.
-pub command_written_exactly : (source : List ℕ) (c : MmcCommand) → ((command_item source c).stop ≡ none) ↔ Writes source c
+pub command_written_exactly : (source : List ℕ) (c : MmcCommand) → ((command_item source c).stop ≡ None) ↔ Writes source c
 unfolding command_item command_pair
 command_written_exactly source C.Stop = (λ _. tt, λ _. refl)
 command_written_exactly source C.Play = (λ _. tt, λ _. refl)
@@ -275,11 +275,11 @@ in_form f negative l = (
 )
 
 module _ (f : ℕ) where
-  time_code_form : (c : StandardTimeCode) → (time_code_item f c).stop ≡ none → code_fits f c.negative c.final_byte ≡ true
+  time_code_form : (c : StandardTimeCode) → (time_code_item f c).stop ≡ None → code_fits f c.negative c.final_byte ≡ true
   unfolding time_code_item
   time_code_form c h = check_held (code_fits f c.negative c.final_byte) 3 (then_accepted (check (code_fits f c.negative c.final_byte) 3) (sent (f ∷ []) then standard_item c) h).0
 
-  short_code_form : (c : ShortTimeCode) → (short_code_item f c).stop ≡ none → code_fits f c.negative c.final_byte ≡ true
+  short_code_form : (c : ShortTimeCode) → (short_code_item f c).stop ≡ None → code_fits f c.negative c.final_byte ≡ true
   unfolding short_code_item
   short_code_form c h = check_held (code_fits f c.negative c.final_byte) 3 (then_accepted (check (code_fits f c.negative c.final_byte) 3) (sent ((f + 32) ∷ []) then short_item c) h).0
 
@@ -294,7 +294,7 @@ module _ (f : ℕ) where
   short_code_sent c h k = rw (h, k)
 
 -- A field is accepted exactly where it is said that it may be written; any other is refused.
-pub field_written_exactly : (source : List ℕ) (x : InfoField) → ((field_item source x).stop ≡ none) ↔ FieldWrites source x
+pub field_written_exactly : (source : List ℕ) (x : InfoField) → ((field_item source x).stop ≡ None) ↔ FieldWrites source x
 unfolding field_item field_pair
 field_written_exactly source (F.TimeCode f c) = (
   λ h. (

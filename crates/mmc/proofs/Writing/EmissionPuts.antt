@@ -1,9 +1,9 @@
 -- Emissions put into a buffer: what the put functions answer and leave, once the emission is known. Assumes nothing.
+use Rattle.std.specs.Prelude.{Some}
 use Prim.Native.Nat.{ℕ, ◌+◌, ◌≤◌, ◌<◌}
 use mathlib.Core.Path.{◌≡◌, refl, sym, ap, ap₂, subst, ◌∙◌}
 use mathlib.Core.Bool.{Bool, true, false, not, cond, ◌&&◌, true≢false}
 use mathlib.Core.List.{List, [], ◌∷◌, ◌++◌}
-use mathlib.Core.Option.{some}
 use native.Mathlib.Omega.{arith}
 use borrow.Author.Tests.{le-leb, lt-leb, eq-eqb, ne_eqb, leb-true, leb-false, eqb-true, eqb-false}
 use lib.Dec.{leb, eqb, lit≤}
@@ -34,7 +34,7 @@ puts e known out at n after q l b = (
 
 -- A refusal before anything goes out.
 pub puts_none : (e : Emission) (k : ℕ) (out : List ℕ) (at : ℕ) → e ≡ refusing k
-    → Puts e out at (record { len = 0; stop = some (refusal k) }) out
+    → Puts e out at (record { len = 0; stop = Some (refusal k) }) out
 puts_none e k out at q = puts e (refusing k) out at 0 out q refl (sym (overlay_none out at))
 
 -- One emission put after bytes that went out.
@@ -68,7 +68,7 @@ module _ (d : List ℕ) where
   unfolding by_rule
   count_long h = rw (lt-leb (length d) 127 h)
 
-  pub count_high : length d ≤ 127 → all_low d ≡ false → by_rule Count d ≡ record { bytes = length d ∷ []; stop = some (refusal 1) }
+  pub count_high : length d ≤ 127 → all_low d ≡ false → by_rule Count d ≡ record { bytes = length d ∷ []; stop = Some (refusal 1) }
   unfolding by_rule
   count_high l h = rw (le-leb (length d) 127 l, data_refused d h)
 

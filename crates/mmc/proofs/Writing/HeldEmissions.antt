@@ -1,11 +1,11 @@
 -- A writing and its buffer hold what was emitted into them: after an opening, after each entry of a list, and at the close.
 -- Assumes nothing.
+use Rattle.std.specs.Prelude.{Option, Some, None}
 use Prim.Native.Nat.{ℕ, suc, ◌+◌, ◌≤◌, ◌<◌}
 use mathlib.Core.Path.{◌≡◌, refl, sym, ap, ap₂, subst, ◌∙◌}
 use mathlib.Core.Bool.{Bool, true, false}
 use mathlib.Core.Logic.{◌⊎◌, inl, inr}
 use mathlib.Core.List.{List, [], ◌∷◌, ◌++◌, map, append-nil}
-use mathlib.Core.Option.{Option, none, some}
 use native.Mathlib.Nat.{add-zero, zero-add}
 use native.Mathlib.Omega.{arith}
 use borrow.Author.Tests.{leb-true, leb-false}
@@ -24,7 +24,6 @@ use Rattle.universal.specs.Refusals.{Refusal}
 use Rattle.universal.specs.Emission.{Emission, sent, refusing, check, resume, ◌then◌, fitted, answer_in, answer}
 use Rattle.universal.specs.Message.{header}
 use Rattle.universal.specs.Overlay.{overlay}
-use Rattle.universal.specs.declared.message.MaybeSubId2.TheVariants.{NoSubId2}
 use Rattle.universal.proofs.Laws.{overlay_none, overlay_append, then_sent, then_refused, then_assoc, answer_by, opening_device, opening_plain}
 use Rattle.mmc.proofs.Writing.ItemPuts.{command_small, field_small}
 use Rattle.mmc.proofs.RangeTests.{within_range, below_range, above_range}
@@ -44,8 +43,8 @@ then_nothing : (e : Emission) → e then sent [] ≡ e
 then_nothing e = go e.stop
   where
     go : (s : Option Refusal) → resume e.bytes s (sent []) ≡ record { bytes = e.bytes; stop = s }
-    go none = ap (λ (l : List ℕ). record { bytes = l; stop = none }) (append-nil e.bytes)
-    go (some r) = refl
+    go None = ap (λ (l : List ℕ). record { bytes = l; stop = None }) (append-nil e.bytes)
+    go (Some r) = refl
 
 -- ---- openings
 
@@ -61,7 +60,7 @@ opens_whole Commands device = go (leb device 127) refl
   where
     go : (b : Bool) → leb device 127 ≡ b → OpensWhole Commands device
     go true e = inr (leb-true device 127 e, opening_plain true device 6 (leb-true device 127 e) refl (lit≤ tt))
-    go false e = inl (5, opening_device (header true device 6 NoSubId2) (leb-false device 127 e))
+    go false e = inl (5, opening_device (header true device 6 None) (leb-false device 127 e))
 opens_whole Fields device = go (leb device 126) (leb device 127) refl refl
   where
     go : (a b : Bool) → leb device 126 ≡ a → leb device 127 ≡ b → OpensWhole Fields device
@@ -75,7 +74,7 @@ opens_whole Fields device = go (leb device 126) (leb device 127) refl refl
     go false false e f =
         let l : 127 < device = leb-false device 127 f in
         let n : device ≡ 127 → ⊥ = λ q. omega arith in
-        inl (5, response_opening device n ∙ opening_device (header true device 7 NoSubId2) l)
+        inl (5, response_opening device n ∙ opening_device (header true device 7 None) l)
 
 -- What an opening leaves is far from the limits.
 begun_kept : (e : Emission) → length e.bytes ≤ 4 → KeptByCalls (begun e)
@@ -104,12 +103,12 @@ pub record Holds (found : List ℕ) (e : Emission) (most : ℕ) (s : State) : Ty
 
 -- An item after a refusal leaves what was held.
 holds_refused : (found : List ℕ) (e i : Emission) (most : ℕ) (w : Writing) (out : List ℕ) (r : Refusal)
-    → Holds found e most (record { writing = w; out = out }) → e.stop ≡ some r → length i.bytes ≤ 131
+    → Holds found e most (record { writing = w; out = out }) → e.stop ≡ Some r → length i.bytes ≤ 131
     → Holds found (e then i) (suc most) (record { writing = W.writing_after w i; out = overlay out w.at (admitted w i).bytes })
 unfolding W.writing_after
 holds_refused found e i most w out r h q small =
-    let r-stop : (or_failed w).stop ≡ some r = ap (λ (x : Writing). x.stop) (kept_not_failed w h.kept) ∙ h.stop ∙ q in
-    let a : admitted w i ≡ record { bytes = []; stop = some r } = repeats w i r (sym (ready_failed w r r-stop)) in
+    let r-stop : (or_failed w).stop ≡ Some r = ap (λ (x : Writing). x.stop) (kept_not_failed w h.kept) ∙ h.stop ∙ q in
+    let a : admitted w i ≡ record { bytes = []; stop = Some r } = repeats w i r (sym (ready_failed w r r-stop)) in
     let t : e then i ≡ e = then_refused e i r q in
     record {
       at = ap (λ (x : Emission). w.at + length x.bytes) a ∙ add-zero w.at ∙ h.at ∙ ap (λ (x : Emission). length x.bytes) (sym t);
@@ -125,7 +124,7 @@ holds_refused found e i most w out r h q small =
 
 -- An item that is accepted adds its own emission.
 holds_accepted : (found : List ℕ) (e i : Emission) (most : ℕ) (w : Writing) (out : List ℕ)
-    → Holds found e most (record { writing = w; out = out }) → e.stop ≡ none → most < 256 → length i.bytes ≤ 131
+    → Holds found e most (record { writing = w; out = out }) → e.stop ≡ None → most < 256 → length i.bytes ≤ 131
     → Holds found (e then i) (suc most) (record { writing = W.writing_after w i; out = overlay out w.at (admitted w i).bytes })
 unfolding W.writing_after
 holds_accepted found e i most w out h q few small =
@@ -150,8 +149,8 @@ holds_accepted found e i most w out h q few small =
     }
   where
     one_more : (s : Option Refusal) (n m : ℕ) → n ≤ m → W.item_count_after s n ≤ suc m
-    one_more none n m l = omega arith
-    one_more (some r) n m l = omega arith
+    one_more None n m l = omega arith
+    one_more (Some r) n m l = omega arith
 
 -- One more entry, and then a list of them.
 holds_entry : (found : List ℕ) (e : Emission) (most : ℕ) (s : State) (x : Entry) → Holds found e most s → most < 256
@@ -159,8 +158,8 @@ holds_entry : (found : List ℕ) (e : Emission) (most : ℕ) (s : State) (x : En
 holds_entry found e most s x h few = go e.stop refl
   where
     go : (t : Option Refusal) → e.stop ≡ t → Holds found (e then entry_emission x) (suc most) (after_entry s x)
-    go none q = holds_accepted found e (entry_emission x) most s.writing s.out h q few (entry_small x)
-    go (some r) q = holds_refused found e (entry_emission x) most s.writing s.out r h q (entry_small x)
+    go None q = holds_accepted found e (entry_emission x) most s.writing s.out h q few (entry_small x)
+    go (Some r) q = holds_refused found e (entry_emission x) most s.writing s.out r h q (entry_small x)
 
 pub holds_entries : (found : List ℕ) (xs : List Entry) (e : Emission) (most : ℕ) (s : State) → Holds found e most s
     → most + length xs ≤ 256 → Holds found (e then entries_emission xs) (most + length xs) (after_entries s xs)
@@ -265,16 +264,16 @@ ends_message found e most s h =
     added t b = resume [] t (check b 2 then sent (247 ∷ []))
 
     put : (t : Option Refusal) (b : Bool) → e.bytes ++ (added t b).bytes ≡ (resume e.bytes t (check b 2 then sent (247 ∷ []))).bytes
-    put none b = refl
-    put (some r) b = append-nil e.bytes
+    put None b = refl
+    put (Some r) b = append-nil e.bytes
 
     go : (t : Option Refusal) (b : Bool)
         → answer_in (added t b).stop (length e.bytes + 1) (length found)
         ≡ answer_in (resume e.bytes t (check b 2 then sent (247 ∷ []))).stop
         (length (resume e.bytes t (check b 2 then sent (247 ∷ []))).bytes) (length found)
-    go none true = ap (λ (k : ℕ). fitted (leb k (length found)) k) (sym (length-append e.bytes (247 ∷ [])))
-    go none false = refl
-    go (some r) b = refl
+    go None true = ap (λ (k : ℕ). fitted (leb k (length found)) k) (sym (length-append e.bytes (247 ∷ [])))
+    go None false = refl
+    go (Some r) b = refl
 
 -- Closed as fields it answers its own length.
 pub ends_fields : (found : List ℕ) (e : Emission) (most : ℕ) (s : State) → Holds found e most s
@@ -287,8 +286,8 @@ ends_fields found e most s h =
     ∙ sym (answer_by e (length found))
   where
     go : (t : Option Refusal) → answer_in (resume [] t (sent [])).stop (length e.bytes) (length found) ≡ answer_in t (length e.bytes) (length found)
-    go none = refl
-    go (some r) = refl
+    go None = refl
+    go (Some r) = refl
 
 -- ---- what each item is answered
 

@@ -1,8 +1,8 @@
 -- Items that are accepted: what their checks tell of them, and the bytes that go out. Assumes nothing.
+use Rattle.std.specs.Prelude.{Option, Some, None}
 use Prim.Native.Nat.{ℕ, suc, ◌+◌, ◌*◌, ◌≤◌, ◌<◌}
 use mathlib.Core.Path.{◌≡◌, refl, sym, ap, ap₂, subst, ◌∙◌}
 use mathlib.Core.Bool.{Bool, true, false, cond, ◌&&◌}
-use mathlib.Core.Option.{Option, none, some}
 use mathlib.Core.List.{List, [], ◌∷◌, ◌++◌}
 use native.Mathlib.Omega.{arith}
 use borrow.Author.Tests.{eq-eqb, ne_eqb, leb-true, ltb-true, eqb-true}
@@ -42,18 +42,18 @@ within_true a b n h =
     let t = and_parts (leb a n) (ltb n b) h in (leb-true a n t.0, ltb-true n b t.1)
 
 -- Behind a check that held goes out what follows it.
-behind : (b : Bool) (k : ℕ) (e : Emission) → (check b k then e).stop ≡ none
-    → (b ≡ true) × (e.stop ≡ none) × ((check b k then e).bytes ≡ e.bytes)
+behind : (b : Bool) (k : ℕ) (e : Emission) → (check b k then e).stop ≡ None
+    → (b ≡ true) × (e.stop ≡ None) × ((check b k then e).bytes ≡ e.bytes)
 behind true k e h = (refl, h, refl)
 behind false k e h = let z : ◌≡◌ {A = ℕ} 0 1 = cc in absurd (omega arith)
 
-data_accepted : (d : List ℕ) → (data_emission d).stop ≡ none → all_low d ≡ true
+data_accepted : (d : List ℕ) → (data_emission d).stop ≡ None → all_low d ≡ true
 data_accepted d h = go (all_low d) refl
   where
     go : (b : Bool) → all_low d ≡ b → all_low d ≡ true
     go true e = e
     go false e =
-        let s : ◌≡◌ {A = Option Refusal} (some (refusal 1)) none = ap (λ (x : Emission). x.stop) (sym (data_refused d e)) ∙ h in
+        let s : ◌≡◌ {A = Option Refusal} (Some (refusal 1)) None = ap (λ (x : Emission). x.stop) (sym (data_refused d e)) ∙ h in
         let z : ◌≡◌ {A = ℕ} 0 1 = cc in
         absurd (omega arith)
 
@@ -113,7 +113,7 @@ named_accepted kind name d bytes f n rule e g l b =
       short = rw (b, length-append name (with_count rule d)) (omega arith);
     }
 
-rule_goes : (rule : Length) (d : List ℕ) → (by_rule rule d).stop ≡ none
+rule_goes : (rule : Length) (d : List ℕ) → (by_rule rule d).stop ≡ None
     → Goes rule d × (all_low d ≡ true) × (by_rule rule d ≡ sent (with_count rule d))
 unfolding by_rule
 rule_goes (Fixed n) d h =
@@ -127,7 +127,7 @@ rule_goes Count d h =
     let l : all_low d ≡ true = data_accepted d t.1 in
     (e, l, count_low d e l)
 
-pub named_item_accepted : (kind : Kind) (name d : List ℕ) → (named_item kind name d).stop ≡ none
+pub named_item_accepted : (kind : Kind) (name d : List ℕ) → (named_item kind name d).stop ≡ None
     → AcceptedItem kind (item name d) (named_item kind name d).bytes
 unfolding named_item
 named_item_accepted kind name d h =
@@ -142,16 +142,16 @@ named_item_accepted kind name d h =
 
 -- ---- what the checks of a command or field tell
 
-standard_checks : (c : StandardTimeCode) → (standard_item c).stop ≡ none
+standard_checks : (c : StandardTimeCode) → (standard_item c).stop ≡ None
     → (standard_fits c ≡ true) × ((standard_item c).bytes ≡ standard_list c)
 unfolding standard_item
 standard_checks c h = let t = behind (standard_fits c) 3 (sent (standard_list c)) h in (t.0, t.2)
 
-short_checks : (c : ShortTimeCode) → (short_item c).stop ≡ none → (short_fits c ≡ true) × ((short_item c).bytes ≡ short_list c)
+short_checks : (c : ShortTimeCode) → (short_item c).stop ≡ None → (short_fits c ≡ true) × ((short_item c).bytes ≡ short_list c)
 unfolding short_item
 short_checks c h = let t = behind (short_fits c) 3 (sent (short_list c)) h in (t.0, t.2)
 
-pub locate_field_checks : (r : ℕ) → (locate_field_item r).stop ≡ none
+pub locate_field_checks : (r : ℕ) → (locate_field_item r).stop ≡ None
     → (8 ≤ r) × (r < 16) × ((locate_field_item r).bytes ≡ 68 ∷ 2 ∷ 0 ∷ r ∷ [])
 unfolding locate_field_item
 locate_field_checks r h =
@@ -159,7 +159,7 @@ locate_field_checks r h =
     let w = within_true 8 16 r t.0 in
     (w.0, w.1, t.2)
 
-pub locate_target_checks : (c : StandardTimeCode) → (locate_target_item c).stop ≡ none
+pub locate_target_checks : (c : StandardTimeCode) → (locate_target_item c).stop ≡ None
     → (standard_fits c ≡ true) × ((locate_target_item c).bytes ≡ 68 ∷ 6 ∷ 1 ∷ standard_list c)
 unfolding locate_target_item
 locate_target_checks c h =
@@ -167,7 +167,7 @@ locate_target_checks c h =
     let s = standard_checks c t.1 in
     (s.0, t.2 ∙ rw s.1)
 
-pub move_checks : (d s : ℕ) → (move_item d s).stop ≡ none
+pub move_checks : (d s : ℕ) → (move_item d s).stop ≡ None
     → (1 ≤ d) × (d < 32) × (1 ≤ s) × (s < 32) × ((move_item d s).bytes ≡ 76 ∷ 2 ∷ d ∷ s ∷ [])
 unfolding move_item
 move_checks d s h =
@@ -179,8 +179,8 @@ move_checks d s h =
 
 -- The two checks of a time code field, and its name before the code.
 field_checks : (f : ℕ) (negative : Bool) (l : FinalByte) (name : ℕ) (e : Emission)
-    → (check (code_fits f negative l) 3 then sent (name ∷ []) then e).stop ≡ none
-    → (1 ≤ f) × (f < 32) × (e.stop ≡ none)
+    → (check (code_fits f negative l) 3 then sent (name ∷ []) then e).stop ≡ None
+    → (1 ≤ f) × (f < 32) × (e.stop ≡ None)
     × ((check (code_fits f negative l) 3 then sent (name ∷ []) then e).bytes ≡ name ∷ e.bytes)
 unfolding code_fits
 field_checks f negative l name e h =
@@ -192,7 +192,7 @@ field_checks f negative l name e h =
     left true b x = refl
     left false b x = x
 
-pub time_code_checks : (f : ℕ) (c : StandardTimeCode) → (time_code_item f c).stop ≡ none
+pub time_code_checks : (f : ℕ) (c : StandardTimeCode) → (time_code_item f c).stop ≡ None
     → (1 ≤ f) × (f < 32) × (standard_fits c ≡ true) × ((time_code_item f c).bytes ≡ f ∷ standard_list c)
 unfolding time_code_item
 time_code_checks f c h =
@@ -200,7 +200,7 @@ time_code_checks f c h =
     let s = standard_checks c t.2 in
     (t.0, t.1, s.0, t.3 ∙ ap (λ (l : List ℕ). f ∷ l) s.1)
 
-pub short_code_checks : (f : ℕ) (c : ShortTimeCode) → (short_code_item f c).stop ≡ none
+pub short_code_checks : (f : ℕ) (c : ShortTimeCode) → (short_code_item f c).stop ≡ None
     → (1 ≤ f) × (f < 32) × (short_fits c ≡ true) × ((short_code_item f c).bytes ≡ (f + 32) ∷ short_list c)
 unfolding short_code_item
 short_code_checks f c h =
@@ -232,28 +232,28 @@ with_count_lem : (n : ℕ) (d bytes : List ℕ) → 64 ≤ n → n < 120 → len
 with_count_lem n d bytes l h m low e =
     one_accepted Commands n d bytes Count (omega arith) (omega arith) (command_count n l h) m low e
 
-other_accepted : (kind : Kind) (source : List ℕ) (n d : Part) → (other_item kind source n d).stop ≡ none
+other_accepted : (kind : Kind) (source : List ℕ) (n d : Part) → (other_item kind source n d).stop ≡ None
     → AcceptedItem kind (item (part_of source n) (part_of source d)) (other_item kind source n d).bytes
 unfolding other_item
 other_accepted kind source n d h =
     let t = behind (is_inside source n && is_inside source d) 6 (named_item kind (part_of source n) (part_of source d)) h in
     rw t.2 (named_item_accepted kind (part_of source n) (part_of source d) t.1)
 
-write_accepted : (source : List ℕ) (d : Part) → (write_item source d).stop ≡ none
+write_accepted : (source : List ℕ) (d : Part) → (write_item source d).stop ≡ None
     → AcceptedItem Commands (item (64 ∷ []) (part_of source d)) (write_item source d).bytes
 unfolding write_item
 write_accepted source d h =
     let t = behind (is_inside source d) 6 (named_item Commands (64 ∷ []) (part_of source d)) h in
     rw t.2 (named_item_accepted Commands (64 ∷ []) (part_of source d) t.1)
 
-locate_field_accepted : (r : ℕ) → (locate_field_item r).stop ≡ none
+locate_field_accepted : (r : ℕ) → (locate_field_item r).stop ≡ None
     → AcceptedItem Commands (item (68 ∷ []) (0 ∷ r ∷ [])) (locate_field_item r).bytes
 locate_field_accepted r h =
     let t = locate_field_checks r h in
     let low : all_low (0 ∷ r ∷ []) ≡ true = all_low_cons 0 (r ∷ []) (lit≤ tt) (low_one r (omega (arith, t.1))) in
     with_count_lem 68 (0 ∷ r ∷ []) _ (lit≤ tt) (lit≤ tt) (lit≤ tt) low t.2
 
-locate_target_accepted : (c : StandardTimeCode) → (locate_target_item c).stop ≡ none
+locate_target_accepted : (c : StandardTimeCode) → (locate_target_item c).stop ≡ None
     → AcceptedItem Commands (item (68 ∷ []) (1 ∷ standard_list c)) (locate_target_item c).bytes
 locate_target_accepted c h =
     let t = locate_target_checks c h in
@@ -262,13 +262,13 @@ locate_target_accepted c h =
     with_count_lem 68 (1 ∷ standard_list c) _ (lit≤ tt) (lit≤ tt) (omega arith) low
     (t.1 ∙ ap (λ (k : ℕ). 68 ∷ k ∷ 1 ∷ standard_list c) n)
 
-move_accepted : (d s : ℕ) → (move_item d s).stop ≡ none → AcceptedItem Commands (item (76 ∷ []) (d ∷ s ∷ [])) (move_item d s).bytes
+move_accepted : (d s : ℕ) → (move_item d s).stop ≡ None → AcceptedItem Commands (item (76 ∷ []) (d ∷ s ∷ [])) (move_item d s).bytes
 move_accepted d s h =
     let t = move_checks d s h in
     let low : all_low (d ∷ s ∷ []) ≡ true = all_low_cons d (s ∷ []) (omega (arith, t.1)) (low_one s (omega (arith, t.3))) in
     with_count_lem 76 (d ∷ s ∷ []) _ (lit≤ tt) (lit≤ tt) (lit≤ tt) low t.4
 
-command_accepted : (source : List ℕ) (c : MmcCommand) → (command_item source c).stop ≡ none
+command_accepted : (source : List ℕ) (c : MmcCommand) → (command_item source c).stop ≡ None
     → AcceptedItem Commands (command_pair source c) (command_item source c).bytes
 unfolding command_item command_pair
 command_accepted source C.Stop h = name_accepted 1 (lit≤ tt) (lit≤ tt)
@@ -286,14 +286,14 @@ command_accepted source (C.LocateTarget c) h = locate_target_accepted c h
 command_accepted source (C.Move d s) h = move_accepted d s h
 command_accepted source (C.Other n d) h = other_accepted Commands source n d h
 
-time_code_accepted : (f : ℕ) (c : StandardTimeCode) → (time_code_item f c).stop ≡ none
+time_code_accepted : (f : ℕ) (c : StandardTimeCode) → (time_code_item f c).stop ≡ None
     → AcceptedItem Fields (item (f ∷ []) (standard_list c)) (time_code_item f c).bytes
 time_code_accepted f c h =
     let t = time_code_checks f c h in
     one_accepted Fields f (standard_list c) _ (Fixed 5) t.0 (omega (arith, t.1)) (field_five f t.0 t.1) (sym (five_bytes c))
     (bytes_low c t.2) t.3
 
-short_code_accepted : (f : ℕ) (c : ShortTimeCode) → (short_code_item f c).stop ≡ none
+short_code_accepted : (f : ℕ) (c : ShortTimeCode) → (short_code_item f c).stop ≡ None
     → AcceptedItem Fields (item ((f + 32) ∷ []) (short_list c)) (short_code_item f c).bytes
 short_code_accepted f c h =
     let t = short_code_checks f c h in
@@ -301,21 +301,21 @@ short_code_accepted f c h =
     one_accepted Fields (f + 32) (short_list c) _ (Fixed 2) (omega arith) (omega arith) (field_two (f + 32) (omega arith) l)
     (sym (two_bytes c)) (short_bytes_low c t.2) t.3
 
-field_accepted : (source : List ℕ) (f : InfoField) → (field_item source f).stop ≡ none
+field_accepted : (source : List ℕ) (f : InfoField) → (field_item source f).stop ≡ None
     → AcceptedItem Fields (field_pair source f) (field_item source f).bytes
 unfolding field_item field_pair
 field_accepted source (F.TimeCode f c) h = time_code_accepted f c h
 field_accepted source (F.Short f c) h = short_code_accepted f c h
 field_accepted source (F.Other n d) h = other_accepted Fields source n d h
 
-pub item_emission_accepted : (kind : Kind) (g : Given kind) → (emission kind g).stop ≡ none
+pub item_emission_accepted : (kind : Kind) (g : Given kind) → (emission kind g).stop ≡ None
     → AcceptedItem kind (pair_of kind g) (emission kind g).bytes
 item_emission_accepted Commands g h = command_accepted g.source g.meant h
 item_emission_accepted Fields g h = field_accepted g.source g.meant h
 
 -- ---- lists
 
-pub list_emission_accepted : (kind : Kind) (gs : List (Given kind)) → (emissions kind gs).stop ≡ none
+pub list_emission_accepted : (kind : Kind) (gs : List (Given kind)) → (emissions kind gs).stop ≡ None
     → AcceptedItems kind (pairs_of kind gs) (emissions kind gs).bytes
 unfolding emissions joined all_fit
 list_emission_accepted kind [] h = record { are_item_bytes = refl; fits = refl; low = all_low_none; short = lit≤ tt }

@@ -1,9 +1,10 @@
 -- Commands and fields put into a buffer, check by check. Assumes nothing.
+use Rattle.universal.specs.declared.error.SysexError.{SysexError}
+use Rattle.std.specs.Prelude.{Some, Result, ⊤}
 use Prim.Native.Nat.{ℕ, ◌+◌, ◌≤◌, ◌<◌}
 use mathlib.Core.Path.{◌≡◌, refl, sym, ap, ap₂, subst, ◌∙◌}
 use mathlib.Core.Bool.{Bool, true, false, cond, ◌&&◌}
 use mathlib.Core.List.{List, [], ◌∷◌}
-use mathlib.Core.Option.{some}
 use native.Mathlib.Omega.{arith}
 use lib.ListN.{length, length-append}
 use Rattle.mmc.specs.declared.command.MmcCommand.{MmcCommand}
@@ -13,8 +14,6 @@ use Rattle.mmc.specs.declared.field.InfoField.TheVariants as F
 use Rattle.mmc.specs.declared.length.Kind.{Kind}
 use Rattle.mmc.specs.declared.part.Part.{Part}
 use Rattle.mmc.specs.declared.length.Kind.TheVariants.{Commands, Fields}
-use Rattle.codes.specs.declared.time_code.Checked.{Checked}
-use Rattle.codes.specs.declared.time_code.Checked.TheVariants.{Accepted, Refused}
 use Rattle.codes.specs.declared.time_code.FinalByte.{FinalByte}
 use Rattle.codes.specs.declared.time_code.StandardTimeCode.{StandardTimeCode}
 use Rattle.codes.specs.declared.time_code.ShortTimeCode.{ShortTimeCode}
@@ -60,20 +59,20 @@ unfolding short_item
 short_length c = code_length (short_fits c) (short_list c) 2 (two_bytes c)
 
 -- Bytes that passed a check as the code's own emission.
-code_checked : (k : Checked) (b : List ℕ) (t : Bool) (l : List ℕ) → checked_of k b ≡ cond t (gives l) (refused (refusal 3))
+code_checked : (k : Result ⊤ SysexError) (b : List ℕ) (t : Bool) (l : List ℕ) → checked_of k b ≡ cond t (gives l) (refused (refusal 3))
     → check t 3 then sent l ≡ checked_item k b
 code_checked Accepted b t l e =
     let g = given_bytes t l b e in
     ap₂ (λ (x : Bool) (y : List ℕ). check x 3 then sent y) g.0 (sym g.1)
 code_checked (Refused r) b t l e =
     let g = given_refusal t l (refusal_of r) e in
-    ap (λ (x : Bool). check x 3 then sent l) g.0 ∙ ap (λ (x : Refusal). record { bytes = []; stop = some x }) (sym g.1)
+    ap (λ (x : Bool). check x 3 then sent l) g.0 ∙ ap (λ (x : Refusal). record { bytes = []; stop = Some x }) (sym g.1)
 
-pub standard_checked : (c : StandardTimeCode) (k : Checked) (b : List ℕ) → checked_of k b ≡ standard_bytes c → standard_item c ≡ checked_item k b
+pub standard_checked : (c : StandardTimeCode) (k : Result ⊤ SysexError) (b : List ℕ) → checked_of k b ≡ standard_bytes c → standard_item c ≡ checked_item k b
 unfolding standard_item
 standard_checked c k b e = code_checked k b (standard_fits c) (standard_list c) e
 
-pub short_checked : (c : ShortTimeCode) (k : Checked) (b : List ℕ) → checked_of k b ≡ short_bytes c → short_item c ≡ checked_item k b
+pub short_checked : (c : ShortTimeCode) (k : Result ⊤ SysexError) (b : List ℕ) → checked_of k b ≡ short_bytes c → short_item c ≡ checked_item k b
 unfolding short_item
 short_checked c k b e = code_checked k b (short_fits c) (short_list c) e
 

@@ -1,16 +1,14 @@
 -- A writing, call by call. Assumes nothing.
+use Rattle.std.specs.Prelude.{Option, Some, None, Result, ⊤}
 use Prim.Native.Nat.{ℕ, ◌+◌, ◌≤◌, ◌<◌}
 use mathlib.Core.Path.{◌≡◌, refl, sym, ap, ap₂, subst, ◌∙◌}
 use mathlib.Core.Bool.{Bool, true, false, not, cond, ◌&&◌}
 use mathlib.Core.List.{List, [], ◌∷◌}
 use mathlib.Core.Logic.{◌⊎◌, inl, inr}
-use mathlib.Core.Option.{Option, none, some}
 use native.Mathlib.Omega.{arith}
 use borrow.Author.Tests.{le-leb, lt-leb, lt-ltb, ne_eqb, leb-true, leb-false, ltb-true}
 use lib.Dec.{leb, ltb, eqb, lit≤}
 use lib.ListN.{length}
-use Rattle.codes.specs.declared.time_code.Checked.{Checked}
-use Rattle.codes.specs.declared.time_code.Checked.TheVariants.{Accepted, Refused}
 use Rattle.universal.specs.declared.error.SysexError.{SysexError}
 use Rattle.mmc.specs.Named.{Extent, stop_of, extent_of}
 use Rattle.mmc.specs.Write.{Writing, or_failed, opened_commands, opened_responses, begun, opens_at, ready, admitted, writing_past, writing_after, closed_message, closed_fields, whole_message, whole_fields}
@@ -18,7 +16,6 @@ use Rattle.universal.specs.Refusals.{Refusal, refusal, too_small, Answer, gives,
 use Rattle.universal.specs.Emission.{Emission, sent, refusing, check, resume, ◌then◌, fitted, reached, answer_in}
 use Rattle.universal.specs.Message.{opening, header, has_sub_id2, closing}
 use Rattle.universal.specs.Overlay.{overlay}
-use Rattle.universal.specs.declared.message.MaybeSubId2.TheVariants.{NoSubId2}
 use Rattle.universal.proofs.Laws.{overlay_none, then_accepted, check_held, reached_sent, reached_refusing, opening_device, opening_plain, closing_fits, closing_short, none_some}
 use Rattle.mmc.proofs.Writing.EmissionPuts.{Puts}
 use Rattle.mmc.proofs.RangeTests.{within_range, below_range, above_range}
@@ -34,51 +31,51 @@ unfolding begun
 opens e (inl p) = subst (λ (x : Emission). opens_at (reached x) ≡ begun x) (sym p.1) (ap opens_at (reached_refusing (refusing p.0) (refusal p.0) refl))
 opens e (inr p) = subst (λ (x : Emission). opens_at (reached x) ≡ begun x) (sym p.1) (ap opens_at (reached_sent (sent p.0) refl))
 
-opening_whole : (device n : ℕ) → has_sub_id2 true n ≡ false → n ≤ 127 → WholeOrNothing (opening (header true device n NoSubId2))
+opening_whole : (device n : ℕ) → has_sub_id2 true n ≡ false → n ≤ 127 → WholeOrNothing (opening (header true device n None))
 opening_whole device n f h = go (leb device 127) refl
   where
-    go : (b : Bool) → leb device 127 ≡ b → WholeOrNothing (opening (header true device n NoSubId2))
+    go : (b : Bool) → leb device 127 ≡ b → WholeOrNothing (opening (header true device n None))
     go true e = inr (_, opening_plain true device n (leb-true device 127 e) f h)
-    go false e = inl (5, opening_device (header true device n NoSubId2) (leb-false device 127 e))
+    go false e = inl (5, opening_device (header true device n None) (leb-false device 127 e))
 
-pub opens_commands : (device : ℕ) (w : Writing) (o : Answer ℕ) → w ≡ opens_at o → o ≡ reached (opening (header true device 6 NoSubId2))
+pub opens_commands : (device : ℕ) (w : Writing) (o : Answer ℕ) → w ≡ opens_at o → o ≡ reached (opening (header true device 6 None))
     → w ≡ begun (opened_commands device)
 unfolding opened_commands
 opens_commands device w o p q =
-    p ∙ ap opens_at q ∙ opens (opening (header true device 6 NoSubId2)) (opening_whole device 6 refl (lit≤ tt))
+    p ∙ ap opens_at q ∙ opens (opening (header true device 6 None)) (opening_whole device 6 refl (lit≤ tt))
 
 pub no_response : (device : ℕ) → device ≡ 127 → opened_responses device ≡ refusing 3
 unfolding opened_responses
 no_response device e = rw e
 
-pub response_opening : (device : ℕ) → (device ≡ 127 → ⊥) → opened_responses device ≡ opening (header true device 7 NoSubId2)
+pub response_opening : (device : ℕ) → (device ≡ 127 → ⊥) → opened_responses device ≡ opening (header true device 7 None)
 unfolding opened_responses
 response_opening device n = go (leb device 127) refl
   where
     go : (b : Bool) → leb device 127 ≡ b
-        → (check b 5 then check (not (eqb device 127)) 3 then opening (header true device 7 NoSubId2)) ≡ opening (header true device 7 NoSubId2)
+        → (check b 5 then check (not (eqb device 127)) 3 then opening (header true device 7 None)) ≡ opening (header true device 7 None)
     go true e = rw (ne_eqb device 127 n)
-    go false e = sym (opening_device (header true device 7 NoSubId2) (leb-false device 127 e))
+    go false e = sym (opening_device (header true device 7 None) (leb-false device 127 e))
 
 pub opens_responses : (device : ℕ) (w : Writing) (o : Answer ℕ) → (device ≡ 127 → ⊥) → w ≡ opens_at o
-    → o ≡ reached (opening (header true device 7 NoSubId2)) → w ≡ begun (opened_responses device)
+    → o ≡ reached (opening (header true device 7 None)) → w ≡ begun (opened_responses device)
 opens_responses device w o n p q =
     p
     ∙ ap opens_at q
-    ∙ opens (opening (header true device 7 NoSubId2)) (opening_whole device 7 refl (lit≤ tt))
+    ∙ opens (opening (header true device 7 None)) (opening_whole device 7 refl (lit≤ tt))
     ∙ ap begun (sym (response_opening device n))
 
-pub begun_refused : (device : ℕ) → device ≡ 127 → record { at = 0; items = 0; stop = some (refusal 3) } ≡ begun (opened_responses device)
+pub begun_refused : (device : ℕ) → device ≡ 127 → record { at = 0; items = 0; stop = Some (refusal 3) } ≡ begun (opened_responses device)
 unfolding begun
 begun_refused device e = ap begun (sym (no_response device e))
 
 -- ---- before a call
 
-pub too_many : (w : Writing) → 256 < w.items → some (refusal 10) ≡ (or_failed w).stop
+pub too_many : (w : Writing) → 256 < w.items → Some (refusal 10) ≡ (or_failed w).stop
 unfolding or_failed
 too_many w h = rw (lt-leb w.items 256 h)
 
-pub too_far : (w : Writing) → w.items ≤ 256 → 40000 < w.at → some (refusal 10) ≡ (or_failed w).stop
+pub too_far : (w : Writing) → w.items ≤ 256 → 40000 < w.at → Some (refusal 10) ≡ (or_failed w).stop
 unfolding or_failed
 too_far w l h = rw (le-leb w.items 256 l, lt-leb w.at 40000 h)
 
@@ -94,16 +91,16 @@ ready_kept w l h =
     ∙ ap₂ (λ (s : Option Refusal) (b : Bool). (resume [] s (check b 10)).stop) (as_it_is w (omega arith) h) (sym (lt-ltb w.items 256 l))
   where
     go : (s : Option Refusal) → s ≡ (resume [] s (check true 10)).stop
-    go none = refl
-    go (some r) = refl
+    go None = refl
+    go (Some r) = refl
 
 -- A writing that goes on is one that calls leave.
-pub writing_goes_on : (w : Writing) → (or_failed w).stop ≡ none → (w.items ≤ 256) × (w.at ≤ 40000)
+pub writing_goes_on : (w : Writing) → (or_failed w).stop ≡ None → (w.items ≤ 256) × (w.at ≤ 40000)
 unfolding or_failed
 writing_goes_on w = go (leb w.items 256) (leb w.at 40000) refl refl
   where
     go : (a b : Bool) → leb w.items 256 ≡ a → leb w.at 40000 ≡ b
-        → (cond (a && b) w (record { at = w.at; items = w.items; stop = some (refusal 10) })).stop ≡ none
+        → (cond (a && b) w (record { at = w.at; items = w.items; stop = Some (refusal 10) })).stop ≡ None
         → (w.items ≤ 256) × (w.at ≤ 40000)
     go true true ea eb h = (leb-true _ _ ea, leb-true _ _ eb)
     go true false ea eb h = absurd (none_some (refusal 10) h)
@@ -116,20 +113,20 @@ under_256 n l h = omega arith
 
 module _ (w : Writing) where
   -- A failed writing has its refusal ready, a full one 10, any other none.
-  pub ready_failed : (r : Refusal) → (or_failed w).stop ≡ some r → some r ≡ ready w
+  pub ready_failed : (r : Refusal) → (or_failed w).stop ≡ Some r → Some r ≡ ready w
   unfolding ready
   ready_failed r h = sym (ap (λ (s : Option Refusal). (resume [] s (check (ltb w.items 256) 10)).stop) h)
 
-  pub ready_full : (or_failed w).stop ≡ none → w.items ≡ 256 → some (refusal 10) ≡ ready w
+  pub ready_full : (or_failed w).stop ≡ None → w.items ≡ 256 → Some (refusal 10) ≡ ready w
   unfolding ready
   ready_full h n = sym (ap₂ (λ (s : Option Refusal) (k : ℕ). (resume [] s (check (ltb k 256) 10)).stop) h n)
 
-  pub ready_on : (or_failed w).stop ≡ none → w.items < 256 → none ≡ ready w
+  pub ready_on : (or_failed w).stop ≡ None → w.items < 256 → None ≡ ready w
   unfolding ready
   ready_on h l = sym (ap₂ (λ (s : Option Refusal) (b : Bool). (resume [] s (check b 10)).stop) h (lt-ltb w.items 256 l))
 
   -- A writing that takes an item goes on, with fewer than 256.
-  pub ready_told : ready w ≡ none → ((or_failed w).stop ≡ none) × (w.items < 256)
+  pub ready_told : ready w ≡ None → ((or_failed w).stop ≡ None) × (w.items < 256)
   unfolding ready
   ready_told h =
       let k = then_accepted (record { bytes = []; stop = (or_failed w).stop }) (check (ltb w.items 256) 10) h in
@@ -137,12 +134,12 @@ module _ (w : Writing) where
 
 module _ (w : Writing) (e : Emission) where
   -- A writing with a refusal repeats it.
-  pub repeats : (r : Refusal) → ready w ≡ some r → admitted w e ≡ record { bytes = []; stop = some r }
+  pub repeats : (r : Refusal) → ready w ≡ Some r → admitted w e ≡ record { bytes = []; stop = Some r }
   unfolding admitted
   repeats r h = rw h
 
   -- The item's own emission.
-  pub takes : ready w ≡ none → admitted w e ≡ e
+  pub takes : ready w ≡ None → admitted w e ≡ e
   unfolding admitted
   takes h = rw h
 
@@ -152,11 +149,11 @@ module _ (w : Writing) (e : Emission) where
       ((after ≡ writing_after w e) × (stop ≡ (admitted w e).stop)) × (left ≡ overlay out w.at (admitted w e).bytes)
 
   pub fails : (r : Refusal) (k : Emission) (after : Writing) (stop : Option Refusal) (out : List ℕ) → admitted w e ≡ k
-      → k ≡ record { bytes = []; stop = some r } → (after ≡ writing_past w (record { len = 0; stop = some r })) × (stop ≡ some r)
+      → k ≡ record { bytes = []; stop = Some r } → (after ≡ writing_past w (record { len = 0; stop = Some r })) × (stop ≡ Some r)
       → Gives after stop out out
   unfolding writing_after
   fails r k after stop out q z p =
-      let known : admitted w e ≡ record { bytes = []; stop = some r } = q ∙ z in (
+      let known : admitted w e ≡ record { bytes = []; stop = Some r } = q ∙ z in (
         (p.0 ∙ ap (λ (x : Emission). writing_past w (extent_of x)) (sym known), p.1 ∙ ap (λ (x : Emission). x.stop) (sym known)),
         sym (overlay_none out w.at) ∙ ap (λ (x : Emission). overlay out w.at x.bytes) (sym known),
       )
@@ -175,24 +172,24 @@ module _ (w : Writing) (e : Emission) where
 -- ---- closing
 
 module _ (w : Writing) where
-  pub close_repeats : (r : Refusal) → (or_failed w).stop ≡ some r → closed_message w ≡ record { bytes = []; stop = some r }
+  pub close_repeats : (r : Refusal) → (or_failed w).stop ≡ Some r → closed_message w ≡ record { bytes = []; stop = Some r }
   unfolding closed_message
   close_repeats r h = rw h
 
-  pub close_empty : (or_failed w).stop ≡ none → w.at < 5 → closed_message w ≡ refusing 2
+  pub close_empty : (or_failed w).stop ≡ None → w.at < 5 → closed_message w ≡ refusing 2
   unfolding closed_message
   close_empty h l = rw (h, below_range 5 53 w.at l)
 
-  pub close_long : (or_failed w).stop ≡ none → 5 ≤ w.at → 53 ≤ w.at → closed_message w ≡ refusing 2
+  pub close_long : (or_failed w).stop ≡ None → 5 ≤ w.at → 53 ≤ w.at → closed_message w ≡ refusing 2
   unfolding closed_message
   close_long h l m = rw (h, above_range 5 53 w.at l m)
 
-  pub close_sent : (or_failed w).stop ≡ none → 5 ≤ w.at → w.at < 53 → closed_message w ≡ sent (247 ∷ [])
+  pub close_sent : (or_failed w).stop ≡ None → 5 ≤ w.at → w.at < 53 → closed_message w ≡ sent (247 ∷ [])
   unfolding closed_message
   close_sent h l m = rw (h, within_range 5 53 w.at l m)
 
   -- A close that is refused, and one that goes out.
-  pub ends_refused : (r : Refusal) (out : List ℕ) → closed_message w ≡ record { bytes = []; stop = some r }
+  pub ends_refused : (r : Refusal) (out : List ℕ) → closed_message w ≡ record { bytes = []; stop = Some r }
       → (refused r ≡ whole_message w (length out)) × (out ≡ overlay out w.at (closed_message w).bytes)
   unfolding whole_message
   ends_refused r out q = (rw q, rw q (sym (overlay_none out w.at)))
@@ -212,15 +209,15 @@ module _ (w : Writing) where
       go false e = closing_short w.at (length out) (omega (arith, leb-false (w.at + 1) (length out) e)) (omega arith) ∙ rw e
 
   -- A string of fields.
-  pub fields_refused : (r : Refusal) (room : ℕ) → (or_failed w).stop ≡ some r → refused r ≡ whole_fields w room
+  pub fields_refused : (r : Refusal) (room : ℕ) → (or_failed w).stop ≡ Some r → refused r ≡ whole_fields w room
   unfolding whole_fields closed_fields
   fields_refused r room h = rw h
 
-  pub fields_short : (room : ℕ) → (or_failed w).stop ≡ none → room < w.at → refused (too_small w.at) ≡ whole_fields w room
+  pub fields_short : (room : ℕ) → (or_failed w).stop ≡ None → room < w.at → refused (too_small w.at) ≡ whole_fields w room
   unfolding whole_fields closed_fields
   fields_short room h l = rw (h, lt-leb w.at room l)
 
-  pub fields_fit : (room : ℕ) → (or_failed w).stop ≡ none → w.at ≤ room → gives w.at ≡ whole_fields w room
+  pub fields_fit : (room : ℕ) → (or_failed w).stop ≡ None → w.at ≤ room → gives w.at ≡ whole_fields w room
   unfolding whole_fields closed_fields
   fields_fit room h l = rw (h, le-leb w.at room l)
 
@@ -230,10 +227,10 @@ pub left_as : (e known : Emission) (out : List ℕ) (at : ℕ) (left : List ℕ)
     → left ≡ overlay out at e.bytes
 left_as e known out at left q p = p ∙ ap (λ (x : Emission). overlay out at x.bytes) (sym q)
 
-pub past_accepted : (w : Writing) (n : ℕ) (k : Checked) → k ≡ Accepted
+pub past_accepted : (w : Writing) (n : ℕ) (k : Result ⊤ SysexError) → k ≡ Accepted
     → record { at = w.at + n; items = w.items + 1; stop = stop_of k } ≡ writing_past w (record { len = n; stop = stop_of k })
 past_accepted w n k e = rw e
 
-pub past_refused : (w : Writing) (n : ℕ) (k : Checked) (r : SysexError) → k ≡ Refused r
+pub past_refused : (w : Writing) (n : ℕ) (k : Result ⊤ SysexError) (r : SysexError) → k ≡ Refused r
     → record { at = w.at + n; items = w.items; stop = stop_of k } ≡ writing_past w (record { len = n; stop = stop_of k })
 past_refused w n k r e = rw e

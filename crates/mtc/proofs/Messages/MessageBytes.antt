@@ -1,10 +1,10 @@
 -- The laws of full messages and user bits: what is written is RP-004/008's message, what is refused, reading it gives it back,
 -- and reading accepts the practice's layouts and no other. Assumes nothing.
+use Rattle.std.specs.Prelude.{Some}
 use Prim.Native.Nat.{ℕ, ◌+◌, ◌*◌, ◌/◌, ◌%◌, ◌≤◌, ◌<◌}
 use mathlib.Core.Path.{◌≡◌, refl, sym, ap, ap₂, ◌∙◌}
 use mathlib.Core.Bool.{true, false, ◌&&◌}
 use mathlib.Core.List.{List, [], ◌∷◌, ◌++◌}
-use mathlib.Core.Option.{some}
 use native.Mathlib.Nat.{mod-eq_of_lt}
 use native.Mathlib.Omega.{arith}
 use lib.Dec.{T, leb, lit≤}
@@ -77,9 +77,9 @@ module _ (t : MtcTime) (w : InWidths t) where
 
 -- RP-004/008's full message of any device and any label in its widths, valid or not, is read as these.
 pub full_message_read : (device : ℕ) (t : MtcTime) → InWidths t
-    → full_message_from (message_header (full_message_bytes device t)) (message_data (full_message_bytes device t)) ≡ gives (some (full_message device t))
+    → full_message_from (message_header (full_message_bytes device t)) (message_data (full_message_bytes device t)) ≡ gives (Some (full_message device t))
 unfolding full_message_from is_time_code full_message_bytes
-full_message_read device t w = ap (λ (u : MtcTime). gives (some (full_message device u))) (raw_back t w)
+full_message_read device t w = ap (λ (u : MtcTime). gives (Some (full_message device u))) (raw_back t w)
 
 -- A device above 127 is refused with 5, whatever the label is; a label that is not valid with 3. Nothing goes out.
 pub full_message_device : (m : FullMessage) → 127 < m.device_id → full_message_written m ≡ refusing 5
@@ -110,7 +110,7 @@ module _ (m : FullMessage) (low : m.device_id ≤ 127) (valid : T (is_valid m.ti
   full_message_short room h = rw full_message_bytes_lem (answer_short (sent (full_message_bytes m.device_id m.time)) room refl h)
 
   -- Reading what was written gives it back.
-  pub full_message_back : full_message_from (message_header (full_message_written m).bytes) (message_data (full_message_written m).bytes) ≡ gives (some m)
+  pub full_message_back : full_message_from (message_header (full_message_written m).bytes) (message_data (full_message_written m).bytes) ≡ gives (Some m)
   full_message_back = rw full_message_bytes_lem (full_message_read m.device_id m.time (valid_in_widths m.time valid))
 
 -- The split parts of the practice's message: Real Time, 01, 01, and four data bytes.
@@ -140,12 +140,12 @@ module _ (b : UserBits) (nibbles : T (all_nibbles b.groups)) where
 
   module _ (size : length b.groups ≡ 8) (flags : b.flags < 4) where
     bits_back : user_bits_from (message_header (user_bits_bytes b.device_id (groups_of b))) (message_data (user_bits_bytes b.device_id (groups_of b)))
-        ≡ gives (some b)
+        ≡ gives (Some b)
     unfolding user_bits_from is_time_code user_bits_bytes
     bits_back =
         let same_flags : (b.flags / 2 * 2 + b.flags % 2) % 4 ≡ b.flags = omega arith in
         rw (same 0, same 1, same 2, same 3, same 4, same 5, same 6, same 7, same_flags)
-        (ap (λ (gs : List ℕ). gives (some (user_bits b.device_id gs b.flags))) (sym (eight_spelled b.groups size)))
+        (ap (λ (gs : List ℕ). gives (Some (user_bits b.device_id gs b.flags))) (sym (eight_spelled b.groups size)))
 
     module _ (low : b.device_id ≤ 127) where
       -- Eight groups below 16, flags below 4 and a device of at most 127 go out as RP-004/008's user bits.
@@ -170,7 +170,7 @@ module _ (b : UserBits) (nibbles : T (all_nibbles b.groups)) where
       user_bits_short room h = rw user_bits_bytes_lem (answer_short (sent (user_bits_bytes b.device_id (groups_of b))) room refl h)
 
       -- Reading what was written gives it back.
-      pub user_bits_back : user_bits_from (message_header (user_bits_written b).bytes) (message_data (user_bits_written b).bytes) ≡ gives (some b)
+      pub user_bits_back : user_bits_from (message_header (user_bits_written b).bytes) (message_data (user_bits_written b).bytes) ≡ gives (Some b)
       user_bits_back = rw user_bits_bytes_lem bits_back
 
 -- The split parts of the practice's message: Real Time, 01, 02, and nine data bytes.

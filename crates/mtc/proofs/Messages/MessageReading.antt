@@ -1,26 +1,23 @@
 -- Which messages are MIDI Time Code's of a kind, test by test, and what reading one kind answers. Assumes nothing.
+use Rattle.universal.specs.declared.error.SysexError.{SysexError}
+use Rattle.std.specs.Prelude.{Option, Some, None, Result}
 use Prim.Native.Nat.{ℕ}
 use mathlib.Core.Path.{◌≡◌, refl, sym, ap, ap₂, ◌∙◌}
 use mathlib.Core.Bool.{Bool, true, false, not, ◌&&◌, false≢true, and-eq-true_iff}
 use mathlib.Core.List.{List}
-use mathlib.Core.Option.{Option, none, some}
 use lib.Dec.{eqb}
 use lib.ListN.{length}
 use native.Mathlib.Omega.{arith}
 use borrow.Author.Tests.{eq-eqb, ne_eqb, eqb-true, not-true, not-false}
 use Rattle.universal.specs.Message.{header}
-use Rattle.universal.specs.Refusals.{Refusal, Answer, gives, refused, refusal}
-use Rattle.universal.specs.declared.message.MaybeSubId2.{MaybeSubId2}
-use Rattle.universal.specs.declared.message.MaybeSubId2.TheVariants.{NoSubId2, SubId2}
+use Rattle.universal.specs.Refusals.{Refusal, Answer, gives, refused, refusal, answer_of}
 use Rattle.universal.specs.declared.message.Universal.{Universal}
 use Rattle.universal.specs.declared.error.SysexError.TheVariants.{Length}
 use Rattle.mtc.specs.Kind.{time_code, is_sub_id2, is_time_code, read_kind, ReadsOnly}
 use Rattle.mtc.specs.FullMessage.{full_message, received_full, full_message_from}
-use Rattle.mtc.specs.UserBits.{answer_with, read_user_bits_of, no_bits, bits_in, received_bits, user_bits_from}
+use Rattle.mtc.specs.UserBits.{answer_with, no_bits, bits_in, received_bits, user_bits_from}
 use Rattle.labels.specs.declared.time.MtcTime.{MtcTime}
 use Rattle.mtc.specs.declared.user_bits.UserBits.{UserBits}
-use Rattle.mtc.specs.declared.user_bits.UserBitsAnswer.TheVariants.{NotThis, Refused}
-use Rattle.mtc.specs.declared.user_bits.ReadUserBits.{ReadUserBits}
 
 -- ---- the kind, test by test
 
@@ -37,25 +34,25 @@ module _ (u : Universal) (n : ℕ) where
     other_sub_id1 h = rw (not-false u.real_time real, ne_eqb u.sub_id1 1 h)
 
     -- No sub-ID 2.
-    pub without_sub_id2 : u.sub_id1 ≡ 1 → u.sub_id2 ≡ NoSubId2 → false ≡ is_time_code u n
+    pub without_sub_id2 : u.sub_id1 ≡ 1 → u.sub_id2 ≡ None → false ≡ is_time_code u n
     unfolding is_time_code
     without_sub_id2 h s = rw (not-false u.real_time real, eq-eqb u.sub_id1 1 h, s)
 
     -- A sub-ID 2 decides.
-    pub by_sub_id2 : (k : ℕ) → u.sub_id1 ≡ 1 → u.sub_id2 ≡ SubId2 k → eqb k n ≡ is_time_code u n
+    pub by_sub_id2 : (k : ℕ) → u.sub_id1 ≡ 1 → u.sub_id2 ≡ Some k → eqb k n ≡ is_time_code u n
     unfolding is_time_code
     by_sub_id2 k h s = rw (not-false u.real_time real, eq-eqb u.sub_id1 1 h, s)
 
 -- ---- one kind
 
 module _ {A : Type 0} (right : Bool) (n size : ℕ) (m : A) where
-  pub read_other : right ≡ false → read_kind right (eqb n size) m ≡ gives none
+  pub read_other : right ≡ false → read_kind right (eqb n size) m ≡ gives None
   read_other h = rw h
 
   pub read_short : right ≡ true → (n ≡ size → ⊥) → read_kind right (eqb n size) m ≡ refused (refusal 2)
   read_short h l = rw (h, ne_eqb n size l)
 
-  pub read_whole : right ≡ true → n ≡ size → read_kind right (eqb n size) m ≡ gives (some m)
+  pub read_whole : right ≡ true → n ≡ size → read_kind right (eqb n size) m ≡ gives (Some m)
   read_whole h l = rw (h, eq-eqb n size l)
 
 -- ---- one layout
@@ -65,16 +62,16 @@ kind_header : (u : Universal) (n : ℕ) → is_time_code u n ≡ true → u ≡ 
 unfolding is_time_code
 kind_header u n h = go u.real_time u.sub_id1 u.sub_id2 h
   where
-    sub_id2_lem : (x : MaybeSubId2) → is_sub_id2 x n ≡ true → x ≡ SubId2 n
-    sub_id2_lem NoSubId2 e = absurd (false≢true e)
-    sub_id2_lem (SubId2 k) e = ap SubId2 (eqb-true k n e)
+    sub_id2_lem : (x : Option ℕ) → is_sub_id2 x n ≡ true → x ≡ Some n
+    sub_id2_lem None e = absurd (false≢true e)
+    sub_id2_lem (Some k) e = ap Some (eqb-true k n e)
 
-    go : (r : Bool) (s : ℕ) (x : MaybeSubId2) → (r && (eqb s 1 && is_sub_id2 x n)) ≡ true
+    go : (r : Bool) (s : ℕ) (x : Option ℕ) → (r && (eqb s 1 && is_sub_id2 x n)) ≡ true
         → header r u.device_id s x ≡ time_code u.device_id n
     go false s x e = absurd (false≢true e)
     go true s x e =
         let both = (and-eq-true_iff (eqb s 1) (is_sub_id2 x n)).0 e in
-        ap₂ (λ (k : ℕ) (y : MaybeSubId2). header true u.device_id k y) (eqb-true s 1 both.0) (sub_id2_lem x both.1)
+        ap₂ (λ (k : ℕ) (y : Option ℕ). header true u.device_id k y) (eqb-true s 1 both.0) (sub_id2_lem x both.1)
 
 -- A header of a kind is of that kind.
 header_kind : (device n : ℕ) → is_time_code (time_code device n) n ≡ true
@@ -88,7 +85,7 @@ other_header u n h = go (is_time_code u n) refl
     go true e = absurd (h (kind_header u n e))
     go false e = e
 
-none_given : {A : Type 0} (m : A) → gives none ≡ gives (some m) → ⊥
+none_given : {A : Type 0} (m : A) → gives None ≡ gives (Some m) → ⊥
 none_given m e = let z : ◌≡◌ {A = ℕ} 0 1 = cc in omega arith
 
 refused_given : {A : Type 0} (r : Refusal) (m : A) → refused r ≡ gives m → ⊥
@@ -99,14 +96,14 @@ module _ {A : Type 0} (sub_id2 size : ℕ) (made : ℕ → List ℕ → A) where
   abbrev pub reading : Universal → List ℕ → Answer (Option A)
   reading u bs = read_kind (is_time_code u sub_id2) (eqb (length bs) size) (made u.device_id bs)
 
-  read_only : (u : Universal) (bs : List ℕ) (m : A) → reading u bs ≡ gives (some m)
+  read_only : (u : Universal) (bs : List ℕ) (m : A) → reading u bs ≡ gives (Some m)
       → (u ≡ time_code u.device_id sub_id2) × (length bs ≡ size)
   read_only u bs m = go (is_time_code u sub_id2) (eqb (length bs) size) refl refl
     where
-      go : (k w : Bool) → is_time_code u sub_id2 ≡ k → eqb (length bs) size ≡ w → read_kind k w (made u.device_id bs) ≡ gives (some m)
+      go : (k w : Bool) → is_time_code u sub_id2 ≡ k → eqb (length bs) size ≡ w → read_kind k w (made u.device_id bs) ≡ gives (Some m)
           → (u ≡ time_code u.device_id sub_id2) × (length bs ≡ size)
       go true true p q e = (kind_header u sub_id2 p, eqb-true (length bs) size q)
-      go true false p q e = absurd (refused_given (refusal 2) (some m) e)
+      go true false p q e = absurd (refused_given (refusal 2) (Some m) e)
       go false w p q e = absurd (none_given m e)
 
   pub reads_only : ReadsOnly sub_id2 size made reading
@@ -121,7 +118,7 @@ module _ {A : Type 0} (sub_id2 size : ℕ) (made : ℕ → List ℕ → A) where
 -- ---- full messages
 
 module _ (u : Universal) (bs : List ℕ) where
-  pub full_other : is_time_code u 1 ≡ false → gives none ≡ full_message_from u bs
+  pub full_other : is_time_code u 1 ≡ false → gives None ≡ full_message_from u bs
   unfolding full_message_from
   full_other h = sym (read_other _ (length bs) 4 _ h)
 
@@ -130,22 +127,22 @@ module _ (u : Universal) (bs : List ℕ) where
   full_short h l = sym (read_short _ (length bs) 4 _ h l)
 
   pub full_whole : (t : MtcTime) → is_time_code u 1 ≡ true → length bs ≡ 4 → t ≡ (received_full u.device_id bs).time
-      → gives (some (full_message u.device_id t)) ≡ full_message_from u bs
+      → gives (Some (full_message u.device_id t)) ≡ full_message_from u bs
   unfolding full_message_from
   full_whole t h l e =
-      ap (λ (x : MtcTime). gives (some (full_message u.device_id x))) e ∙ sym (read_whole _ (length bs) 4 _ h l)
+      ap (λ (x : MtcTime). gives (Some (full_message u.device_id x))) e ∙ sym (read_whole _ (length bs) 4 _ h l)
 
 -- ---- user bits
 
 -- What a reading of user bits owes: the answer, and the message beside it.
-abbrev pub OwesUserBits : ReadUserBits → Answer (Option UserBits) → Type 0
-OwesUserBits r a = (read_user_bits_of r ≡ a) × (r.bits ≡ bits_in a)
+abbrev pub OwesUserBits : Result (Option UserBits) SysexError → Answer (Option UserBits) → Type 0
+OwesUserBits r a = (answer_of r ≡ a) × (r.bits ≡ bits_in a)
 
-module _ (r : ReadUserBits) (u : Universal) (bs : List ℕ) where
+module _ (r : Result (Option UserBits) SysexError) (u : Universal) (bs : List ℕ) where
   pub bits_other : is_time_code u 2 ≡ false → (r.answer ≡ NotThis) × (r.bits ≡ no_bits) → OwesUserBits r (user_bits_from u bs)
   unfolding user_bits_from
   bits_other h p =
-      let e : user_bits_from u bs ≡ gives none = read_other _ (length bs) 9 _ h in
+      let e : user_bits_from u bs ≡ gives None = read_other _ (length bs) 9 _ h in
       rw e (ap₂ answer_with p.0 p.1, p.1)
 
   pub bits_short : is_time_code u 2 ≡ true → (length bs ≡ 9 → ⊥) → (r.answer ≡ Refused Length) × (r.bits ≡ no_bits)
@@ -156,9 +153,9 @@ module _ (r : ReadUserBits) (u : Universal) (bs : List ℕ) where
       rw e (ap₂ answer_with p.0 p.1, p.1)
 
 pub bits_whole : (u : Universal) (bs : List ℕ) → is_time_code u 2 ≡ true → length bs ≡ 9
-    → (gives (some (received_bits u.device_id bs)) ≡ user_bits_from u bs)
+    → (gives (Some (received_bits u.device_id bs)) ≡ user_bits_from u bs)
     × (received_bits u.device_id bs ≡ bits_in (user_bits_from u bs))
 unfolding user_bits_from
 bits_whole u bs h l =
-    let e : user_bits_from u bs ≡ gives (some (received_bits u.device_id bs)) = read_whole _ (length bs) 9 _ h l in
+    let e : user_bits_from u bs ≡ gives (Some (received_bits u.device_id bs)) = read_whole _ (length bs) 9 _ h l in
     rw e (refl, refl)

@@ -1,6 +1,7 @@
 -- What decides in a reader, together with the bytes that led there: no piece held; one piece and no direction; or the first
 -- k + 1 pieces of a direction. Every call keeps the shape, and after the first byte of a stream one of three is left.
 -- Assumes nothing.
+use Rattle.std.specs.Prelude.{Option, Some, None}
 use Prim.Native.Nat.{ℕ, zero, suc, ◌+◌, ◌-◌, ◌<◌}
 use mathlib.Core.Bool.{Bool, true, false, cond, ◌||◌, false≢true}
 use mathlib.Core.List.{List, [], ◌∷◌, map}
@@ -16,11 +17,6 @@ use Rattle.mtc.specs.QuarterFrame.{piece_of}
 use Rattle.mtc.specs.Reader.{Standing, control, direction_between, out_of_order, order_of, starts, number_after, number_of, stored, reader_by_number, report_by_number, after_piece, report_of}
 use Rattle.mtc.specs.declared.generator.Direction.{Direction}
 use Rattle.mtc.specs.declared.generator.Direction.TheVariants.{Forward, Reverse}
-use Rattle.mtc.specs.declared.generator.MaybePiece.TheVariants.{Piece}
-use Rattle.mtc.specs.declared.reader.MaybeDirection.{MaybeDirection}
-use Rattle.mtc.specs.declared.reader.MaybeDirection.TheVariants.{NoDirection, Going}
-use Rattle.mtc.specs.declared.reader.MaybeSequence.{MaybeSequence}
-use Rattle.mtc.specs.declared.reader.MaybeSequence.TheVariants.{NoSequence}
 use Rattle.mtc.specs.declared.reader.MtcReader.{MtcReader}
 use Rattle.mtc.proofs.ReaderCalls.{below_suc, both_r, order_second, order_next, order_turned}
 
@@ -60,18 +56,18 @@ piece_after Reverse k h = omega arith
 
 pub data Shape (bs : List ℕ) (r : MtcReader) : Type 0 where
   idle : r.count ≡ 0 → Shape bs r
-  one_piece : (d : Direction) → r.count ≡ 1 → r.first ≡ first d → r.last ≡ Piece (first d) → r.direction ≡ NoDirection
+  one_piece : (d : Direction) → r.count ≡ 1 → r.first ≡ first d → r.last ≡ Some (first d) → r.direction ≡ None
       → map piece_of (take 1 bs) ≡ history d 1 → Shape bs r
-  going : (d : Direction) (k : ℕ) → k < 7 → r.count ≡ suc k → r.last ≡ Piece (nth_piece d k) → r.direction ≡ Going d
+  going : (d : Direction) (k : ℕ) → k < 7 → r.count ≡ suc k → r.last ≡ Some (nth_piece d k) → r.direction ≡ Some d
       → map piece_of (take (suc k) bs) ≡ history d (suc k) → Shape bs r
 
 -- ---- a piece that is the next one
 
-between_after : (l p : ℕ) (f : Direction) → direction_between l p ≡ Going f → after f l ≡ p
+between_after : (l p : ℕ) (f : Direction) → direction_between l p ≡ Some f → after f l ≡ p
 between_after l p f = go (eqb (after Forward l) p) (eqb (after Reverse l) p) refl refl
   where
     go : (x y : Bool) → eqb (after Forward l) p ≡ x → eqb (after Reverse l) p ≡ y
-        → cond x (Going Forward) (cond y (Going Reverse) NoDirection) ≡ Going f → after f l ≡ p
+        → cond x (Some Forward) (cond y (Some Reverse) None) ≡ Some f → after f l ≡ p
     go true y ex ey e =
         let i : Forward ≡ f = cc in subst (λ (x : Direction). after x l ≡ p) i (eqb-true (after Forward l) p ex)
     go false true ex ey e =
@@ -79,10 +75,10 @@ between_after l p f = go (eqb (after Forward l) p) (eqb (after Reverse l) p) ref
     go false false ex ey e = let z : ◌≡◌ {A = ℕ} 0 1 = cc in absurd (omega arith)
 
 -- The second piece goes on only where the first one was its direction's first.
-second_next : (r : MtcReader) (x : MaybeDirection) → (out_of_order (control r) NoDirection x).next ≡ true
-    → (f : Direction) × (x ≡ Going f) × (r.first ≡ first f)
-second_next r NoDirection e = absurd (false≢true e)
-second_next r (Going f) e =
+second_next : (r : MtcReader) (x : Option Direction) → (out_of_order (control r) None x).next ≡ true
+    → (f : Direction) × (x ≡ Some f) × (r.first ≡ first f)
+second_next r None e = absurd (false≢true e)
+second_next r (Some f) e =
     (f, refl, eqb→eq r.first (first f) (both_r (ltb 0 r.count) (eqb r.first (first f)) (subst T (sym e) tt)))
 
 -- A piece that is the next one, after k + 1 others of its direction.
@@ -91,26 +87,26 @@ record NextInDirection (bs : List ℕ) (r : MtcReader) (p : ℕ) : Type 0 where
   number : ℕ
   few : number < 7
   count : r.count ≡ suc number
-  direction : (order_of (control r) p).direction ≡ Going way
+  direction : (order_of (control r) p).direction ≡ Some way
   piece : p ≡ nth_piece way (suc number)
   before : map piece_of (take (suc number) bs) ≡ history way (suc number)
 
 -- Out of order in a direction is never next.
-turned_next : (r : MtcReader) (d : Direction) (x : MaybeDirection) → (out_of_order (control r) (Going d) x).next ≡ false
-turned_next r d NoDirection = refl
-turned_next r d (Going f) = refl
+turned_next : (r : MtcReader) (d : Direction) (x : Option Direction) → (out_of_order (control r) (Some d) x).next ≡ false
+turned_next r d None = refl
+turned_next r d (Some f) = refl
 
 second_piece : (d : Direction) → after d (first d) ≡ nth_piece d 1
 second_piece Forward = refl
 second_piece Reverse = refl
 
 module _ (bs : List ℕ) (r : MtcReader) (p : ℕ) where
-  one_next : (d : Direction) → r.count ≡ 1 → r.first ≡ first d → r.last ≡ Piece (first d) → r.direction ≡ NoDirection
+  one_next : (d : Direction) → r.count ≡ 1 → r.first ≡ first d → r.last ≡ Some (first d) → r.direction ≡ None
       → map piece_of (take 1 bs) ≡ history d 1 → (order_of (control r) p).next ≡ true → NextInDirection bs r p
   one_next d c f l n h e =
       let x = direction_between (first d) p in
-      let q : out_of_order (control r) NoDirection x ≡ order_of (control r) p =
-      ap (λ (m : MaybeDirection). out_of_order (control r) m x) (sym n) ∙ order_second (control r) p l refl n in
+      let q : out_of_order (control r) None x ≡ order_of (control r) p =
+      ap (λ (m : Option Direction). out_of_order (control r) m x) (sym n) ∙ order_second (control r) p l refl n in
       let s = second_next r x (ap (λ (o : Standing). o.next) q ∙ e) in
       let same : s.0 ≡ d = same_first s.0 d (sym s.2 ∙ f) in
       record {
@@ -120,14 +116,14 @@ module _ (bs : List ℕ) (r : MtcReader) (p : ℕ) where
         count = c;
         direction =
             sym (ap (λ (o : Standing). o.direction) q)
-            ∙ ap (λ (m : MaybeDirection). (out_of_order (control r) NoDirection m).direction) s.1
-            ∙ ap Going same;
+            ∙ ap (λ (m : Option Direction). (out_of_order (control r) None m).direction) s.1
+            ∙ ap Some same;
         piece =
             sym (between_after (first d) p s.0 s.1) ∙ ap (λ (y : Direction). after y (first d)) same ∙ second_piece d;
         before = h;
       }
 
-  going_next : (d : Direction) (k : ℕ) → k < 7 → r.count ≡ suc k → r.last ≡ Piece (nth_piece d k) → r.direction ≡ Going d
+  going_next : (d : Direction) (k : ℕ) → k < 7 → r.count ≡ suc k → r.last ≡ Some (nth_piece d k) → r.direction ≡ Some d
       → map piece_of (take (suc k) bs) ≡ history d (suc k) → (order_of (control r) p).next ≡ true → NextInDirection bs r p
   going_next d k s c l n h e = go (eqb (after d (nth_piece d k)) p) refl
     where
@@ -179,7 +175,7 @@ first_piece Forward = refl
 first_piece Reverse = refl
 
 -- Without a direction a sequence starts at the first piece of either.
-start : (p : ℕ) → starts NoDirection p ≡ true → (d : Direction) × (p ≡ first d)
+start : (p : ℕ) → starts None p ≡ true → (d : Direction) × (p ≡ first d)
 start p = go (eqb p 0) refl
   where
     go : (x : Bool) → eqb p 0 ≡ x → (x || eqb p 7) ≡ true → (d : Direction) × (p ≡ first d)
@@ -187,15 +183,15 @@ start p = go (eqb p 0) refl
     go false e h = (Reverse, eqb-true p 7 h)
 
 module _ (bs : List ℕ) (b : ℕ) (s : MtcReader) where
-  started_shape : (m : MaybeDirection) → starts m (piece_of b) ≡ true → s.count ≡ 1 → s.first ≡ piece_of b
-      → s.last ≡ Piece (piece_of b) → s.direction ≡ m → Shape (b ∷ bs) s
-  started_shape NoDirection e c f l n =
+  started_shape : (m : Option Direction) → starts m (piece_of b) ≡ true → s.count ≡ 1 → s.first ≡ piece_of b
+      → s.last ≡ Some (piece_of b) → s.direction ≡ m → Shape (b ∷ bs) s
+  started_shape None e c f l n =
       let w = start (piece_of b) e in
       let i : piece_of b ≡ nth_piece w.0 0 = w.1 ∙ first_piece w.0 in
-      one_piece w.0 c (f ∙ w.1) (l ∙ ap Piece w.1) n (ap (λ (x : ℕ). x ∷ []) i)
-  started_shape (Going d) e c f l n =
+      one_piece w.0 c (f ∙ w.1) (l ∙ ap Some w.1) n (ap (λ (x : ℕ). x ∷ []) i)
+  started_shape (Some d) e c f l n =
       let i : piece_of b ≡ nth_piece d 0 = eqb-true (piece_of b) (first d) e ∙ first_piece d in
-      going d 0 (omega arith) c (l ∙ ap Piece i) n (ap (λ (x : ℕ). x ∷ []) i)
+      going d 0 (omega arith) c (l ∙ ap Some i) n (ap (λ (x : ℕ). x ∷ []) i)
 
 module _ (bs : List ℕ) (r : MtcReader) (h : Shape bs r) (b v : ℕ) where
   o : Standing
@@ -216,7 +212,7 @@ module _ (bs : List ℕ) (r : MtcReader) (h : Shape bs r) (b v : ℕ) where
       go (inr l) =
           let y : n ≡ suc (suc w.number) = omega (arith, e, w.count) in
           rw (stored_by_number r (order_of (control r) (piece_of b)) n (piece_of b) v (λ q. omega arith) (λ q. omega arith))
-          (going w.way (suc w.number) (omega arith) (omega arith) (ap Piece w.piece) w.direction
+          (going w.way (suc w.number) (omega arith) (omega arith) (ap Some w.piece) w.direction
           (ap₂ ◌∷◌ w.piece w.before))
 
   pub piece_shape : Shape (b ∷ bs) (after_piece r (piece_of b) v)
@@ -234,22 +230,22 @@ module _ (bs : List ℕ) (r : MtcReader) (h : Shape bs r) (b v : ℕ) where
 
 -- It starts a sequence, in its direction or with none known yet; or the reader still goes the other way, and holds nothing.
 pub data Begun (d : Direction) (n : List ℕ) (s : MtcReader) : Type 0 where
-  held : (m : MaybeDirection) → (m ≡ NoDirection) ⊎ (m ≡ Going d) → s.nibbles ≡ n → s.count ≡ 1 → s.first ≡ first d
-      → s.last ≡ Piece (first d) → s.direction ≡ m → Begun d n s
-  turning : s.count ≡ 0 → s.last ≡ Piece (first d) → s.direction ≡ Going (opposite d) → Begun d n s
+  held : (m : Option Direction) → (m ≡ None) ⊎ (m ≡ Some d) → s.nibbles ≡ n → s.count ≡ 1 → s.first ≡ first d
+      → s.last ≡ Some (first d) → s.direction ≡ m → Begun d n s
+  turning : s.count ≡ 0 → s.last ≡ Some (first d) → s.direction ≡ Some (opposite d) → Begun d n s
 
 -- What it reports: nothing, unless the bytes before were the other direction's first seven pieces.
-abbrev pub Quiet : Direction → List ℕ → MaybeSequence → Type 0
-Quiet d bs s = (s ≡ NoSequence) ⊎ (map piece_of (take 7 bs) ≡ history (opposite d) 7)
+abbrev pub Quiet : Direction → List ℕ → Option MtcSequence → Type 0
+Quiet d bs s = (s ≡ None) ⊎ (map piece_of (take 7 bs) ≡ history (opposite d) 7)
 
-no_start : (d : Direction) (m : MaybeDirection) → starts m (first d) ≡ false → m ≡ Going (opposite d)
-no_start Forward NoDirection e = absurd (false≢true (sym e))
-no_start Reverse NoDirection e = absurd (false≢true (sym e))
-no_start d (Going f) e = ap Going (other_first d f (eqb-false (first d) (first f) e))
+no_start : (d : Direction) (m : Option Direction) → starts m (first d) ≡ false → m ≡ Some (opposite d)
+no_start Forward None e = absurd (false≢true (sym e))
+no_start Reverse None e = absurd (false≢true (sym e))
+no_start d (Some f) e = ap Some (other_first d f (eqb-false (first d) (first f) e))
 
-pub a_start : (d : Direction) (m : MaybeDirection) → starts m (first d) ≡ true → (m ≡ NoDirection) ⊎ (m ≡ Going d)
-a_start d NoDirection e = inl refl
-a_start d (Going f) e = inr (ap Going (sym (same_first d f (eqb-true (first d) (first f) e))))
+pub a_start : (d : Direction) (m : Option Direction) → starts m (first d) ≡ true → (m ≡ None) ⊎ (m ≡ Some d)
+a_start d None e = inl refl
+a_start d (Some f) e = inr (ap Some (sym (same_first d f (eqb-true (first d) (first f) e))))
 
 -- A direction's first piece is the next one only as the other direction's last.
 last_piece : (d e : Direction) (k : ℕ) → k < 7 → first d ≡ nth_piece e (suc k) → (e ≡ opposite d) × (k ≡ 6)
@@ -271,7 +267,7 @@ module _ (bs : List ℕ) (r : MtcReader) (h : Shape bs r) (d : Direction) (v : �
       let q = last_piece d w.way w.number w.few w.piece in
       let eight : n ≡ 8 = omega (arith, e, w.count, q.1) in
       rw eight (
-        turning refl refl (w.direction ∙ ap Going q.0),
+        turning refl refl (w.direction ∙ ap Some q.0),
         inr (subst₂ (λ (k : ℕ) (f : Direction). map piece_of (take (suc k) bs) ≡ history f (suc k)) q.1 q.0 w.before),
       )
 

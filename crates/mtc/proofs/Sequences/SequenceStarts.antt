@@ -1,4 +1,5 @@
 -- When the first piece of a direction starts a sequence. Assumes nothing.
+use Rattle.std.specs.Prelude.{Option, Some, None}
 use Prim.Native.Nat.{ℕ, ◌<◌}
 use mathlib.Core.List.{List}
 use mathlib.Core.Logic.{inl, inr}
@@ -9,10 +10,6 @@ use Rattle.mtc.specs.Reader.{Standing, Control, control, starts, order_of, numbe
 use Rattle.mtc.specs.Ready.{Starts, NotAgainst}
 use Rattle.mtc.specs.declared.generator.Direction.{Direction}
 use Rattle.mtc.specs.declared.generator.Direction.TheVariants.{Forward, Reverse}
-use Rattle.mtc.specs.declared.generator.MaybePiece.{MaybePiece}
-use Rattle.mtc.specs.declared.generator.MaybePiece.TheVariants.{NoPiece, Piece}
-use Rattle.mtc.specs.declared.reader.MaybeDirection.{MaybeDirection}
-use Rattle.mtc.specs.declared.reader.MaybeDirection.TheVariants.{NoDirection, Going}
 use Rattle.mtc.specs.declared.reader.MtcReader.{MtcReader}
 use Rattle.mtc.proofs.Sequences.ReaderShapes.{opposite, nth_piece, Shape, idle, one_piece, going, Number, no_sequence, begins_one, next_one, number_cases, first_piece, a_start}
 
@@ -33,11 +30,11 @@ not_against d c e = go _ e (number_cases o.next c.count (starts o.direction (fir
 
 -- ---- when it does
 
-abbrev control_with : ℕ → ℕ → MaybePiece → MaybeDirection → Control
+abbrev control_with : ℕ → ℕ → Option ℕ → Option Direction → Control
 control_with c f l m = record { count = c; first = f; last = l; direction = m }
 
 -- As the first piece of all, or after a full message, where the direction is not the other one.
-pub starts_anew : (d : Direction) (c f : ℕ) (m : MaybeDirection) → NotAgainst d m → Starts d (control_with c f NoPiece m)
+pub starts_anew : (d : Direction) (c f : ℕ) (m : Option Direction) → NotAgainst d m → Starts d (control_with c f None m)
 unfolding order_of number_of
 starts_anew Forward c f m (inl e) = rw e refl
 starts_anew Forward c f m (inr e) = rw e refl
@@ -45,23 +42,23 @@ starts_anew Reverse c f m (inl e) = rw e refl
 starts_anew Reverse c f m (inr e) = rw e refl
 
 -- After the direction's last piece, where none is held, whatever the direction was.
-pub starts_next : (d : Direction) (f : ℕ) (m : MaybeDirection) → Starts d (control_with 0 f (Piece (final d)) m)
+pub starts_next : (d : Direction) (f : ℕ) (m : Option Direction) → Starts d (control_with 0 f (Some (final d)) m)
 unfolding order_of number_of
-starts_next Forward f NoDirection = refl
-starts_next Forward f (Going Forward) = refl
-starts_next Forward f (Going Reverse) = refl
-starts_next Reverse f NoDirection = refl
-starts_next Reverse f (Going Forward) = refl
-starts_next Reverse f (Going Reverse) = refl
+starts_next Forward f None = refl
+starts_next Forward f (Some Forward) = refl
+starts_next Forward f (Some Reverse) = refl
+starts_next Reverse f None = refl
+starts_next Reverse f (Some Forward) = refl
+starts_next Reverse f (Some Reverse) = refl
 
 -- After that piece, where it was the first one and gave no direction yet.
-starts_second : (d : Direction) → Starts d (control_with 1 (first (opposite d)) (Piece (final d)) NoDirection)
+starts_second : (d : Direction) → Starts d (control_with 1 (first (opposite d)) (Some (final d)) None)
 unfolding order_of number_of
 starts_second Forward = refl
 starts_second Reverse = refl
 
 -- After that piece, where the direction was the other one.
-starts_turned : (d : Direction) (c f : ℕ) → Starts d (control_with c f (Piece (final d)) (Going (opposite d)))
+starts_turned : (d : Direction) (c f : ℕ) → Starts d (control_with c f (Some (final d)) (Some (opposite d)))
 unfolding order_of number_of
 starts_turned Forward c f = refl
 starts_turned Reverse c f = refl
@@ -73,11 +70,11 @@ other_way Forward Reverse k l h = refl
 other_way Reverse Forward k l h = refl
 other_way Reverse Reverse k l h = absurd (omega arith)
 
-same_piece : (p q : ℕ) → Piece p ≡ Piece q → p ≡ q
+same_piece : (p q : ℕ) → Some p ≡ Some q → p ≡ q
 same_piece p q e = cc
 
 -- So after that piece in any reader that calls leave.
-pub starts_after_last : (d : Direction) (bs : List ℕ) (r : MtcReader) → Shape bs r → r.last ≡ Piece (final d) → Starts d (control r)
+pub starts_after_last : (d : Direction) (bs : List ℕ) (r : MtcReader) → Shape bs r → r.last ≡ Some (final d) → Starts d (control r)
 starts_after_last d bs r (idle c) e =
     subst (Starts d) (sym (λ i. control_with (c i) r.first (e i) r.direction)) (starts_next d r.first r.direction)
 starts_after_last d bs r (one_piece f c s l n h) e =
@@ -86,5 +83,5 @@ starts_after_last d bs r (one_piece f c s l n h) e =
     subst (Starts d) (sym (λ i. control_with (c i) (s' i) (e i) (n i))) (starts_second d)
 starts_after_last d bs r (going f k s c l n h) e =
     let w : f ≡ opposite d = other_way d f k s (same_piece _ _ (sym l ∙ e)) in
-    let n' : r.direction ≡ Going (opposite d) = n ∙ ap Going w in
+    let n' : r.direction ≡ Some (opposite d) = n ∙ ap Some w in
     subst (Starts d) (sym (λ i. control_with r.count r.first (e i) (n' i))) (starts_turned d r.count r.first)

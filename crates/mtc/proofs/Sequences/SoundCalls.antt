@@ -1,4 +1,5 @@
 -- Every call of a reader from fresh on leaves a sound record, so that it is taken as it is. Assumes nothing.
+use Rattle.std.specs.Prelude.{Some}
 use Prim.Native.Nat.{ℕ, ◌≤◌}
 use mathlib.Core.Bool.{Bool, true, false, cond}
 use mathlib.Core.Path.{◌≡◌, refl, sym, ◌∙◌}
@@ -8,7 +9,6 @@ use lib.ListN.{length, length-set}
 use Rattle.mtc.specs.QuarterFrame.{piece_of, value_of}
 use Rattle.mtc.specs.Reader.{Standing, is_sound, Sound, or_fresh, control, order_of, number_of, passed, stored, completed, informed, after_piece, report_of, after_byte, event_of, after_full_message}
 use Rattle.labels.specs.declared.time.MtcTime.{MtcTime}
-use Rattle.mtc.specs.declared.generator.MaybePiece.TheVariants.{Piece}
 use Rattle.mtc.specs.declared.reader.MtcReader.{MtcReader}
 use Rattle.universal.proofs.Tests.{holds_true}
 use Rattle.mtc.proofs.ReaderCalls.{fit_set, sound, sound_first, sound_nibbles, or_fresh_sound}
@@ -54,11 +54,11 @@ same_length r p v =
     (picked (λ (x : MtcReader). length x.nibbles ≡ length r.nibbles) (eqb n 8) s s)
 
 -- A piece is the last one after it came.
-pub last_is : (r : MtcReader) (p v : ℕ) → (after_piece r p v).last ≡ Piece p
+pub last_is : (r : MtcReader) (p v : ℕ) → (after_piece r p v).last ≡ Some p
 unfolding after_piece
 last_is r p v =
     let n = number_of (control r) (order_of (control r) p) p in
-    picked (λ (x : MtcReader). x.last ≡ Piece p) (eqb n 0) refl (picked (λ (x : MtcReader). x.last ≡ Piece p) (eqb n 8) refl refl)
+    picked (λ (x : MtcReader). x.last ≡ Some p) (eqb n 0) refl (picked (λ (x : MtcReader). x.last ≡ Some p) (eqb n 8) refl refl)
 
 completed_sound : (r : MtcReader) → Sound r → Sound (completed r)
 unfolding is_sound

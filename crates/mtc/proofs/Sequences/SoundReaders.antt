@@ -1,5 +1,6 @@
 -- Of a sound reader, for crates above: what its numbers are bounded by, what it does with a piece by how that stands to those before it,
 -- and where it keeps the labels of a report. Assumes nothing.
+use Rattle.std.specs.Prelude.{Option, Some, None}
 use Prim.Native.Nat.{ℕ, zero, suc, ◌≤◌}
 use mathlib.Core.Bool.{Bool, true, false, cond}
 use mathlib.Core.List.{List}
@@ -12,8 +13,6 @@ use Rattle.mtc.specs.QuarterFrame.{piece_of, value_of}
 -- A sound reader's bounds.
 pub use Rattle.mtc.specs.Reader.{Bounds}
 use Rattle.mtc.specs.Reader.{Sound, Standing, nibbles_fit, piece_fits, or_fresh, control, order_after, order_of, starts, number_after, number_of, passed, stored, completed, reader_by_number, report_by_number, raw_of, direction_of, sequence_of_label, sequence_of, ReportLabels, event_with, after_piece, report_of, after_byte, event_of}
-use Rattle.mtc.specs.declared.reader.MaybeSequence.{MaybeSequence}
-use Rattle.mtc.specs.declared.reader.MaybeSequence.TheVariants.{NoSequence, Sequence}
 use Rattle.mtc.specs.declared.reader.MtcReader.{MtcReader}
 use Rattle.mtc.proofs.ReaderCalls.{both_hold, nibble_small, sound, sound_count, sound_first, sound_last, sound_nibbles}
 use Rattle.mtc.proofs.Sequences.SoundCalls.{as_is}
@@ -71,7 +70,7 @@ piece_stands r h b n o eo en =
     = said r o (piece_of b) (value_of b) n eo en in (
       ap (λ (x : MtcReader). after_piece x (piece_of b) (value_of b)) (as_is r h) ∙ a,
       ap (λ (x : MtcReader). event_with (piece_of b) (report_of x (piece_of b) (value_of b))) (as_is r h)
-          ∙ ap (λ (x : MaybeSequence). event_with (piece_of b) x) s,
+          ∙ ap (λ (x : Option MtcSequence). event_with (piece_of b) x) s,
     )
 
 -- ---- where a report's labels stay
@@ -83,7 +82,7 @@ labels_by r o n p v = go (eqb n 0) (eqb n 8) refl refl
     apart x y = let a : n ≡ 0 = eqb-true n 0 x in let b : n ≡ 8 = eqb-true n 8 y in omega arith
 
     go : (x y : Bool) → eqb n 0 ≡ x → eqb n 8 ≡ y
-        → ReportLabels (cond y (Sequence (sequence_of (stored r o n p v))) NoSequence) r (cond x (passed r o p) (cond y (completed (stored r o n p v)) (stored r o n p v)))
+        → ReportLabels (cond y (Some (sequence_of (stored r o n p v))) None) r (cond x (passed r o p) (cond y (completed (stored r o n p v)) (stored r o n p v)))
     go true true ex ey = absurd (apart ex ey)
     go true false ex ey = (refl, refl)
     go false true ex ey = (refl, refl)

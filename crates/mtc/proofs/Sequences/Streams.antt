@@ -1,4 +1,5 @@
 -- The stream law. Assumes nothing.
+use Rattle.std.specs.Prelude.{Option, Some, None}
 use Prim.Native.Nat.{ℕ, zero, suc, ◌+◌}
 use mathlib.Core.Bool.{Bool, true, false, not}
 use mathlib.Core.List.{List, [], ◌∷◌, ◌++◌, map, reverse, reverse_aux, append-nil}
@@ -20,11 +21,6 @@ use Rattle.labels.specs.declared.time.MtcTime.{MtcTime}
 use Rattle.mtc.specs.declared.generator.Direction.{Direction}
 use Rattle.mtc.specs.declared.generator.Direction.TheVariants.{Forward, Reverse}
 use Rattle.mtc.specs.declared.generator.MtcGenerator.{MtcGenerator}
-use Rattle.mtc.specs.declared.reader.MaybeDirection.TheVariants.{Going}
-use Rattle.mtc.specs.declared.reader.MaybeSequence.{MaybeSequence}
-use Rattle.mtc.specs.declared.reader.MaybeSequence.TheVariants.{NoSequence, Sequence}
-use Rattle.mtc.specs.declared.reader.MaybeTime.{MaybeTime}
-use Rattle.mtc.specs.declared.reader.MaybeTime.TheVariants.{Time}
 use Rattle.mtc.specs.declared.reader.MtcEvent.{MtcEvent}
 use Rattle.mtc.specs.declared.reader.MtcReader.{MtcReader}
 use Rattle.labels.proofs.Laws.{moved_valid, moved_by_sum}
@@ -47,22 +43,22 @@ map_append f [] r = refl
 map_append f (x ∷ l) r = ap (λ (t : List _). f x ∷ t) (map_append f l r)
 
 -- Where n reports are silent and then one is not, no other place among them reports.
-silent_at : (n k : ℕ) (s : MaybeSequence) (rest : List MaybeSequence) → (k ≡ n → ⊥)
-    → ((j : ℕ) → k ≡ suc (n + j) → get_or rest j NoSequence ≡ NoSequence) → get_or (silent n ++ (s ∷ rest)) k NoSequence ≡ NoSequence
+silent_at : (n k : ℕ) (s : Option MtcSequence) (rest : List (Option MtcSequence)) → (k ≡ n → ⊥)
+    → ((j : ℕ) → k ≡ suc (n + j) → get_or rest j None ≡ None) → get_or (silent n ++ (s ∷ rest)) k None ≡ None
 silent_at zero zero s rest h q = absurd (h refl)
 silent_at zero (suc k) s rest h q = q k (omega arith)
 silent_at (suc n) zero s rest h q = refl
 silent_at (suc n) (suc k) s rest h q = silent_at n k s rest (λ e. h (ap suc e)) (λ j e. q j (omega arith))
 
 -- The reports of twenty-four bytes, all silent but the first, the eighth, the sixteenth and the last.
-abbrev spaced : (a b c d : MaybeSequence) → List MaybeSequence
+abbrev spaced : (a b c d : Option MtcSequence) → List (Option MtcSequence)
 spaced a b c d = a ∷ (silent 6 ++ (b ∷ (silent 7 ++ (c ∷ (silent 7 ++ (d ∷ []))))))
 
-silent_else : (a b c d : MaybeSequence) (n : ℕ) → suc n ≢ 1 → suc n ≢ 8 → suc n ≢ 16 → suc n ≢ 24
-    → get_or (spaced a b c d) n NoSequence ≡ NoSequence
+silent_else : (a b c d : Option MtcSequence) (n : ℕ) → suc n ≢ 1 → suc n ≢ 8 → suc n ≢ 16 → suc n ≢ 24
+    → get_or (spaced a b c d) n None ≡ None
 silent_else a b c d n h1 h8 h16 h24 =
-    let r24 : List MaybeSequence = silent 7 ++ (d ∷ []) in
-    let r16 : List MaybeSequence = silent 7 ++ (c ∷ r24) in
+    let r24 : List (Option MtcSequence) = silent 7 ++ (d ∷ []) in
+    let r16 : List (Option MtcSequence) = silent 7 ++ (c ∷ r24) in
     silent_at 0 n a (silent 6 ++ (b ∷ r16)) (λ e. h1 (ap suc e))
     (λ i x. silent_at 6 i b r16 (λ e. h8 (omega arith))
     (λ j y. silent_at 7 j c r24 (λ e. h16 (omega arith))
@@ -100,7 +96,7 @@ calls_sound cs = (past cs [] fresh fresh_past).sound.is_sound_record
 
 -- ---- reports of bytes
 
-abbrev pub reports_of : List MtcEvent → List MaybeSequence
+abbrev pub reports_of : List MtcEvent → List (Option MtcSequence)
 reports_of = map (λ (e : MtcEvent). e.sequence)
 
 pub reports_run : (bs : List ℕ) (r : MtcReader) → Sound r → reports_of (events r bs) ≡ run r (map split bs)
@@ -152,26 +148,26 @@ module _ (a b c : MtcTime) (d : Direction) (bs : List ℕ) (r : MtcReader) (h : 
       eighth (values a) second d r.nibbles h.sound.eight (same_length r (first d) first_nibble ∙ h.sound.eight) begun.0
 
   -- The four that may report.
-  abbrev report1 : MaybeSequence
+  abbrev report1 : Option MtcSequence
   report1 = report_of r (first d) first_nibble
 
-  report16 : MaybeSequence
-  report16 = Sequence (sequence_of_label (assembled (values b)) d after_eight.next.previous)
+  report16 : Option MtcSequence
+  report16 = Some (sequence_of_label (assembled (values b)) d after_eight.next.previous)
 
-  abbrev report24 : MaybeSequence
-  report24 = Sequence (sequence_of_label (assembled (values c)) d (Time (assembled (values b))))
+  abbrev report24 : Option MtcSequence
+  report24 = Some (sequence_of_label (assembled (values c)) d (Some (assembled (values b))))
 
   all_reports : run r (nibbles_in_order d (values a) ++ (nibbles_in_order d (values b) ++ (nibbles_in_order d (values c) ++ [])))
       ≡ spaced report1 after_eight.report report16 report24
   unfolding report16 run
   all_reports =
       run_first (values a) r d (nibbles_in_order d (values b) ++ (nibbles_in_order d (values c) ++ []))
-      ∙ ap (λ (l : List MaybeSequence). report1 ∷ l)
+      ∙ ap (λ (l : List (Option MtcSequence)). report1 ∷ l)
       (after_eight.runs (nibbles_in_order d (values b) ++ (nibbles_in_order d (values c) ++ []))
-      ∙ ap (λ (l : List MaybeSequence). silent 6 ++ (after_eight.report ∷ l))
+      ∙ ap (λ (l : List (Option MtcSequence)). silent 6 ++ (after_eight.report ∷ l))
       (round (values b) after_eight.next d after_eight.eights after_eight.starts (nibbles_in_order d (values c) ++ [])
-      ∙ ap (λ (l : List MaybeSequence). silent 7 ++ (report16 ∷ l))
-      (round (values c) (left (values b) d) d refl (starts_next d (first d) (Going d)) [])))
+      ∙ ap (λ (l : List (Option MtcSequence)). silent 7 ++ (report16 ∷ l))
+      (round (values c) (left (values b) d) d refl (starts_next d (first d) (Some d)) [])))
 
 -- ---- times from T
 
@@ -210,9 +206,9 @@ module _ (t : MtcTime) where
       go Reverse = moved_by_sum t (frames Reverse 4 4) (offset Reverse)
 
 -- A label that was put together from its own values.
-own_values : (t : MtcTime) → InWidths t → (d : Direction) (p : MaybeTime)
-    → Sequence (sequence_of_label (assembled (values t)) d p) ≡ report_with d t (add_frames t (offset d)) (jumps p d t)
-own_values t w d p = ap (λ (u : MtcTime). Sequence (sequence_of_label u d p)) (raw_values t w)
+own_values : (t : MtcTime) → InWidths t → (d : Direction) (p : Option MtcTime)
+    → Some (sequence_of_label (assembled (values t)) d p) ≡ report_with d t (add_frames t (offset d)) (jumps p d t)
+own_values t w d p = ap (λ (u : MtcTime). Some (sequence_of_label u d p)) (raw_values t w)
 
 -- ---- the law
 
@@ -251,7 +247,7 @@ module _ (calls : List Call) (g : MtcGenerator) (t : MtcTime) (d : Direction) (v
   abbrev after8 : Eighth (values t) d (second t t₂ t₄ d bytes reader before)
   after8 = after_eight t t₂ t₄ d bytes reader before
 
-  abbrev listed_reports : List MaybeSequence
+  abbrev listed_reports : List (Option MtcSequence)
   listed_reports =
       spaced (report1 t t₂ t₄ d bytes reader before) after8.report (report16 t t₂ t₄ d bytes reader before)
       (report24 t t₂ t₄ d bytes reader before)
@@ -263,26 +259,26 @@ module _ (calls : List Call) (g : MtcGenerator) (t : MtcTime) (d : Direction) (v
       ∙ ap (run reader) (three t t₂ t₄ d)
       ∙ all_reports t t₂ t₄ d bytes reader before
 
-  place : (n : ℕ) → nth_report (suc n) es ≡ get_or listed_reports n NoSequence
-  place n = ap (λ (l : List MaybeSequence). get_or l n NoSequence) reported_are
+  place : (n : ℕ) → nth_report (suc n) es ≡ get_or listed_reports n None
+  place n = ap (λ (l : List (Option MtcSequence)). get_or l n None) reported_are
 
-  first_report : (nth_report 1 es ≡ NoSequence) ⊎ (map piece_of (last_seven calls) ≡ seven_before d)
+  first_report : (nth_report 1 es ≡ None) ⊎ (map piece_of (last_seven calls) ≡ seven_before d)
   first_report = go (begun t t₂ t₄ d bytes reader before).1
     where
       go : Quiet d bytes (report1 t t₂ t₄ d bytes reader before)
-          → (nth_report 1 es ≡ NoSequence) ⊎ (map piece_of (last_seven calls) ≡ seven_before d)
+          → (nth_report 1 es ≡ None) ⊎ (map piece_of (last_seven calls) ≡ seven_before d)
       go (inl e) = inl (place 0 ∙ e)
       go (inr e) = inr (seven_before_lem d bytes e)
 
-  eighth_report : (nth_report 8 es ≡ NoSequence)
+  eighth_report : (nth_report 8 es ≡ None)
       ⊎ ((jump : Bool) × (nth_report 8 es ≡ report_with d t (shifted t d 2 1) jump))
   eighth_report = go after8.is
     where
-      q : MaybeTime
+      q : Option MtcTime
       q = (second t t₂ t₄ d bytes reader before).previous
 
-      go : (after8.report ≡ NoSequence) ⊎ (after8.report ≡ Sequence (sequence_of_label (assembled (values t)) d q))
-          → (nth_report 8 es ≡ NoSequence)
+      go : (after8.report ≡ None) ⊎ (after8.report ≡ Some (sequence_of_label (assembled (values t)) d q))
+          → (nth_report 8 es ≡ None)
           ⊎ ((jump : Bool) × (nth_report 8 es ≡ report_with d t (shifted t d 2 1) jump))
       go (inl e) = inl (place 7 ∙ e)
       go (inr e) =
@@ -307,12 +303,12 @@ module _ (calls : List Call) (g : MtcGenerator) (t : MtcTime) (d : Direction) (v
       let w₂ = valid_in_widths t₂ (moved_valid t (sequence_frames d)) in
       let w₄ = valid_in_widths t₄ (moved_valid t₂ (sequence_frames d)) in
       place 23
-      ∙ ap (λ (u : MtcTime). Sequence (sequence_of_label (assembled (values t₄)) d (Time u))) (raw_values t₂ w₂)
-      ∙ own_values t₄ w₄ d (Time t₂)
+      ∙ ap (λ (u : MtcTime). Some (sequence_of_label (assembled (values t₄)) d (Some u))) (raw_values t₂ w₂)
+      ∙ own_values t₄ w₄ d (Some t₂)
       ∙ ap (λ (x : Bool). report_with d t₄ (add_frames t₄ (offset d)) (not x)) (same_self t₄)
       ∙ ap₂ (λ (x y : MtcTime). report_with d x y false) (on_4_4 t d) (on_6_5 t d)
 
-  no_other : (n : ℕ) → n ≢ 1 → n ≢ 8 → n ≢ 16 → n ≢ 24 → nth_report n es ≡ NoSequence
+  no_other : (n : ℕ) → n ≢ 1 → n ≢ 8 → n ≢ 16 → n ≢ 24 → nth_report n es ≡ None
   no_other zero a b c e = refl
   no_other (suc n) a b c e = place n ∙ silent_else _ _ _ _ n a b c e
 

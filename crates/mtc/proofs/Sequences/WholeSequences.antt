@@ -1,4 +1,5 @@
 -- The reader on whole sequences: what the bytes of one report, and the reader that they leave. Assumes nothing.
+use Rattle.std.specs.Prelude.{Option, Some, None}
 use Prim.Native.Nat.{ℕ}
 use mathlib.Core.Bool.{true, false}
 use mathlib.Core.List.{List, [], ◌∷◌, ◌++◌}
@@ -13,21 +14,13 @@ use Rattle.mtc.specs.Stream.{silent}
 use Rattle.labels.specs.Time.{add_frames}
 use Rattle.mtc.specs.declared.generator.Direction.{Direction}
 use Rattle.mtc.specs.declared.generator.Direction.TheVariants.{Forward, Reverse}
-use Rattle.mtc.specs.declared.generator.MaybePiece.{MaybePiece}
-use Rattle.mtc.specs.declared.generator.MaybePiece.TheVariants.{Piece}
-use Rattle.mtc.specs.declared.reader.MaybeDirection.{MaybeDirection}
-use Rattle.mtc.specs.declared.reader.MaybeDirection.TheVariants.{Going}
-use Rattle.mtc.specs.declared.reader.MaybeSequence.{MaybeSequence}
-use Rattle.mtc.specs.declared.reader.MaybeSequence.TheVariants.{NoSequence, Sequence}
-use Rattle.mtc.specs.declared.reader.MaybeTime.{MaybeTime}
-use Rattle.mtc.specs.declared.reader.MaybeTime.TheVariants.{Time}
 use Rattle.mtc.specs.declared.reader.MtcReader.{MtcReader}
 use Rattle.mtc.proofs.Sequences.LabelNibbles.{Nibble, Values, first_value, seven, nibbles_in_order, listed, assembled}
 use Rattle.mtc.proofs.Sequences.ReaderShapes.{opposite, Begun, held, turning}
 use Rattle.mtc.proofs.Sequences.SequenceStarts.{not_against, starts_next}
 
 -- What a list of pieces with their values reports.
-unfoldable pub run : MtcReader → List Nibble → List MaybeSequence
+unfoldable pub run : MtcReader → List Nibble → List (Option MtcSequence)
 run r [] = []
 run r (q ∷ qs) = report_of r q.piece q.value ∷ run (after_piece r q.piece q.value) qs
 
@@ -55,7 +48,7 @@ eight_of (a ∷ b ∷ c ∷ d ∷ e ∷ f ∷ g ∷ h ∷ []) k = eight a b c d 
 eight_of (a ∷ b ∷ c ∷ d ∷ e ∷ f ∷ g ∷ h ∷ i ∷ l) k = absurd (omega arith)
 
 -- A reader with other nibbles, count, first and last piece and direction.
-abbrev with : MtcReader → List ℕ → ℕ → ℕ → MaybePiece → MaybeDirection → MtcReader
+abbrev with : MtcReader → List ℕ → ℕ → ℕ → Option ℕ → Option Direction → MtcReader
 with r n c f l d =
     record {
       nibbles = n;
@@ -72,16 +65,16 @@ with r n c f l d =
 -- ---- the first piece of a sequence
 
 -- What it leaves: one piece held, and nothing reported.
-record SequenceBegun (d : Direction) (r : MtcReader) (v : ℕ) (s : MtcReader) (q : MaybeSequence) : Type 0 where
-  way : MaybeDirection
+record SequenceBegun (d : Direction) (r : MtcReader) (v : ℕ) (s : MtcReader) (q : Option MtcSequence) : Type 0 where
+  way : Option Direction
   not_against : NotAgainst d way
   nibbles : s.nibbles ≡ set r.nibbles (first d) v
   count : s.count ≡ 1
   first_is : s.first ≡ first d
-  last : s.last ≡ Piece (first d)
+  last : s.last ≡ Some (first d)
   direction : s.direction ≡ way
   previous : s.previous ≡ r.previous
-  report : q ≡ NoSequence
+  report : q ≡ None
 
 sequence_begun : (d : Direction) (r : MtcReader) (v : ℕ) → Starts d (control r) → SequenceBegun d r v (after_piece r (first d) v) (report_of r (first d) v)
 unfolding after_piece report_of
@@ -110,12 +103,12 @@ module _ (v : Values) where
         nibbles = listed v;
         count = 0;
         first = first d;
-        last = Piece (final d);
-        direction = Going d;
+        last = Some (final d);
+        direction = Some d;
         locked = true;
         running = true;
-        previous = Time (assembled v);
-        time = Time (add_frames (assembled v) (offset d));
+        previous = Some (assembled v);
+        time = Some (add_frames (assembled v) (offset d));
       }
 
   pub run_first : (r : MtcReader) (d : Direction) (rest : List Nibble) → run r (nibbles_in_order d v ++ rest)
@@ -124,19 +117,19 @@ module _ (v : Values) where
   run_first r d rest = refl
 
   -- A reader that holds the first piece.
-  abbrev holding : MtcReader → Direction → List ℕ → MaybeDirection → MtcReader
-  holding s d n m = with s (set n (first d) (first_value d v)) 1 (first d) (Piece (first d)) m
+  abbrev holding : MtcReader → Direction → List ℕ → Option Direction → MtcReader
+  holding s d n m = with s (set n (first d) (first_value d v)) 1 (first d) (Some (first d)) m
 
   -- Whether or not the direction is known, the other seven complete the sequence.
-  Completes : MtcReader → Direction → List ℕ → List Nibble → MaybeDirection → Type 0
+  Completes : MtcReader → Direction → List ℕ → List Nibble → Option Direction → Type 0
   Completes s d n rest m =
       (run (holding s d n m) (seven d v ++ rest)
       ≡ silent 6
-      ++ (Sequence (sequence_of_label (assembled v) d s.previous)
+      ++ (Some (sequence_of_label (assembled v) d s.previous)
       ∷ run (left d) rest))
       × (leave (holding s d n m) (seven d v) ≡ left d)
 
-  held_at : (s : MtcReader) (d : Direction) (n : List ℕ) → Eight n → (rest : List Nibble) (m : MaybeDirection)
+  held_at : (s : MtcReader) (d : Direction) (n : List ℕ) → Eight n → (rest : List Nibble) (m : Option Direction)
       → NotAgainst d m → Completes s d n rest m
   unfolding Completes run leave report_of after_piece order_of number_of sequence_of
   held_at s Forward n (eight a b c d e f g h) rest m (inl q) = subst (Completes s Forward n rest) (sym q) (refl, refl)
@@ -163,13 +156,13 @@ module _ (v : Values) where
     -- The eighth piece reports, and no other.
     pub round : (rest : List Nibble)
         → run r (nibbles_in_order d v ++ rest)
-        ≡ silent 7 ++ (Sequence (sequence_of_label (assembled v) d r.previous) ∷ run (left d) rest)
+        ≡ silent 7 ++ (Some (sequence_of_label (assembled v) d r.previous) ∷ run (left d) rest)
     unfolding Completes
     round rest =
         run_first r d rest
         ∙ ap₂ ◌∷◌ begun.report
         (ap (λ (x : MtcReader). run x (seven d v ++ rest)) is_holding ∙ (completes rest).0
-        ∙ ap (λ (p : MaybeTime). silent 6 ++ (Sequence (sequence_of_label (assembled v) d p) ∷ run (left d) rest)) begun.previous)
+        ∙ ap (λ (p : Option MtcTime). silent 6 ++ (Some (sequence_of_label (assembled v) d p) ∷ run (left d) rest)) begun.previous)
 
     -- The reader that they leave.
     pub round_left : leave r (nibbles_in_order d v) ≡ left d
@@ -181,8 +174,8 @@ module _ (v : Values) where
 module _ (v : Values) where
   -- What the seven after the first piece report, and the reader that they leave.
   pub record Eighth (d : Direction) (s : MtcReader) : Type 0 where
-    pub report : MaybeSequence
-    pub is : (report ≡ NoSequence) ⊎ (report ≡ Sequence (sequence_of_label (assembled v) d s.previous))
+    pub report : Option MtcSequence
+    pub is : (report ≡ None) ⊎ (report ≡ Some (sequence_of_label (assembled v) d s.previous))
     pub next : MtcReader
     pub eights : length next.nibbles ≡ 8
     pub starts : Starts d (control next)
@@ -195,8 +188,8 @@ module _ (v : Values) where
         nibbles = s.nibbles;
         count = 0;
         first = s.first;
-        last = Piece (final d);
-        direction = Going d;
+        last = Some (final d);
+        direction = Some d;
         locked = false;
         running = true;
         previous = s.previous;
@@ -204,7 +197,7 @@ module _ (v : Values) where
       }
 
   turning_at : (s : MtcReader) (d : Direction) (rest : List Nibble)
-      → run (with s s.nibbles 0 s.first (Piece (first d)) (Going (opposite d))) (seven d v ++ rest)
+      → run (with s s.nibbles 0 s.first (Some (first d)) (Some (opposite d))) (seven d v ++ rest)
       ≡ silent 7 ++ run (turned s d) rest
   unfolding run report_of after_piece order_of number_of sequence_of
   turning_at s Forward rest = refl
@@ -215,11 +208,11 @@ module _ (v : Values) where
   unfolding Completes
   eighth s d n len _ (held m q en ec ef el ed) =
       record {
-        report = Sequence (sequence_of_label (assembled v) d s.previous);
+        report = Some (sequence_of_label (assembled v) d s.previous);
         is = inr refl;
         next = left v d;
         eights = refl;
-        starts = starts_next d (first d) (Going d);
+        starts = starts_next d (first d) (Some d);
         runs =
             λ rest.
             ap (λ (x : MtcReader). run x (seven d v ++ rest)) (λ i. with s (en i) (ec i) (ef i) (el i) (ed i))
@@ -227,11 +220,11 @@ module _ (v : Values) where
       }
   eighth s d n _ len (turning ec el ed) =
       record {
-        report = NoSequence;
+        report = None;
         is = inl refl;
         next = turned s d;
         eights = len;
-        starts = starts_next d s.first (Going d);
+        starts = starts_next d s.first (Some d);
         runs =
             λ rest.
             ap (λ (x : MtcReader). run x (seven d v ++ rest)) (λ i. with s s.nibbles (ec i) s.first (el i) (ed i))

@@ -10,6 +10,6 @@ pub returns-in-NotMine : goal.returns-in-NotMine
 unfolding flat_reply
 returns-in-NotMine c = rw c.in-NotMine.is
 
-pub returns-in-Refused : goal.returns-in-Refused
+pub returns-in-Err : goal.returns-in-Err
 unfolding flat_reply
-returns-in-Refused c = cc
+returns-in-Err c = cc

@@ -10,6 +10,6 @@ pub returns-in-NotThis : goal.returns-in-NotThis
 unfolding flat_answer
 returns-in-NotThis c = cc
 
-pub returns-in-Refused : goal.returns-in-Refused
+pub returns-in-Err : goal.returns-in-Err
 unfolding flat_answer
-returns-in-Refused c = cc
+returns-in-Err c = cc

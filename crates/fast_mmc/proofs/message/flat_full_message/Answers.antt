@@ -10,6 +10,6 @@ pub returns-in-NotThis : goal.returns-in-NotThis
 unfolding flat_full_message
 returns-in-NotThis c = cc
 
-pub returns-in-Refused : goal.returns-in-Refused
+pub returns-in-Err : goal.returns-in-Err
 unfolding flat_full_message
-returns-in-Refused c = rw (c.in-Refused.is, c.no_time-in-Refused.ensures, c.number.ensures)
+returns-in-Err c = rw (c.in-Err.is, c.no_time-in-Err.ensures, c.number.ensures)

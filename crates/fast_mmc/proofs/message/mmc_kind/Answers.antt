@@ -14,6 +14,6 @@ pub returns-in-NotThis : goal.returns-in-NotThis
 unfolding mmc_kind
 returns-in-NotThis c = cc
 
-pub returns-in-Refused : goal.returns-in-Refused
+pub returns-in-Err : goal.returns-in-Err
 unfolding mmc_kind
-returns-in-Refused c = cc
+returns-in-Err c = cc

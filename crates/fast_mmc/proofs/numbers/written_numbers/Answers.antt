@@ -6,6 +6,6 @@ pub returns-in-Length : goal.returns-in-Length
 unfolding written_numbers
 returns-in-Length c = cc
 
-pub returns-in-Refused : goal.returns-in-Refused
+pub returns-in-Err : goal.returns-in-Err
 unfolding written_numbers
-returns-in-Refused c = cc
+returns-in-Err c = cc

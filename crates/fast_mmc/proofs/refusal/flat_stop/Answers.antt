@@ -2,10 +2,10 @@
 use Rattle.fast_mmc.specs.Refusal.{flat_stop}
 use Rattle.fast_mmc.proofs.refusal.flat_stop.Goals as goal
 
-pub returns-in-Accepted : goal.returns-in-Accepted
+pub returns-in-Ok : goal.returns-in-Ok
 unfolding flat_stop
-returns-in-Accepted c = cc
+returns-in-Ok c = cc
 
-pub returns-in-Refused : goal.returns-in-Refused
+pub returns-in-Err : goal.returns-in-Err
 unfolding flat_stop
-returns-in-Refused c = cc
+returns-in-Err c = cc

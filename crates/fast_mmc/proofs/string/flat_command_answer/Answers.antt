@@ -6,6 +6,6 @@ pub returns-in-Command : goal.returns-in-Command
 unfolding flat_command_answer
 returns-in-Command c = rw (c.in-Command.is, c.flat_command.ensures)
 
-pub returns-in-Refused : goal.returns-in-Refused
+pub returns-in-Err : goal.returns-in-Err
 unfolding flat_command_answer
-returns-in-Refused c = rw (c.in-Refused.is, c.flat_values.ensures, c.number.ensures)
+returns-in-Err c = rw (c.in-Err.is, c.flat_values.ensures, c.number.ensures)

@@ -6,6 +6,6 @@ pub returns-in-Field : goal.returns-in-Field
 unfolding flat_field_answer
 returns-in-Field c = cc
 
-pub returns-in-Refused : goal.returns-in-Refused
+pub returns-in-Err : goal.returns-in-Err
 unfolding flat_field_answer
-returns-in-Refused c = rw (c.in-Refused.is, c.coded.ensures, c.no_short.ensures, c.no_code.ensures, c.number.ensures)
+returns-in-Err c = rw (c.in-Err.is, c.coded.ensures, c.no_short.ensures, c.no_code.ensures, c.number.ensures)

@@ -10,6 +10,6 @@ unfolding next_field
 returns-in-Found c =
     read_found (parts_as (λ (x y : List ℕ). field_of_case (read_field x y)) _) _ _ _ c.next_parts-answer.ensures _ _ _ c.in-Found.is (read_parts (λ (x y : List ℕ). field_of_case (read_field x y)) _ _ _ _ _ _ c.read.ensures c.of.ensures c.of-in-Found.ensures)
 
-pub returns-in-Refused : goal.returns-in-Refused
+pub returns-in-Err : goal.returns-in-Err
 unfolding next_field
-returns-in-Refused c = read_refused (parts_as (λ (x y : List ℕ). field_of_case (read_field x y)) _) _ _ _ c.next_parts-answer.ensures _ c.in-Refused.is
+returns-in-Err c = read_refused (parts_as (λ (x y : List ℕ). field_of_case (read_field x y)) _) _ _ _ c.next_parts-answer.ensures _ c.in-Err.is

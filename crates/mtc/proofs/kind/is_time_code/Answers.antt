@@ -8,10 +8,10 @@ returns-then-not-u c = not_real_time _ _ c.if-not-u.true
 pub returns-then-u-ne-MIDI_TIME_CODE : goal.returns-then-u-ne-MIDI_TIME_CODE
 returns-then-u-ne-MIDI_TIME_CODE c = other_sub_id1 _ _ c.if-not-u.false c.if-u-ne-MIDI_TIME_CODE.true
 
-pub returns-in-NoSubId2 : goal.returns-in-NoSubId2
-returns-in-NoSubId2 c =
-    without_sub_id2 _ _ c.if-not-u.false c.if-u-ne-MIDI_TIME_CODE.false c.in-NoSubId2.is
+pub returns-in-None : goal.returns-in-None
+returns-in-None c =
+    without_sub_id2 _ _ c.if-not-u.false c.if-u-ne-MIDI_TIME_CODE.false c.in-None.is
 
-pub returns-in-SubId2 : goal.returns-in-SubId2
-returns-in-SubId2 c =
-    by_sub_id2 _ _ c.if-not-u.false _ c.if-u-ne-MIDI_TIME_CODE.false c.in-SubId2.is
+pub returns-in-Some : goal.returns-in-Some
+returns-in-Some c =
+    by_sub_id2 _ _ c.if-not-u.false _ c.if-u-ne-MIDI_TIME_CODE.false c.in-Some.is

@@ -10,13 +10,13 @@ returns-in_default c = c.ordered.ensures ∙ no_neighbour (control c.args.r) _ _
 pub returns-then-r-eq0 : goal.returns-then-r-eq0
 returns-then-r-eq0 c =
     c.ordered-then-r-eq0.ensures
-    ∙ second_alone (control c.args.r) _ _ c.in_default-direction.is c.in-Going.is c.if-r-eq0.true
+    ∙ second_alone (control c.args.r) _ _ c.in_default-direction.is c.in-Some.is c.if-r-eq0.true
 
 pub returns-in_default-direction : goal.returns-in_default-direction
 returns-in_default-direction c =
     c.ordered-in_default-direction.ensures
-    ∙ second (control c.args.r) _ _ c.in_default-direction.is c.in-Going.is c.if-r-eq0.false
+    ∙ second (control c.args.r) _ _ c.in_default-direction.is c.in-Some.is c.if-r-eq0.false
     c.first.ensures.0
 
 pub returns : goal.returns
-returns c = c.ordered-2.ensures ∙ turned (control c.args.r) _ _ c.in-Going-direction.is c.in-Going.is
+returns c = c.ordered-2.ensures ∙ turned (control c.args.r) _ _ c.in-Some-direction.is c.in-Some.is

@@ -7,7 +7,7 @@ returns-in-Command c =
     let read = c.next_command-next in
     turn_read _ _ _ _ _ read.result read.ensures _ c.apply-applied.result c.in-Command.is c.apply-applied.ensures
 
-pub returns-in-Refused : goal.returns-in-Refused
-returns-in-Refused c =
+pub returns-in-Err : goal.returns-in-Err
+returns-in-Err c =
     let read = c.next_command-next in
-    turn_ended _ _ _ _ _ read.result read.ensures _ c.in-Refused.is
+    turn_ended _ _ _ _ _ read.result read.ensures _ c.in-Err.is

@@ -11,6 +11,6 @@ pub returns-in-NotMine : goal.returns-in-NotMine
 unfolding one_refused
 returns-in-NotMine c = (rw c.in-NotMine.is, search rules)
 
-pub returns-in-Refused : goal.returns-in-Refused
+pub returns-in-Err : goal.returns-in-Err
 unfolding one_refused
-returns-in-Refused c = (rw c.in-Refused.is, search rules)
+returns-in-Err c = (rw c.in-Err.is, search rules)

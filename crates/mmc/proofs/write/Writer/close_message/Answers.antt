@@ -5,8 +5,8 @@ use Rattle.mmc.specs.Named.{stop_of}
 use Rattle.universal.proofs.Clauses.{result_and_out}
 use Rattle.mmc.proofs.write.Writer.close_message.Goals as goal
 
-pub returns-in-Refused : goal.returns-in-Refused
-returns-in-Refused c = result_and_out (ends_refused _ _ _ (close_repeats _ _ (sym c.or_failed-checked.ensures ∙ ap stop_of c.in-Refused.is)))
+pub returns-in-Err : goal.returns-in-Err
+returns-in-Err c = result_and_out (ends_refused _ _ _ (close_repeats _ _ (sym c.or_failed-checked.ensures ∙ ap stop_of c.in-Err.is)))
 
 pub returns-then-at-lt5 : goal.returns-then-at-lt5
 returns-then-at-lt5 c = result_and_out (ends_refused _ _ _ (close_empty _ (sym c.or_failed-checked.ensures ∙ ap stop_of c.in_default.is) c.if-at-lt5.true))

@@ -7,8 +7,8 @@ use Rattle.mmc.proofs.Writing.ItemPuts.{command_small}
 use Rattle.universal.proofs.Clauses.{writer_and_out}
 use Rattle.mmc.proofs.write.Writer.put_command.Goals as goal
 
-pub returns-in-Refused : goal.returns-in-Refused
-returns-in-Refused c = writer_and_out (fails _ _ _ _ _ _ _ (repeats _ _ _ (sym c.ready-ready.ensures ∙ ap stop_of c.in-Refused.is)) refl c.failed.ensures)
+pub returns-in-Err : goal.returns-in-Err
+returns-in-Err c = writer_and_out (fails _ _ _ _ _ _ _ (repeats _ _ _ (sym c.ready-ready.ensures ∙ ap stop_of c.in-Err.is)) refl c.failed.ensures)
 
 pub put_command-put-requires : goal.put_command-put-requires
 put_command-put-requires c =

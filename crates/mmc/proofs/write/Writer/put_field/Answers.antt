@@ -7,8 +7,8 @@ use Rattle.mmc.proofs.Writing.ItemPuts.{field_small}
 use Rattle.universal.proofs.Clauses.{writer_and_out}
 use Rattle.mmc.proofs.write.Writer.put_field.Goals as goal
 
-pub returns-in-Refused : goal.returns-in-Refused
-returns-in-Refused c = writer_and_out (fails _ _ _ _ _ _ _ (repeats _ _ _ (sym c.ready-ready.ensures ∙ ap stop_of c.in-Refused.is)) refl c.failed.ensures)
+pub returns-in-Err : goal.returns-in-Err
+returns-in-Err c = writer_and_out (fails _ _ _ _ _ _ _ (repeats _ _ _ (sym c.ready-ready.ensures ∙ ap stop_of c.in-Err.is)) refl c.failed.ensures)
 
 pub put_field-put-requires : goal.put_field-put-requires
 put_field-put-requires c =

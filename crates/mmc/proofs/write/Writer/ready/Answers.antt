@@ -8,8 +8,8 @@ use Rattle.mmc.proofs.write.Writer.ready.Goals as goal
 pub returns-then-self-le-MOST_POSITION : goal.returns-then-self-le-MOST_POSITION
 returns-then-self-le-MOST_POSITION c = ready_kept _ (omega arith) c.if-self-le-MOST_POSITION.true
 
-pub returns-in-Refused : goal.returns-in-Refused
-returns-in-Refused c = ready_failed _ _ (sym c.or_failed-checked.ensures ∙ ap stop_of c.in-Refused.is)
+pub returns-in-Err : goal.returns-in-Err
+returns-in-Err c = ready_failed _ _ (sym c.or_failed-checked.ensures ∙ ap stop_of c.in-Err.is)
 
 pub returns-then-self-eq-MOST_ITEMS : goal.returns-then-self-eq-MOST_ITEMS
 returns-then-self-eq-MOST_ITEMS c = ready_full _ (sym c.or_failed-checked.ensures ∙ ap stop_of c.in_default.is) c.if-self-eq-MOST_ITEMS.true

@@ -15,11 +15,11 @@ returns-in_default c =
 pub returns-then-l-gt7 : goal.returns-then-l-gt7
 returns-then-l-gt7 c =
     answers _ c.send-then-l-gt7.result (not-false _ c.if-not-self.false)
-    (known_above c.in-Piece.is c.if-l-gt7.true) refl
+    (known_above c.in-Some.is c.if-l-gt7.true) refl
     c.first-then-l-gt7.ensures.0 c.send-then-l-gt7.ensures
 
 pub returns : goal.returns
 returns c =
     answers _ c.send-2.result (not-false _ c.if-not-self.false)
-    (known_within c.in-Piece.is c.if-l-gt7.false)
+    (known_within c.in-Some.is c.if-l-gt7.false)
     c.moved_on.ensures c.after.ensures.0 c.send-2.ensures

@@ -6,8 +6,8 @@ use Rattle.universal.proofs.message.Universal.open.Goals as goal
 pub returns-then-device_id-gt127 : goal.returns-then-device_id-gt127
 returns-then-device_id-gt127 c = device_against _ _ (omega arith)
 
-pub returns-in-NoSubId2 : goal.returns-in-NoSubId2
-returns-in-NoSubId2 c = put_of _ _ _ _ _ c.in-NoSubId2.is c.open_family.ensures
+pub returns-in-None : goal.returns-in-None
+returns-in-None c = put_of _ _ _ _ _ c.in-None.is c.open_family.ensures
 
-pub returns-in-SubId2 : goal.returns-in-SubId2
-returns-in-SubId2 c = put_of _ _ _ _ _ c.in-SubId2.is c.open_with_sub_id2.ensures
+pub returns-in-Some : goal.returns-in-Some
+returns-in-Some c = put_of _ _ _ _ _ c.in-Some.is c.open_with_sub_id2.ensures

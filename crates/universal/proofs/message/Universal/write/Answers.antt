@@ -14,9 +14,9 @@ pub overflow_add-at : goal.overflow_add-at
 overflow_add-at c =
     omega (arith, at_most_five _ _ _ _ (put_opened _ _ c.in-At.is c.«open».ensures))
 
-pub returns-in-Refused : goal.returns-in-Refused
-returns-in-Refused c =
-    message_stops _ _ _ _ _ (put_opened _ _ c.in-Refused.is c.«open».ensures)
+pub returns-in-Err : goal.returns-in-Err
+returns-in-Err c =
+    message_stops _ _ _ _ _ (put_opened _ _ c.in-Err.is c.«open».ensures)
 
 pub returns-else-not-all_low : goal.returns-else-not-all_low
 returns-else-not-all_low c =
