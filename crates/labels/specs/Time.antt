@@ -1,11 +1,10 @@
 -- What mtc.rs does with labels, on every input: one definition for each public call of src/time.rt. Assumes nothing.
-use Rattle.universal.specs.declared.error.SysexError.{SysexError}
-use Rattle.std.specs.Prelude.{ℕ, ◌+◌, ◌-◌, ◌*◌, ◌/◌, ◌%◌, ◌≤◌, ◌<◌, ◌≡◌, false, cond, ℤ, pos, negsuc, eqb, Result}
+use Rattle.std.specs.Prelude.{ℕ, ◌+◌, ◌-◌, ◌*◌, ◌/◌, ◌%◌, ◌≤◌, ◌<◌, ◌≡◌, false, cond, ℤ, pos, negsuc, eqb}
 use Rattle.labels.specs.St12.{label, frames_per_second, is_skipped, is_valid, past_skipped}
 use Rattle.labels.specs.declared.time.MtcTime.{MtcTime}
 use Rattle.labels.specs.declared.time.TimeCodeType.{TimeCodeType}
 use Rattle.labels.specs.declared.time.TimeCodeType.TheVariants.{Fps24, Fps25, Fps30Drop, Fps30}
-use Rattle.universal.specs.Refusals.{Answer, gives, refused, refusal, refusal_of, answer_of}
+use Rattle.universal.specs.Refusals.{Answer, gives, refused, refusal}
 
 -- ---- the rate's two bits
 
@@ -24,11 +23,7 @@ type_of byte = rate_at (byte % 4)
 
 -- ---- making a label
 
--- The label, or the refusal.
-abbrev pub answer_of : Result MtcTime SysexError → Answer MtcTime
-answer_of (Valid t) = gives t
-answer_of (Refused e) = refused (refusal_of e)
-
+-- The label, or refusal 3.
 abbrev pub new_time : MtcTime → Answer MtcTime
 new_time t = cond (is_valid t) (gives t) (refused (refusal 3))
 

@@ -22,7 +22,7 @@ const DAY_DROP: u32 = 24 * 6 * DROP_10_MINUTES;
 const DAY_30: u32 = 86_400 * 30;
 
 // The rate: the two bits of the hours byte (RP-004/008, p. 2).
-#[derive(Clone, Copy)]
+#[derive(Clone, Copy, PartialEq, Eq)]
 pub enum TimeCodeType {
     // 0: 24 frames per second.
     Fps24,
@@ -51,8 +51,7 @@ impl TimeCodeType {
     pub fn from_bits(value: u8) -> Self
         ensures { result ≡ type_of value }
     {
-        let bits = value % 4;
-        match bits {
+        match value % 4 {
             0 => TimeCodeType::Fps24,
             1 => TimeCodeType::Fps25,
             2 => TimeCodeType::Fps30Drop,
@@ -75,12 +74,7 @@ impl TimeCodeType {
     fn is_drop_frame(self) -> bool
         ensures { result ≡ is_drop_frame self }
     {
-        match self {
-            TimeCodeType::Fps24 => false,
-            TimeCodeType::Fps25 => false,
-            TimeCodeType::Fps30Drop => true,
-            TimeCodeType::Fps30 => false,
-        }
+        self == TimeCodeType::Fps30Drop
     }
 
     // The frames of 24 hours.
@@ -97,7 +91,7 @@ impl TimeCodeType {
 }
 
 // A label. A reader gives the counts as received, masked to their widths.
-#[derive(Clone, Copy)]
+#[derive(Clone, Copy, PartialEq, Eq)]
 pub struct MtcTime {
     pub hours: u8,
     pub minutes: u8,
@@ -138,10 +132,8 @@ fn with_skipped(n: u32, rate: TimeCodeType) -> u32
     ensures { result ≡ with_skipped rate n }
 {
     match rate {
-        TimeCodeType::Fps24 => n,
-        TimeCodeType::Fps25 => n,
         TimeCodeType::Fps30Drop => drop_with_skipped(n),
-        TimeCodeType::Fps30 => n,
+        _ => n,
     }
 }
 
@@ -159,21 +151,22 @@ fn drop_with_skipped(n: u32) -> u32
 }
 
 // The start of a minute at which drop-frame skips a frame number.
+#[tactic(auto, unfolding(crate::specs::St12::is_skipped))]
 fn starts_dropped(minutes: u8, seconds: u8, frames: u8) -> bool
     ensures { result ≡ is_skipped (label TimeCodeType.Fps30Drop 0 minutes seconds frames) }
 {
-    if seconds != 0 {
-        return false;
-    }
-    if frames >= 2 {
-        return false;
-    }
-    minutes % 10 != 0
+    seconds == 0 && frames < 2 && minutes % 10 != 0
 }
 
 impl MtcTime {
     // The label, or refusal 3 for one that is not valid.
-    pub fn new(hours: u8, minutes: u8, seconds: u8, frames: u8, rate: TimeCodeType) -> Result<MtcTime, SysexError>
+    pub fn new(
+        hours: u8,
+        minutes: u8,
+        seconds: u8,
+        frames: u8,
+        rate: TimeCodeType,
+    ) -> Result<MtcTime, SysexError>
         ensures { answer_of result ≡ new_time (label rate hours minutes seconds frames) }
     {
         let t = MtcTime {
@@ -190,36 +183,23 @@ impl MtcTime {
     }
 
     // True when each count is in its range and the frame number is not skipped.
+    #[tactic(auto, unfolding(crate::specs::St12::is_valid))]
     pub fn is_valid(self) -> bool
         ensures { result ≡ is_valid self }
     {
-        let rate = self.rate;
-        if self.hours > 23 {
-            return false;
-        }
-        if self.minutes > 59 {
-            return false;
-        }
-        if self.seconds > 59 {
-            return false;
-        }
-        if self.frames >= rate.frames_per_second() {
-            return false;
-        }
-        !self.skipped()
+        self.hours <= 23
+            && self.minutes <= 59
+            && self.seconds <= 59
+            && self.frames < self.rate.frames_per_second()
+            && !self.skipped()
     }
 
     // A frame number 00 or 01 at the start of a minute that drop-frame skips.
+    #[tactic(auto, unfolding(crate::specs::St12::is_skipped))]
     fn skipped(self) -> bool
         ensures { result ≡ is_skipped self }
     {
-        let rate = self.rate;
-        match rate {
-            TimeCodeType::Fps24 => false,
-            TimeCodeType::Fps25 => false,
-            TimeCodeType::Fps30Drop => starts_dropped(self.minutes, self.seconds, self.frames),
-            TimeCodeType::Fps30 => false,
-        }
+        self.rate.is_drop_frame() && starts_dropped(self.minutes, self.seconds, self.frames)
     }
 
     // A skipped label with frames 02, or the label itself (RP-013, Drop Frame Notes).
@@ -227,9 +207,7 @@ impl MtcTime {
         ensures { result ≡ next_valid self }
     {
         if self.skipped() {
-            let mut t = self;
-            t.frames = 2;
-            return t;
+            return MtcTime { frames: 2, ..self };
         }
         self
     }

@@ -5,7 +5,6 @@ pub mod Clauses
 mod Emissions
 mod Families
 pub mod Laws
-mod LowBytes
 mod MessageFields
 mod Messages
 mod Openings

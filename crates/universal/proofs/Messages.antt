@@ -16,8 +16,13 @@ use Rattle.universal.proofs.Laws.{length_overlay, overlay_then, answer_refused, 
 use Rattle.universal.proofs.Openings.{Put}
 
 -- What a call owes that put a whole message at the buffer's start: its answer, and the buffer.
-abbrev pub Result ℕ SysexError : Emission → Answer ℕ → List ℕ → List ℕ → Type 0
-Result ℕ SysexError e r before after = record { result_value : r ≡ answer e (length before); out_after : after ≡ overlay before 0 e.bytes }
+abbrev pub Written : Emission → Answer ℕ → List ℕ → List ℕ → Type 0
+Written e r before after = record { result_value : r ≡ answer e (length before); out_after : after ≡ overlay before 0 e.bytes }
+
+-- An answer that is the same owes the same.
+pub written_as : {q r : Result ℕ SysexError} (e : Emission) (before : List ℕ) {after : List ℕ} → q ≡ r → Written e (answer_of r) before after
+    → Written e (answer_of q) before after
+written_as e before p h = record { result_value = ap answer_of p ∙ h.result_value; out_after = h.out_after }
 
 -- An opening whose answer is known.
 pub put_opened : {q r : Result ℕ SysexError} {after : List ℕ} (e : Emission) (before : List ℕ) → q ≡ r → Put e (answer_of q) before after
@@ -26,7 +31,7 @@ put_opened e before p h = record { result_value = sym (ap answer_of p) ∙ h.res
 
 -- A message that was refused.
 written_refused : (e d : Emission) (r : Refusal) (before after : List ℕ) → e ≡ d → d.stop ≡ Some r → after ≡ overlay before 0 d.bytes
-    → Result ℕ SysexError e (refused r) before after
+    → Written e (refused r) before after
 written_refused e d r before after p s h = record {
   result_value = sym (answer_refused e (length before) r (ap (λ (k : Emission). k.stop) p ∙ s));
   out_after = h ∙ ap (λ (k : Emission). overlay before 0 k.bytes) (sym p);
@@ -40,14 +45,14 @@ at_most_five u out opened at h =
 
 module _ (u : Universal) (bs out opened : List ℕ) where
   -- The opening was refused.
-  pub message_stops : (r : Refusal) → Put (opening u) (refused r) out opened → Result ℕ SysexError (message u bs) (refused r) out opened
+  pub message_stops : (r : Refusal) → Put (opening u) (refused r) out opened → Written (message u bs) (refused r) out opened
   message_stops r h =
       let s : (opening u).stop ≡ Some r = reached_refused (opening u) r (sym h.result_value) in
       written_refused (message u bs) (opening u) r out opened (message_refused u bs r s) s h.out_after
 
   module _ (at : ℕ) (h : Put (opening u) (gives at) out opened) where
     -- The data was refused.
-    pub data_stops : all_low bs ≡ false → Result ℕ SysexError (message u bs) (refused (refusal 1)) out opened
+    pub data_stops : all_low bs ≡ false → Written (message u bs) (refused (refusal 1)) out opened
     data_stops l =
         written_refused (message u bs) _ (refusal 1) out opened
         (message_data u bs (reached_gives (opening u) at (sym h.result_value)).0 l) refl h.out_after
@@ -55,7 +60,7 @@ module _ (u : Universal) (bs out opened : List ℕ) where
     -- The data was put, and the message closed.
     pub message_ends : (filled after : List ℕ) (r : Answer ℕ) → all_low bs ≡ true → filled ≡ overlay opened at bs
         → r ≡ closing (at + length bs) (length filled) → after ≡ overlay filled (at + length bs) (247 ∷ [])
-        → length bs < 9223372036854775808 → Result ℕ SysexError (message u bs) r out after
+        → length bs < 9223372036854775808 → Written (message u bs) r out after
     message_ends filled after r l f c a most =
         let o = reached_gives (opening u) at (sym h.result_value) in
         let start : List ℕ = (opening u).bytes in

@@ -1,25 +1,13 @@
 -- What universal.rs does with Universal System Exclusive messages: the opening bytes, the data and the close, each with its check and
 -- its refusal. Which messages there are is said in Midi1.antt. Assumes nothing.
-use Rattle.universal.specs.declared.error.SysexError.{SysexError}
-use Rattle.std.specs.Prelude.{ℕ, ◌+◌, min, Bool, true, ◌&&◌, List, [], ◌∷◌, leb, Option, Some, None, Result}
+use Rattle.std.specs.Prelude.{ℕ, ◌+◌, min, Bool, List, [], ◌∷◌, leb, Option, Some, None}
 use Rattle.std.specs.Bool.{beq}
-use Rattle.universal.specs.Refusals.{Answer, gives, refused, refusal_of, answer_of}
+use Rattle.std.specs.List.{list_all}
+use Rattle.universal.specs.Refusals.{Answer}
 use Rattle.universal.specs.Emission.{Emission, sent, check, ◌then◌, fitted}
 -- The parts that MIDI 1.0 names.
 pub use Rattle.universal.specs.Midi1.{is_addressed, has_sub_id2, sub_id2_given, class_id}
 use Rattle.universal.specs.declared.message.Universal.{Universal}
-
--- ---- the answers, in the paper's numbers
-
--- The position after the opening bytes, or the refusal.
-abbrev pub answer_of : Result ℕ SysexError → Answer ℕ
-answer_of (O.At n) = gives n
-answer_of (O.Refused e) = refused (refusal_of e)
-
--- The message's length, or the refusal.
-abbrev pub answer_of : Result ℕ SysexError → Answer ℕ
-answer_of (W.Length n) = gives n
-answer_of (W.Refused e) = refused (refusal_of e)
 
 -- ---- the parts of a message
 
@@ -34,8 +22,7 @@ sub_id2_value (Some s) = value s
 
 -- Each byte is at most 7FH.
 unfoldable pub all_low : List ℕ → Bool
-all_low [] = true
-all_low (b ∷ bs) = leb b 127 && all_low bs
+all_low bs = list_all (λ b. leb b 127) bs
 
 -- Data bytes: 1 for one above 7FH, before any goes out.
 unfoldable pub data_emission : List ℕ → Emission

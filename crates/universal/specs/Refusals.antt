@@ -1,6 +1,6 @@
 -- The refusals by document 01's numbers ("Turned back by the input", "Turned back by the state"), and answers that may be
 -- a refusal. Contracts and reference definitions speak in these numbers. Assumes nothing.
-use Rattle.std.specs.Prelude.{ℕ, cond, List, [], ◌∷◌, eqb}
+use Rattle.std.specs.Prelude.{ℕ, cond, List, [], ◌∷◌, eqb, Result, Ok, Err}
 use Rattle.universal.specs.declared.error.SysexError.{SysexError}
 use Rattle.universal.specs.declared.error.SysexError.TheVariants.{DataByte, Length, OutOfRange, BufferTooSmall, Device, Source, Target, Stopped, End, ItemLimit}
 
@@ -53,3 +53,8 @@ error_of n needed =
 pub data Answer (A : Type 0) : Type 0 where
   gives : A → Answer A
   refused : Refusal → Answer A
+
+-- What a call answers, in the paper's numbers.
+abbrev pub answer_of : {A : Type 0} → Result A SysexError → Answer A
+answer_of (Ok a) = gives a
+answer_of (Err e) = refused (refusal_of e)

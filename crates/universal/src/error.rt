@@ -52,16 +52,8 @@ impl SysexError {
         ensures { result ≡ needed_of (refusal_of self) }
     {
         match self {
-            SysexError::DataByte => 0,
-            SysexError::Length => 0,
-            SysexError::OutOfRange => 0,
             SysexError::BufferTooSmall { needed } => needed,
-            SysexError::Device => 0,
-            SysexError::Source => 0,
-            SysexError::Target => 0,
-            SysexError::Stopped => 0,
-            SysexError::End => 0,
-            SysexError::ItemLimit => 0,
+            _ => 0,
         }
     }
 

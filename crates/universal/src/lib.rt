@@ -6,7 +6,5 @@ mod message;
 mod out;
 
 pub use error::SysexError;
-pub use message::{
-    ALL_DEVICES, Universal, addressed, all_low, close, has_sub_id2,
-};
+pub use message::{ALL_DEVICES, Universal, addressed, all_low, close, has_sub_id2};
 pub use out::{put, put_part};

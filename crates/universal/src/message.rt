@@ -36,10 +36,7 @@ pub struct Universal {
 pub fn addressed(device_id: u8, own: u8) -> bool
     ensures { result ≡ is_addressed device_id own }
 {
-    if device_id == ALL_DEVICES {
-        return true;
-    }
-    device_id == own
+    device_id == ALL_DEVICES || device_id == own
 }
 
 // True for the families that carry a sub-ID 2.
@@ -75,21 +72,20 @@ fn put_start(out: &mut [u8], real_time: bool, device_id: u8)
 }
 
 // True when each byte is at most 7FH.
+#[tactic(auto, unfolding(crate::specs::Message::all_low))]
 pub fn all_low(bytes: &[u8]) -> bool
     ensures { result ≡ all_low bytes.now }
 {
-    let mut i = 0;
-    while i < bytes.len() {
-        if bytes[i] > 0x7F {
-            return false;
-        }
-        i += 1;
-    }
-    true
+    bytes.iter().all(|&byte| byte <= 0x7F)
 }
 
 // The opening of a family that carries no sub-ID 2.
-fn open_family(out: &mut [u8], real_time: bool, device_id: u8, sub_id1: u8) -> Result<usize, SysexError>
+fn open_family(
+    out: &mut [u8],
+    real_time: bool,
+    device_id: u8,
+    sub_id1: u8,
+) -> Result<usize, SysexError>
     requires { device_id < 128 }
     ensures result_value { answer_of result ≡ reached (opening (header real_time device_id sub_id1 None)) }
     ensures out_after { out.new ≡ overlay out.old 0 (opening (header real_time device_id sub_id1 None)).bytes }
@@ -171,15 +167,11 @@ impl Universal {
         ensures result_value { answer_of result ≡ answer (message self «data».now) (length out.old) }
         ensures out_after { out.new ≡ overlay out.old 0 (message self «data».now).bytes }
     {
-        match self.open(out) {
-            Err(e) => Err(e),
-            Ok(at) => {
-                if !all_low(data) {
-                    return Err(SysexError::DataByte);
-                }
-                put_part(out, at, data);
-                close(out, at + data.len())
-            }
+        let at = self.open(out)?;
+        if !all_low(data) {
+            return Err(SysexError::DataByte);
         }
+        put_part(out, at, data);
+        close(out, at + data.len())
     }
 }

@@ -20,13 +20,6 @@ pub fn put_part(out: &mut [u8], at: usize, bytes: &[u8])
         return;
     }
     let room = out.len() - at;
-    let mut end = bytes.len();
-    if room < end {
-        end = room;
-    }
-    let mut i = 0;
-    while i < end {
-        out[at + i] = bytes[i];
-        i += 1;
-    }
+    let end = bytes.len().min(room);
+    out[at..at + end].copy_from_slice(&bytes[..end]);
 }
