@@ -1,13 +1,9 @@
 -- `universal::message::open_with_sub_id2` meets its contract, by the outcome of each test. Assumes nothing.
-use Rattle.universal.proofs.Openings.{with_against, with_high, with_high_sub_id2, with_whole}
+use Rattle.universal.proofs.Openings.{with_against, with_high_sub_id2, with_whole}
 use Rattle.universal.proofs.message.open_with_sub_id2.Goals as goal
 
 pub returns-then-not-has_sub_id2 : goal.returns-then-not-has_sub_id2
 returns-then-not-has_sub_id2 c = with_against _ _ _ c.requires _ c.has_sub_id2.ensures _ _ c.if-not-has_sub_id2.true
-
-pub returns-then-sub_id1-gt127 : goal.returns-then-sub_id1-gt127
-returns-then-sub_id1-gt127 c =
-    with_high _ _ _ c.requires _ c.has_sub_id2.ensures _ _ c.put_start.ensures _ c.if-not-has_sub_id2.false c.if-sub_id1-gt127.true
 
 pub returns-then-sub_id2-gt127 : goal.returns-then-sub_id2-gt127
 returns-then-sub_id2-gt127 c =

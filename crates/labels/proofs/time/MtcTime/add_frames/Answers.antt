@@ -1,11 +1,8 @@
 -- `labels::time::MtcTime::add_frames` meets its contract. Assumes nothing.
-use Rattle.labels.proofs.Rates.{day_positive, sum_fits, moved_at}
+use Rattle.labels.proofs.Rates.{sum_fits, moved_at}
 use mathlib.Core.Path.{◌∙◌}
 use Rattle.labels.proofs.Distance.{passed_mod}
 use Rattle.labels.proofs.time.MtcTime.add_frames.Goals as goal
-
-pub reduced-step-requires : goal.reduced-step-requires
-reduced-step-requires c = rw c.day.ensures (day_positive c.args.self.rate)
 
 pub overflow_add-to_frame_count : goal.overflow_add-to_frame_count
 overflow_add-to_frame_count c =
