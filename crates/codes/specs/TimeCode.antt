@@ -1,6 +1,5 @@
 -- What mmc.rs does with time code fields, on every input: five bytes or two, read and written. Assumes nothing.
-use Rattle.universal.specs.declared.error.SysexError.{SysexError}
-use Rattle.std.specs.Prelude.{ℕ, ◌+◌, ◌-◌, ◌*◌, ◌/◌, ◌%◌, Bool, true, false, cond, ◌&&◌, List, [], ◌∷◌, leb, eqb, get_or, Option, Some, None, Result, ⊤}
+use Rattle.std.specs.Prelude.{ℕ, ◌+◌, ◌-◌, ◌*◌, ◌/◌, ◌%◌, Bool, true, false, cond, ◌&&◌, List, [], ◌∷◌, leb, eqb, get_or, Option, Some, None}
 use Rattle.codes.specs.declared.time_code.TimeCodeStatus.{TimeCodeStatus}
 use Rattle.codes.specs.declared.time_code.FinalByte.{FinalByte}
 use Rattle.codes.specs.declared.time_code.FinalByte.TheVariants.{Subframes, Status}
@@ -9,7 +8,7 @@ use Rattle.codes.specs.declared.time_code.ShortTimeCode.{ShortTimeCode}
 use Rattle.labels.specs.St12.{is_valid, label}
 use Rattle.labels.specs.Time.{hours_byte, raw_time}
 use Rattle.labels.specs.declared.time.MtcTime.{MtcTime}
-use Rattle.universal.specs.Refusals.{Answer, gives, refused, refusal, refusal_of, answer_of}
+use Rattle.universal.specs.Refusals.{Answer, gives, refused, refusal}
 
 -- ---- bits
 
@@ -95,10 +94,6 @@ standard_list c =
 abbrev pub standard_bytes : StandardTimeCode → Answer (List ℕ)
 standard_bytes c = cond (standard_fits c) (gives (standard_list c)) (refused (refusal 3))
 
--- The bytes that come back with the answer: zeros on a refusal.
-abbrev pub standard_left : StandardTimeCode → List ℕ
-standard_left c = cond (standard_fits c) (standard_list c) (0 ∷ 0 ∷ 0 ∷ 0 ∷ 0 ∷ [])
-
 -- ---- two bytes
 
 -- The frames are masked to their width.
@@ -116,25 +111,6 @@ short_list c = frames_byte c.final_byte c.negative c.frames ∷ final_value c.fi
 -- The bytes, or 3.
 abbrev pub short_bytes : ShortTimeCode → Answer (List ℕ)
 short_bytes c = cond (short_fits c) (gives (short_list c)) (refused (refusal 3))
-
--- The bytes that come back with the answer: zeros on a refusal.
-abbrev pub short_left : ShortTimeCode → List ℕ
-short_left c = cond (short_fits c) (short_list c) (0 ∷ 0 ∷ [])
-
--- ---- the answers, in the paper's numbers
-
--- What a check lets through, or its refusal.
-abbrev pub checked_of : {A : Type 0} → Result ⊤ SysexError → A → Answer A
-checked_of Accepted a = gives a
-checked_of (Refused e) a = refused (refusal_of e)
-
--- The five bytes, or the refusal.
-abbrev pub answer_of : StandardBytes → Answer (List ℕ)
-answer_of r = checked_of r.checked r.bytes
-
--- The two bytes, or the refusal.
-abbrev pub answer_of : ShortBytes → Answer (List ℕ)
-answer_of r = checked_of r.checked r.bytes
 
 -- ---- forms
 

@@ -4,6 +4,5 @@
 mod time_code;
 
 pub use time_code::{
-    FinalByte, ShortTimeCode, StandardTimeCode,
-    TimeCodeStatus, full_name, short_name,
+    FinalByte, ShortTimeCode, StandardTimeCode, TimeCodeStatus, full_name, short_name,
 };

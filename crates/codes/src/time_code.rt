@@ -2,7 +2,7 @@
 // A reader keeps the raw counts and ignores the reserved bits; a writer refuses a value out of range and writes them as 0.
 ghost use Rattle.universal.specs.Refusals.{answer_of};
 ghost use Rattle.std.specs.Prelude.{◌≤◌, ◌<◌, ◌≡◌, get_or};
-ghost use Rattle.codes.specs.TimeCode.{bit, flag, read_status, status_byte, read_final, final_fits, final_mark, frames_byte, final_value, read_standard, read_short, standard_bytes, short_bytes, standard_left, short_left, written_label, short_form, with_short, with_final, subframes_form, status_form, short_name_of, full_name};
+ghost use Rattle.codes.specs.TimeCode.{bit, flag, read_status, status_byte, read_final, final_fits, final_mark, frames_byte, final_value, read_standard, read_short, standard_bytes, short_bytes, written_label, short_form, with_short, with_final, subframes_form, status_form, short_name_of, full_name};
 
 use labels::MtcTime;
 use universal::SysexError;
@@ -162,21 +162,17 @@ impl FinalByte {
 
 impl StandardTimeCode {
     // Reads the five bytes; each count is masked to its width.
+    #[tactic(auto, unfolding(crate::specs::TimeCode::read_standard))]
     pub fn from_bytes(bytes: [u8; 5]) -> Self
         ensures { result ≡ read_standard (get_or bytes 0 0) (get_or bytes 1 0) (get_or bytes 2 0) (get_or bytes 3 0) (get_or bytes 4 0) }
     {
-        let hr = bytes[0];
-        let mn = bytes[1];
-        let sc = bytes[2];
-        let fr = bytes[3];
-        let time = MtcTime::raw(hr, mn, sc, fr);
-        let final_byte = FinalByte::read(fr, bytes[4]);
+        let [hr, mn, sc, fr, ff] = bytes;
         StandardTimeCode {
-            time,
+            time: MtcTime::raw(hr, mn, sc, fr),
             color_frame: mn / 64 % 2 == 1,
             blank: sc / 64 % 2 == 1,
             negative: sign(fr),
-            final_byte,
+            final_byte: FinalByte::read(fr, ff),
         }
     }
 
@@ -184,58 +180,45 @@ impl StandardTimeCode {
     fn written_label(self) -> MtcTime
         ensures { result ≡ written_label self }
     {
-        let time = self.time;
-        let rate = time.rate;
         if self.blank {
             return MtcTime {
                 hours: 0,
                 minutes: 0,
                 seconds: 0,
                 frames: 0,
-                rate,
+                rate: self.time.rate,
             };
         }
-        time
+        self.time
     }
 
     // The five bytes; refusal 3 for subframes above 99, or for a label that is neither blank nor valid.
+    #[tactic(auto, unfolding(crate::specs::TimeCode::standard_fits, crate::specs::TimeCode::standard_list))]
     pub fn to_bytes(self) -> Result<[u8; 5], SysexError>
-        ensures result_value { answer_of result ≡ standard_bytes self }
-        ensures bytes_value { result.bytes ≡ standard_left self }
+        ensures { answer_of result ≡ standard_bytes self }
     {
         let last = self.final_byte;
         if !last.fits() {
-            return Result<[u8; 5], SysexError> {
-                checked: Err(SysexError::OutOfRange),
-                bytes: [0, 0, 0, 0, 0],
-            };
+            return Err(SysexError::OutOfRange);
         }
         let t = self.written_label();
         if !t.is_valid() {
-            return Result<[u8; 5], SysexError> {
-                checked: Err(SysexError::OutOfRange),
-                bytes: [0, 0, 0, 0, 0],
-            };
+            return Err(SysexError::OutOfRange);
         }
         let mn = flag_of(64, self.color_frame) + t.minutes;
         let sc = flag_of(64, self.blank) + t.seconds;
         let fr = last.frames_byte(self.negative, t.frames);
-        Result<[u8; 5], SysexError> {
-            checked: Ok(()),
-            bytes: [t.hours_byte(), mn, sc, fr, last.value()],
-        }
+        Ok([t.hours_byte(), mn, sc, fr, last.value()])
     }
 
     // The short form: the frames, the sign and the last byte.
     pub fn short(self) -> ShortTimeCode
         ensures { result ≡ short_form self }
     {
-        let time = self.time;
-        let final_byte = self.final_byte;
         ShortTimeCode {
-            frames: time.frames,
+            frames: self.time.frames,
             negative: self.negative,
-            final_byte,
+            final_byte: self.final_byte,
         }
     }
 
@@ -243,15 +226,15 @@ impl StandardTimeCode {
     pub fn with_short(self, short: ShortTimeCode) -> Self
         ensures { result ≡ with_short self short }
     {
-        let mut time = self.time;
-        time.frames = short.frames;
-        let final_byte = short.final_byte;
+        let time = MtcTime {
+            frames: short.frames,
+            ..self.time
+        };
         StandardTimeCode {
             time,
-            color_frame: self.color_frame,
-            blank: self.blank,
             negative: short.negative,
-            final_byte,
+            final_byte: short.final_byte,
+            ..self
         }
     }
 
@@ -259,22 +242,14 @@ impl StandardTimeCode {
     fn with_final(self, final_byte: FinalByte) -> Self
         ensures { result ≡ with_final self final_byte }
     {
-        let time = self.time;
-        StandardTimeCode {
-            time,
-            color_frame: self.color_frame,
-            blank: self.blank,
-            negative: self.negative,
-            final_byte,
-        }
+        StandardTimeCode { final_byte, ..self }
     }
 
     // The MOVE rule from status to subframes: subframes 0; subframes stay as they are (p. 32).
     pub fn to_subframes_form(self) -> Self
         ensures { result ≡ subframes_form self }
     {
-        let last = self.final_byte;
-        match last {
+        match self.final_byte {
             FinalByte::Subframes(_) => self,
             FinalByte::Status(_) => self.with_final(FinalByte::Subframes(0)),
         }
@@ -284,8 +259,7 @@ impl StandardTimeCode {
     pub fn to_status_form(self, video_field1: bool) -> Self
         ensures { result ≡ status_form self video_field1 }
     {
-        let last = self.final_byte;
-        match last {
+        match self.final_byte {
             FinalByte::Subframes(_) => self.with_final(FinalByte::Status(TimeCodeStatus {
                 estimated: false,
                 invalid: false,
@@ -299,40 +273,31 @@ impl StandardTimeCode {
 
 impl ShortTimeCode {
     // Reads the two bytes; the frames are masked to their width.
+    #[tactic(auto, unfolding(crate::specs::TimeCode::read_short))]
     pub fn from_bytes(bytes: [u8; 2]) -> Self
         ensures { result ≡ read_short (get_or bytes 0 0) (get_or bytes 1 0) }
     {
-        let fr = bytes[0];
-        let final_byte = FinalByte::read(fr, bytes[1]);
+        let [fr, ff] = bytes;
         ShortTimeCode {
             frames: fr % 32,
             negative: sign(fr),
-            final_byte,
+            final_byte: FinalByte::read(fr, ff),
         }
     }
 
     // The two bytes; refusal 3 for frames above 29 or subframes above 99.
+    #[tactic(auto, unfolding(crate::specs::TimeCode::short_fits, crate::specs::TimeCode::short_list))]
     pub fn to_bytes(self) -> Result<[u8; 2], SysexError>
-        ensures result_value { answer_of result ≡ short_bytes self }
-        ensures bytes_value { result.bytes ≡ short_left self }
+        ensures { answer_of result ≡ short_bytes self }
     {
         let last = self.final_byte;
         if self.frames > 29 {
-            return Result<[u8; 2], SysexError> {
-                checked: Err(SysexError::OutOfRange),
-                bytes: [0, 0],
-            };
+            return Err(SysexError::OutOfRange);
         }
         if !last.fits() {
-            return Result<[u8; 2], SysexError> {
-                checked: Err(SysexError::OutOfRange),
-                bytes: [0, 0],
-            };
+            return Err(SysexError::OutOfRange);
         }
         let fr = last.frames_byte(self.negative, self.frames);
-        Result<[u8; 2], SysexError> {
-            checked: Ok(()),
-            bytes: [fr, last.value()],
-        }
+        Ok([fr, last.value()])
     }
 }

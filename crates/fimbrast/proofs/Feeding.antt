@@ -1,4 +1,5 @@
 -- A list of quarter frames, byte by byte, and what its counts mean. Assumes nothing.
+use Rattle.mtc.specs.declared.reader.MtcSequence.{MtcSequence}
 use Rattle.std.specs.Prelude.{Option, Some, None}
 use Prim.Native.Nat.{ℕ, ◌+◌, ◌/◌, ◌≤◌, ◌<◌}
 use mathlib.Core.Path.{◌≡◌, refl, sym, subst, ap, ap₂, ◌∙◌}

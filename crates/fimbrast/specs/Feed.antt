@@ -1,5 +1,6 @@
 -- What a list of quarter frames leaves in a reader, and what it reports: as the code counts it, and what the counts mean. Assumes
 -- nothing.
+use Rattle.mtc.specs.declared.reader.MtcSequence.{MtcSequence}
 use Rattle.std.specs.Prelude.{ℕ, ◌+◌, ◌/◌, ◌%◌, cond, List, [], ◌∷◌, map, ◌≡◌, Option, Some, None}
 use Rattle.fast_mtc.specs.Generator.{is_set}
 use Rattle.fast_mtc.specs.Reader.{flat_report, report_in}

@@ -3,14 +3,18 @@ use Rattle.std.specs.Prelude.{Option, Some, None}
 use Prim.Native.Nat.{ℕ, zero, suc, ◌+◌, ◌≤◌, ◌<◌}
 use mathlib.Core.Bool.{Bool, true, false, not, cond, ◌&&◌}
 use mathlib.Core.List.{List, [], ◌∷◌}
-use mathlib.Core.Path.{◌≡◌, refl, sym, ◌∙◌, subst}
+use mathlib.Core.Path.{◌≡◌, refl, sym, ap, ◌∙◌, subst}
 use mathlib.Core.Logic.{⊎_elim}
-use native.Mathlib.Nat.{not-le_of_lt, eq-or-lt_of_le}
+use native.Mathlib.Nat.{eq-or-lt_of_le}
 use native.Mathlib.Numerals.{add-one}
 use native.Mathlib.Omega.{arith}
 use borrow.Author.Tests.{le-leb, lt-leb, lt-ltb, eq-eqb, ne_eqb}
 use lib.Dec.{T, leb, eqb, leb→le, le→leb}
-use lib.ListN.{get_or, set}
+use lib.ListN.{get_or, set, take, length}
+use Rattle.mtc.specs.UserBits.{all_nibbles}
+use lib.Seq.{take_all}
+use Rattle.std.specs.List.{list_all}
+use Rattle.std.proofs.lemmas.List.Folds.{list_all_more}
 use Rattle.mtc.specs.Generator.{first, after, sequence_frames}
 use Rattle.mtc.specs.QuarterFrame.{from_byte}
 use Rattle.mtc.specs.Reader.{Standing, nibbles_fit, piece_fits, is_sound, or_fresh, fresh, Control, control, direction_between, ordered, out_of_order, order_of, starts, number_of, passed, stored, completed, sequence_of, reader_by_number, report_by_number, event_with, raw_of, direction_of, sequence_of_label, same_time, jumps, after_piece, report_of, after_byte, event_of}
@@ -66,18 +70,20 @@ fit_set (suc k) n i v h e =
     (fit_set k n i v (both_l (nibbles_fit k n) (leb (get_or n k 0) 15) h) e)
     (le→leb _ 15 (small_set n i v k e (leb→le _ 15 (both_r (nibbles_fit k n) (leb (get_or n k 0) 15) h))))
 
-module _ (n : List ℕ) (k : ℕ) where
-  pub fit_next : nibbles_fit k n ≡ true → get_or n k 0 ≤ 15 → nibbles_fit (k + 1) n ≡ true
-  unfolding nibbles_fit
-  fit_next e h = rw (add-one, e, le-leb _ _ h)
+-- The first so many fit where each of them does.
+fit_first : (k : ℕ) (n : List ℕ) → k ≤ length n → list_all (λ v. leb v 15) (take k n) ≡ nibbles_fit k n
+unfolding nibbles_fit
+fit_first zero n h = refl
+fit_first (suc k) n h =
+    ap (λ (j : ℕ). list_all (λ v. leb v 15) (take j n)) (sym (add-one k))
+    ∙ list_all_more (λ v. leb v 15) n k 0 (omega arith)
+    ∙ ap (λ (t : Bool). t && leb (get_or n k 0) 15) (fit_first k n (omega arith))
 
-  -- One nibble above 15 is enough.
-  pub fit_not : {m : ℕ} → k < m → 15 < get_or n k 0 → false ≡ nibbles_fit m n
-  fit_not {m} l h = go (nibbles_fit m n) refl
-    where
-      go : (b : Bool) → nibbles_fit m n ≡ b → false ≡ b
-      go false e = refl
-      go true e = absurd (not-le_of_lt h (nibble_small n m k l (rw e tt)))
+-- All of eight are the first eight.
+pub fit_all : (n : List ℕ) → length n ≡ 8 → all_nibbles n ≡ nibbles_fit 8 n
+unfolding all_nibbles
+fit_all n h =
+    ap (λ (l : List ℕ). list_all (λ v. leb v 15) l) (sym (take_all 8 n (omega arith))) ∙ fit_first 8 n (omega arith)
 
 -- ---- sound records
 

@@ -1,9 +1,8 @@
 -- What mtc.rs does with full messages, on every input: one definition for each public call of src/full_message.rt.
 -- Assumes nothing.
-use Rattle.universal.specs.declared.error.SysexError.{SysexError}
-use Rattle.std.specs.Prelude.{ℕ, List, [], ◌∷◌, eqb, length, get_or, Option, Some, None, Result}
+use Rattle.std.specs.Prelude.{ℕ, List, [], ◌∷◌, eqb, length, get_or, Option}
 use Rattle.universal.specs.Emission.{Emission}
-use Rattle.universal.specs.Refusals.{Answer, gives, refused, refusal_of, answer_of}
+use Rattle.universal.specs.Refusals.{Answer}
 use Rattle.universal.specs.declared.message.Universal.{Universal}
 use Rattle.labels.specs.St12.{is_valid}
 use Rattle.labels.specs.Time.{raw_time, hours_byte}
@@ -12,12 +11,6 @@ use Rattle.mtc.specs.declared.full_message.FullMessage.{FullMessage}
 use Rattle.labels.specs.declared.time.MtcTime.{MtcTime}
 
 -- ---- reading
-
--- The message, "not this" (none), or the refusal.
-abbrev pub answer_of : Result (Option FullMessage) SysexError → Answer (Option FullMessage)
-answer_of (Message m) = gives (Some m)
-answer_of NotThis = gives None
-answer_of (Refused e) = refused (refusal_of e)
 
 -- A full message of a device and a label.
 abbrev pub full_message : ℕ → MtcTime → FullMessage

@@ -1,13 +1,12 @@
 -- What mtc.rs's generator does, on every record: one definition for each public call of src/generator.rt. Assumes nothing.
-use Rattle.universal.specs.declared.error.SysexError.{SysexError}
-use Rattle.std.specs.Prelude.{ℕ, ◌+◌, ◌%◌, Bool, true, cond, List, [], ◌∷◌, leb, eqb, ℤ, pos, negsuc, get_or, Option, Some, None, Result}
+use Rattle.std.specs.Prelude.{ℕ, ◌+◌, ◌%◌, Bool, true, cond, List, [], ◌∷◌, leb, eqb, ℤ, pos, negsuc, get_or, Option, Some, None}
 use Rattle.mtc.specs.QuarterFrame.{pieces}
 use Rattle.labels.specs.Time.{add_frames}
 use Rattle.labels.specs.declared.time.MtcTime.{MtcTime}
 use Rattle.mtc.specs.declared.generator.Direction.{Direction}
 use Rattle.mtc.specs.declared.generator.Direction.TheVariants.{Forward, Reverse}
 use Rattle.mtc.specs.declared.generator.MtcGenerator.{MtcGenerator}
-use Rattle.universal.specs.Refusals.{Answer, gives, refused, refusal, refusal_of, answer_of}
+use Rattle.universal.specs.Refusals.{Answer, gives, refused, refusal}
 
 -- ---- the order of pieces
 
@@ -51,11 +50,6 @@ time_next d None t = t
 time_next d (Some l) t = moved d l t
 
 -- ---- the next byte
-
--- The byte, or the refusal.
-abbrev pub answer_of : Result ℕ SysexError → Answer ℕ
-answer_of (Byte b) = gives b
-answer_of (Refused e) = refused (refusal_of e)
 
 -- A running generator that has just sent a piece.
 abbrev pub sent_at : MtcTime → Direction → ℕ → MtcGenerator

@@ -1,6 +1,7 @@
 -- Demand 3's claim on quarter frames, as document 01 reads it ("Sequence"): a reader that got any list of calls from fresh on,
 -- then the twenty-four bytes of a generator that was located at a valid time and set running in a direction. The lists are
 -- folded with the definitions in the contracts of the calls. Assumes nothing.
+use Rattle.mtc.specs.declared.reader.MtcSequence.{MtcSequence}
 use Rattle.std.specs.Prelude.{ℕ, zero, suc, Bool, true, false, List, [], ◌∷◌, ◌++◌, map, reverse, ◌⊎◌, ◌≢◌, ◌≡◌, T, ℤ, pos, neg_ℤ, length, take, get_or, replicate, Option, Some, None}
 use Rattle.mtc.specs.Generator.{next_byte, after_next_byte, located, with_direction, with_running}
 use Rattle.mtc.specs.QuarterFrame.{piece_of, pieces}

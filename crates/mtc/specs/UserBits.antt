@@ -1,8 +1,8 @@
 -- What mtc.rs does with user bits, on every input: one definition for each public call of src/user_bits.rt. Assumes nothing.
-use Rattle.universal.specs.declared.error.SysexError.{SysexError}
-use Rattle.std.specs.Prelude.{ℕ, ◌+◌, ◌*◌, ◌/◌, ◌%◌, Bool, true, ◌&&◌, List, [], ◌∷◌, ◌++◌, leb, eqb, length, get_or, Option, Some, None, Result}
+use Rattle.std.specs.Prelude.{ℕ, ◌+◌, ◌*◌, ◌/◌, ◌%◌, Bool, ◌&&◌, List, [], ◌∷◌, ◌++◌, leb, eqb, length, get_or, Option}
+use Rattle.std.specs.List.{list_all}
 use Rattle.universal.specs.Emission.{Emission}
-use Rattle.universal.specs.Refusals.{Answer, gives, refused, refusal_of, answer_of}
+use Rattle.universal.specs.Refusals.{Answer}
 use Rattle.universal.specs.declared.message.Universal.{Universal}
 use Rattle.mtc.specs.Rp004Messages.{Groups}
 use Rattle.mtc.specs.Kind.{is_time_code, read_kind, write_kind}
@@ -13,26 +13,6 @@ abbrev pub user_bits : ℕ → List ℕ → ℕ → UserBits
 user_bits device gs f = record { device_id = device; groups = gs; flags = f }
 
 -- ---- reading
-
--- An answer and the message beside it: the message, "not this" (none), or the refusal.
-abbrev pub answer_with : UserBitsAnswer → UserBits → Answer (Option UserBits)
-answer_with Message b = gives (Some b)
-answer_with NotThis b = gives None
-answer_with (Refused e) b = refused (refusal_of e)
-
--- So of the answer as it is given.
-abbrev pub answer_of : Result (Option UserBits) SysexError → Answer (Option UserBits)
-answer_of r = answer_with r.answer r.bits
-
--- Device 0, with all groups and flags 0.
-abbrev pub no_bits : UserBits
-no_bits = user_bits 0 (0 ∷ 0 ∷ 0 ∷ 0 ∷ 0 ∷ 0 ∷ 0 ∷ 0 ∷ []) 0
-
--- The message of an answer, or `noBits` where it has none.
-abbrev pub bits_in : Answer (Option UserBits) → UserBits
-bits_in (gives (Some b)) = b
-bits_in (gives None) = no_bits
-bits_in (refused r) = no_bits
 
 -- The 4 bits of the data byte at a place.
 abbrev pub nibble_at : List ℕ → ℕ → ℕ
@@ -53,8 +33,7 @@ user_bits_from u bs = read_kind (is_time_code u 2) (eqb (length bs) 9) (received
 
 -- Each value is at most 0FH.
 unfoldable pub all_nibbles : List ℕ → Bool
-all_nibbles [] = true
-all_nibbles (g ∷ gs) = leb g 15 && all_nibbles gs
+all_nibbles gs = list_all (λ g. leb g 15) gs
 
 -- What writing user bits emits: 5 for the device, 3 for a group above 0FH or flags above 03H, then sub-ID 2 02H, the groups and
 -- the flags.

@@ -21,6 +21,7 @@ pub struct FullMessage {
 impl FullMessage {
     // Reads a message's split parts: "not this" for another kind, 2 where the data is not four bytes. The counts are
     // masked to their widths, and the device is passed on.
+    #[tactic(auto, unfolding(crate::specs::FullMessage::full_message_from))]
     pub fn from_universal(u: Universal, data: &[u8]) -> Result<Option<FullMessage>, SysexError>
         ensures { answer_of result ≡ full_message_from u «data».now }
     {
@@ -39,19 +40,19 @@ impl FullMessage {
 
     // Writes the whole message: 5 for a device above 127, then 3 for a label that is not valid, with nothing emitted,
     // then 4 for a buffer that is too small.
+    #[tactic(auto, unfolding(crate::specs::FullMessage::full_message_written))]
     pub fn write(self, out: &mut [u8]) -> Result<usize, SysexError>
         ensures result_value { answer_of result ≡ answer (full_message_written self) (length out.old) }
         ensures out_after { out.new ≡ overlay out.old 0 (full_message_written self).bytes }
     {
-        let device_id = self.device_id;
         let time = self.time;
-        if device_id > 0x7F {
+        if self.device_id > 0x7F {
             return Err(SysexError::Device);
         }
         if !time.is_valid() {
             return Err(SysexError::OutOfRange);
         }
         let data = [time.hours_byte(), time.minutes, time.seconds, time.frames];
-        time_code(device_id, FULL_MESSAGE).write(&data, out)
+        time_code(self.device_id, FULL_MESSAGE).write(&data, out)
     }
 }

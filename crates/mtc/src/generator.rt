@@ -11,7 +11,7 @@ use labels::MtcTime;
 use universal::SysexError;
 
 // The direction of a sequence.
-#[derive(Clone, Copy)]
+#[derive(Clone, Copy, PartialEq, Eq)]
 pub enum Direction {
     // Pieces 0 to 7.
     Forward,
@@ -93,6 +93,7 @@ impl MtcGenerator {
 
     // The data byte of the next piece, or refusal 8 while stopped. A forward sequence after a piece 7 encodes the time plus
     // two frames, a reverse sequence after a piece 0 the time minus two frames. A last piece above 7 is taken as none.
+    #[tactic(auto, unfolding(crate::specs::Generator::next_byte, crate::specs::Generator::after_next_byte))]
     pub fn next_byte(self) -> Sent
         ensures { (answer_of result.byte ≡ next_byte self) × (result.generator ≡ after_next_byte self) }
     {
@@ -104,23 +105,17 @@ impl MtcGenerator {
         }
         let time = self.time;
         let direction = self.direction;
-        let last = self.last;
-        let Some(l) = last else {
-            return send(time, direction, direction.first());
-        };
-        if l > 7 {
-            return send(time, direction, direction.first());
+        match self.last {
+            Some(l) if l <= 7 => send(moved_on(time, direction, l), direction, direction.after(l)),
+            _ => send(time, direction, direction.first()),
         }
-        send(moved_on(time, direction, l), direction, direction.after(l))
     }
 
     // Runs or stops the generator.
     pub fn set_running(self, running: bool) -> Self
         ensures { result ≡ with_running self running }
     {
-        let mut g = self;
-        g.running = running;
-        g
+        MtcGenerator { running, ..self }
     }
 
     // Turns the generator: the next piece is the next one in the new order after the last piece, and the time changes when
@@ -128,26 +123,17 @@ impl MtcGenerator {
     pub fn set_direction(self, direction: Direction) -> Self
         ensures { result ≡ with_direction self direction }
     {
-        let time = self.time;
-        let last = self.last;
-        MtcGenerator {
-            time,
-            direction,
-            last,
-            running: self.running,
-        }
+        MtcGenerator { direction, ..self }
     }
 
     // A new time: the next piece is the first one of the direction.
     pub fn locate(self, time: MtcTime) -> Self
         ensures { result ≡ located self time }
     {
-        let direction = self.direction;
         MtcGenerator {
             time,
-            direction,
             last: None,
-            running: self.running,
+            ..self
         }
     }
 

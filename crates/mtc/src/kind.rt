@@ -2,7 +2,7 @@
 ghost use Rattle.std.specs.Prelude.{◌≡◌};
 ghost use Rattle.mtc.specs.Kind.{is_time_code, time_code};
 
-use universal::{Universal};
+use universal::Universal;
 
 // Sub-ID 1 of MIDI Time Code.
 const MIDI_TIME_CODE: u8 = 0x01;
@@ -24,18 +24,9 @@ pub fn time_code(device_id: u8, sub_id2: u8) -> Universal
 }
 
 // True for a MIDI Time Code message with this sub-ID 2.
+#[tactic(auto, unfolding(crate::specs::Kind::is_time_code))]
 pub fn is_time_code(u: Universal, sub_id2: u8) -> bool
     ensures { result ≡ is_time_code u sub_id2 }
 {
-    let found = u.sub_id2;
-    if !u.real_time {
-        return false;
-    }
-    if u.sub_id1 != MIDI_TIME_CODE {
-        return false;
-    }
-    match found {
-        None => false,
-        Some(s) => s == sub_id2,
-    }
+    u.real_time && u.sub_id1 == MIDI_TIME_CODE && u.sub_id2 == Some(sub_id2)
 }

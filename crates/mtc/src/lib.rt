@@ -10,12 +10,9 @@ mod quarter_frame;
 mod reader;
 mod user_bits;
 
-pub use full_message::{FullMessage};
+pub use full_message::FullMessage;
 pub use generator::{Direction, MtcGenerator, Sent};
 pub use labels::{MtcTime, TimeCodeType};
 pub use quarter_frame::QuarterFrame;
-pub use reader::{
-    MtcEvent, MtcReader, MtcSequence, Stepped, event,
-    same,
-};
-pub use user_bits::{UserBits, UserBitsAnswer};
+pub use reader::{MtcEvent, MtcReader, MtcSequence, Stepped, event};
+pub use user_bits::UserBits;

@@ -3,8 +3,8 @@
 ghost use Rattle.std.specs.Prelude.{◌≡◌, ◌≤◌, cond, T};
 ghost use Rattle.mtc.specs.Reader.{is_sound, control, ordered, direction_between, out_of_order, order_of, starts, number_of};
 
-use crate::generator::{Direction};
-use crate::reader::{MtcReader};
+use crate::generator::Direction;
+use crate::reader::MtcReader;
 
 // How a piece stands to those before it: whether it is the next one, the direction that it leaves, and whether it keeps the
 // lock.
@@ -16,13 +16,13 @@ pub(crate) struct Order {
 }
 
 // How a piece stands to those before it.
+#[tactic(auto, unfolding(crate::specs::Reader::order_of))]
 pub(crate) fn order_of(r: MtcReader, p: u8) -> Order
     requires { T (is_sound r) }
     ensures { ordered result.next result.direction result.keeps ≡ order_of (control r) p }
 {
-    let last = r.last;
     let direction = r.direction;
-    let Some(l) = last else {
+    let Some(l) = r.last else {
         return ordered(false, direction, true);
     };
     match direction {
@@ -54,6 +54,7 @@ fn out_of_order(r: MtcReader, direction: Option<Direction>, found: Option<Direct
 }
 
 // The number of a piece in its sequence, 1 to 8; 0 where it belongs to none.
+#[tactic(auto, unfolding(crate::specs::Reader::number_of))]
 pub(crate) fn number_of(r: MtcReader, o: Order, p: u8) -> u8
     requires { r.count ≤ 7 }
     ensures { (result ≡ number_of (control r) (ordered o.next o.direction o.keeps) p) × (result ≤ 8) }
@@ -109,12 +110,7 @@ fn starts(direction: Option<Direction>, p: u8) -> bool
     ensures { result ≡ starts direction p }
 {
     match direction {
-        None => {
-            if p == 0 {
-                return true;
-            }
-            p == 7
-        }
+        None => p == 0 || p == 7,
         Some(d) => p == d.first(),
     }
 }

@@ -31,6 +31,7 @@ impl QuarterFrame {
     }
 
     // The eight data bytes of a label, piece 0 first; the reserved bits are 0.
+    #[tactic(auto, unfolding(crate::specs::QuarterFrame::pieces))]
     pub fn pieces(time: MtcTime) -> [u8; 8]
         ensures { result ≡ pieces time }
     {
@@ -52,6 +53,7 @@ impl QuarterFrame {
     }
 
     // One of them; 0 past piece 7.
+    #[tactic(auto, unfolding(crate::specs::QuarterFrame::pieces))]
     pub fn piece(time: MtcTime, piece: u8) -> u8
         ensures { result ≡ get_or (pieces time) piece 0 }
     {

@@ -5,9 +5,10 @@ ghost use Rattle.labels.specs.Time.{add_frames};
 ghost use Rattle.mtc.specs.Reader.{fresh, nibbles_fit, piece_fits, is_sound, or_fresh, ordered, raw_of, offset, direction_of, same_time, jumps, sequence_of_label, sequence_of, completed, with_piece, passed, stored, event_with, after_byte, event_of, after_full_message};
 
 use crate::full_message::FullMessage;
-use crate::generator::{Direction};
+use crate::generator::Direction;
 use crate::order::{Order, number_of, order_of};
 use crate::quarter_frame::QuarterFrame;
+use crate::user_bits::all_nibbles;
 use labels::MtcTime;
 
 // The end of a full sequence: the assembled label with its counts as received, the current time, the direction, and whether
@@ -87,6 +88,7 @@ impl MtcReader {
     // One data byte, by value. A piece that is not the next one in the direction drops the partial sequence and the lock: the
     // next piece in the other order changes the direction, any other piece, also a repeated one, only breaks the order. A
     // sequence starts at the first piece of the direction.
+    #[tactic(auto, unfolding(crate::specs::Reader::after_piece, crate::specs::Reader::report_of))]
     pub fn step(self, byte: u8) -> Stepped
         ensures { (result.reader ≡ after_byte self byte) × (result.event ≡ event_of self byte) }
     {
@@ -115,21 +117,14 @@ impl MtcReader {
     pub fn informed(self, message: FullMessage) -> Self
         ensures { result ≡ after_full_message self message.time }
     {
-        let r = self.or_fresh();
-        let nibbles = r.nibbles;
-        let direction = r.direction;
-        let previous = None;
-        let time = message.time;
         MtcReader {
-            nibbles,
             count: 0,
-            first: r.first,
             last: None,
-            direction,
             locked: false,
             running: false,
-            previous,
-            time: Some(time),
+            previous: None,
+            time: Some(message.time),
+            ..self.or_fresh()
         }
     }
 
@@ -137,35 +132,32 @@ impl MtcReader {
     pub fn is_locked(self) -> bool
         ensures { result ≡ (or_fresh self).locked }
     {
-        let r = self.or_fresh();
-        r.locked
+        self.or_fresh().locked
     }
 
     // True after a data byte, false after a full message.
     pub fn is_running(self) -> bool
         ensures { result ≡ (or_fresh self).running }
     {
-        let r = self.or_fresh();
-        r.running
+        self.or_fresh().running
     }
 
     // The direction, once two pieces gave it.
     pub fn direction(self) -> Option<Direction>
         ensures { result ≡ (or_fresh self).direction }
     {
-        let r = self.or_fresh();
-        r.direction
+        self.or_fresh().direction
     }
 
     // The current time of the last full sequence, or the time of a full message after it.
     pub fn time(self) -> Option<MtcTime>
         ensures { result ≡ (or_fresh self).time }
     {
-        let r = self.or_fresh();
-        r.time
+        self.or_fresh().time
     }
 
     // The record itself, or a fresh one.
+    #[tactic(auto, unfolding(crate::specs::Reader::or_fresh))]
     fn or_fresh(self) -> Self
         ensures { (result ≡ or_fresh self) × T (is_sound result) }
     {
@@ -176,40 +168,26 @@ impl MtcReader {
     }
 
     // Count and pieces at most 7, nibbles at most 15.
+    #[tactic(auto, unfolding(crate::specs::Reader::is_sound))]
     fn is_sound(self) -> bool
         ensures { result ≡ is_sound self }
     {
-        if self.count > 7 {
-            return false;
-        }
-        if self.first > 7 {
-            return false;
-        }
-        let last = self.last;
-        if !piece_fits(last) {
-            return false;
-        }
-        let nibbles = self.nibbles;
-        nibbles_fit(nibbles)
+        self.count <= 7 && self.first <= 7 && piece_fits(self.last) && nibbles_fit(self.nibbles)
     }
 
     // The reader after a piece, with these nibbles, count and first piece.
     fn with_piece(self, o: Order, p: u8, nibbles: [u8; 8], count: u8, first: u8) -> Self
         ensures { result ≡ with_piece self (ordered o.next o.direction o.keeps) p nibbles count first }
     {
-        let direction = o.direction;
-        let previous = self.previous;
-        let time = self.time;
         MtcReader {
             nibbles,
             count,
             first,
             last: Some(p),
-            direction,
+            direction: o.direction,
             locked: o.keeps && self.locked,
             running: true,
-            previous,
-            time,
+            ..self
         }
     }
 
@@ -217,8 +195,7 @@ impl MtcReader {
     fn passed(self, o: Order, p: u8) -> Self
         ensures { result ≡ passed self (ordered o.next o.direction o.keeps) p }
     {
-        let nibbles = self.nibbles;
-        self.with_piece(o, p, nibbles, 0, self.first)
+        self.with_piece(o, p, self.nibbles, 0, self.first)
     }
 
     // The reader after the n-th piece of a sequence.
@@ -232,28 +209,18 @@ impl MtcReader {
     }
 
     // The end of a full sequence, at its last piece.
+    #[tactic(auto, unfolding(crate::specs::Reader::sequence_of))]
     fn complete(self, p: u8) -> Stepped
         requires { T (nibbles_fit 8 self.nibbles) }
         ensures { (result.reader ≡ completed self) × (result.event ≡ event_with p (Some (sequence_of self))) }
     {
-        let nibbles = self.nibbles;
-        let direction = self.direction;
-        let last = self.last;
-        let previous = self.previous;
-        let s = report(raw(nibbles), way(direction), previous);
-        let time = s.raw;
-        let current = s.current;
+        let s = report(raw(self.nibbles), way(self.direction), self.previous);
         Stepped {
             reader: MtcReader {
-                nibbles,
-                count: self.count,
-                first: self.first,
-                last,
-                direction,
                 locked: true,
-                running: self.running,
-                previous: Some(time),
-                time: Some(current),
+                previous: Some(s.raw),
+                time: Some(s.current),
+                ..self
             },
             event: event(p, Some(s)),
         }
@@ -264,24 +231,14 @@ impl MtcReader {
 fn piece_fits(last: Option<u8>) -> bool
     ensures { result ≡ piece_fits last }
 {
-    match last {
-        None => true,
-        Some(p) => p <= 7,
-    }
+    last.is_none_or(|p| p <= 7)
 }
 
 // Nibbles at most 15.
 fn nibbles_fit(nibbles: [u8; 8]) -> bool
     ensures { result ≡ nibbles_fit 8 nibbles }
 {
-    let mut i: usize = 0;
-    while i < 8 {
-        if nibbles[i] > 15 {
-            return false;
-        }
-        i += 1;
-    }
-    true
+    all_nibbles(&nibbles)
 }
 
 // The first piece of the sequence that the n-th piece belongs to.
@@ -306,6 +263,7 @@ pub fn event(p: u8, sequence: Option<MtcSequence>) -> MtcEvent
 }
 
 // The label of eight nibbles, its counts masked to their widths.
+#[tactic(auto, using(crate::proofs::ReaderCalls::nibble_small))]
 fn raw(n: [u8; 8]) -> MtcTime
     requires { T (nibbles_fit 8 n) }
     ensures { result ≡ raw_of n }
@@ -322,10 +280,7 @@ fn raw(n: [u8; 8]) -> MtcTime
 fn way(direction: Option<Direction>) -> Direction
     ensures { result ≡ direction_of direction }
 {
-    match direction {
-        None => Direction::Forward,
-        Some(d) => d,
-    }
+    direction.unwrap_or(Direction::Forward)
 }
 
 // What a full sequence reports after a previous label.
@@ -354,29 +309,5 @@ fn current(raw: MtcTime, direction: Direction) -> MtcTime
 fn jumps(previous: Option<MtcTime>, direction: Direction, raw: MtcTime) -> bool
     ensures { result ≡ jumps previous direction raw }
 {
-    let Some(t) = previous else {
-        return false;
-    };
-    !same(direction.next_time(t), raw)
-}
-
-// Two labels are one, rate included.
-pub fn same(t: MtcTime, u: MtcTime) -> bool
-    ensures { result ≡ same_time t u }
-{
-    if t.hours != u.hours {
-        return false;
-    }
-    if t.minutes != u.minutes {
-        return false;
-    }
-    if t.seconds != u.seconds {
-        return false;
-    }
-    if t.frames != u.frames {
-        return false;
-    }
-    let a = t.rate;
-    let b = u.rate;
-    a.into_bits() == b.into_bits()
+    previous.is_some_and(|t| direction.next_time(t) != raw)
 }

@@ -3,7 +3,7 @@ ghost use Rattle.universal.specs.Refusals.{answer_of};
 ghost use Rattle.std.specs.Prelude.{◌≡◌, length};
 ghost use Rattle.universal.specs.Emission.{answer};
 ghost use Rattle.universal.specs.Overlay.{overlay};
-ghost use Rattle.mtc.specs.UserBits.{user_bits_from, bits_in, no_bits, all_nibbles, user_bits_written, group_bytes};
+ghost use Rattle.mtc.specs.UserBits.{user_bits_from, all_nibbles, user_bits_written, group_bytes};
 
 use crate::kind::{USER_BITS, is_time_code, time_code};
 use universal::{SysexError, Universal};
@@ -19,54 +19,26 @@ pub struct UserBits {
     pub flags: u8,
 }
 
-// What reading user bits answers.
-#[derive(Clone, Copy)]
-pub enum UserBitsAnswer {
-    Message,
-    NotThis,
-    Refused(SysexError),
-}
-
-// An answer without a message.
-fn no_bits(answer: UserBitsAnswer) -> Result<Option<UserBits>, SysexError>
-    ensures { (result.answer ≡ answer) × (result.bits ≡ no_bits) }
-{
-    Result<Option<UserBits>, SysexError> {
-        answer,
-        bits: UserBits {
-            device_id: 0,
-            groups: [0, 0, 0, 0, 0, 0, 0, 0],
-            flags: 0,
-        },
-    }
-}
-
 // True when each value is at most 0FH.
-fn all_nibbles(values: &[u8]) -> bool
+#[tactic(auto, unfolding(crate::specs::UserBits::all_nibbles))]
+pub(crate) fn all_nibbles(values: &[u8]) -> bool
     ensures { result ≡ all_nibbles values.now }
 {
-    let mut i = 0;
-    while i < values.len() {
-        if values[i] > 0x0F {
-            return false;
-        }
-        i += 1;
-    }
-    true
+    values.iter().all(|&value| value <= 0x0F)
 }
 
 impl UserBits {
     // Reads a message's split parts: "not this" for another kind, 2 where the data is not nine bytes. The reserved bits
     // are ignored, and the device is passed on.
+    #[tactic(auto, unfolding(crate::specs::UserBits::user_bits_from))]
     pub fn from_universal(u: Universal, data: &[u8]) -> Result<Option<UserBits>, SysexError>
-        ensures result_value { answer_of result ≡ user_bits_from u «data».now }
-        ensures bits_value { result.bits ≡ bits_in (user_bits_from u «data».now) }
+        ensures { answer_of result ≡ user_bits_from u «data».now }
     {
         if !is_time_code(u, USER_BITS) {
-            return no_bits(UserBitsAnswer::NotThis);
+            return Ok(None);
         }
         if data.len() != 9 {
-            return no_bits(UserBitsAnswer::Refused(SysexError::Length));
+            return Err(SysexError::Length);
         }
         let groups = [
             data[0] % 16,
@@ -78,39 +50,36 @@ impl UserBits {
             data[6] % 16,
             data[7] % 16,
         ];
-        Result<Option<UserBits>, SysexError> {
-            answer: UserBitsAnswer::Message,
-            bits: UserBits {
-                device_id: u.device_id,
-                groups,
-                flags: data[8] % 4,
-            },
-        }
+        Ok(Some(UserBits {
+            device_id: u.device_id,
+            groups,
+            flags: data[8] % 4,
+        }))
     }
 
     // Writes the whole message: 5 for a device above 127, then 3 for a group above 0FH or flags above 03H, with nothing
     // emitted, then 4 for a buffer that is too small.
+    #[tactic(auto, unfolding(crate::specs::UserBits::user_bits_written))]
     pub fn write(self, out: &mut [u8]) -> Result<usize, SysexError>
         ensures result_value { answer_of result ≡ answer (user_bits_written self) (length out.old) }
         ensures out_after { out.new ≡ overlay out.old 0 (user_bits_written self).bytes }
     {
-        let device_id = self.device_id;
-        let g = self.groups;
-        let flags = self.flags;
-        if device_id > 0x7F {
+        if self.device_id > 0x7F {
             return Err(SysexError::Device);
         }
+        let g = self.groups;
         if !all_nibbles(&g) {
             return Err(SysexError::OutOfRange);
         }
-        if flags > 0x03 {
+        if self.flags > 0x03 {
             return Err(SysexError::OutOfRange);
         }
-        let data = [g[0], g[1], g[2], g[3], g[4], g[5], g[6], g[7], flags];
-        time_code(device_id, USER_BITS).write(&data, out)
+        let data = [g[0], g[1], g[2], g[3], g[4], g[5], g[6], g[7], self.flags];
+        time_code(self.device_id, USER_BITS).write(&data, out)
     }
 
     // The groups as four bytes, hhhhgggg ffffeeee ddddcccc bbbbaaaa.
+    #[tactic(auto, unfolding(crate::specs::UserBits::group_bytes))]
     pub fn to_bytes(self) -> [u8; 4]
         ensures { result ≡ group_bytes self.groups }
     {

@@ -2,6 +2,7 @@
 -- give, beside what the document says. A label stands as hours, minutes, seconds, frames and the rate's two bits; an answer as 0 and
 -- its number, or as a refusal's number and values. A buffer begins as bytes EEH, so that a byte that was not written shows. Assumes
 -- nothing.
+use Rattle.mtc.specs.declared.reader.MtcSequence.{MtcSequence}
 use Rattle.std.specs.Prelude.{Option, Some, None}
 use Prim.Native.Nat.{ℕ, suc}
 use mathlib.Core.Path.{◌≡◌, refl}

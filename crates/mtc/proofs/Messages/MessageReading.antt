@@ -1,8 +1,7 @@
 -- Which messages are MIDI Time Code's of a kind, test by test, and what reading one kind answers. Assumes nothing.
-use Rattle.universal.specs.declared.error.SysexError.{SysexError}
-use Rattle.std.specs.Prelude.{Option, Some, None, Result}
+use Rattle.std.specs.Prelude.{Option, Some, None}
 use Prim.Native.Nat.{ℕ}
-use mathlib.Core.Path.{◌≡◌, refl, sym, ap, ap₂, ◌∙◌}
+use mathlib.Core.Path.{◌≡◌, refl, ap, ap₂}
 use mathlib.Core.Bool.{Bool, true, false, not, ◌&&◌, false≢true, and-eq-true_iff}
 use mathlib.Core.List.{List}
 use lib.Dec.{eqb}
@@ -10,14 +9,9 @@ use lib.ListN.{length}
 use native.Mathlib.Omega.{arith}
 use borrow.Author.Tests.{eq-eqb, ne_eqb, eqb-true, not-true, not-false}
 use Rattle.universal.specs.Message.{header}
-use Rattle.universal.specs.Refusals.{Refusal, Answer, gives, refused, refusal, answer_of}
+use Rattle.universal.specs.Refusals.{Refusal, Answer, gives, refused, refusal}
 use Rattle.universal.specs.declared.message.Universal.{Universal}
-use Rattle.universal.specs.declared.error.SysexError.TheVariants.{Length}
 use Rattle.mtc.specs.Kind.{time_code, is_sub_id2, is_time_code, read_kind, ReadsOnly}
-use Rattle.mtc.specs.FullMessage.{full_message, received_full, full_message_from}
-use Rattle.mtc.specs.UserBits.{answer_with, no_bits, bits_in, received_bits, user_bits_from}
-use Rattle.labels.specs.declared.time.MtcTime.{MtcTime}
-use Rattle.mtc.specs.declared.user_bits.UserBits.{UserBits}
 
 -- ---- the kind, test by test
 
@@ -114,48 +108,3 @@ module _ {A : Type 0} (sub_id2 size : ℕ) (made : ℕ → List ℕ → A) where
         other_kind = λ u bs h. read_other _ (length bs) size _ (other_header u sub_id2 h);
         other_length = λ device bs l. read_short _ (length bs) size _ (header_kind device sub_id2) l;
       }
-
--- ---- full messages
-
-module _ (u : Universal) (bs : List ℕ) where
-  pub full_other : is_time_code u 1 ≡ false → gives None ≡ full_message_from u bs
-  unfolding full_message_from
-  full_other h = sym (read_other _ (length bs) 4 _ h)
-
-  pub full_short : is_time_code u 1 ≡ true → (length bs ≡ 4 → ⊥) → refused (refusal 2) ≡ full_message_from u bs
-  unfolding full_message_from
-  full_short h l = sym (read_short _ (length bs) 4 _ h l)
-
-  pub full_whole : (t : MtcTime) → is_time_code u 1 ≡ true → length bs ≡ 4 → t ≡ (received_full u.device_id bs).time
-      → gives (Some (full_message u.device_id t)) ≡ full_message_from u bs
-  unfolding full_message_from
-  full_whole t h l e =
-      ap (λ (x : MtcTime). gives (Some (full_message u.device_id x))) e ∙ sym (read_whole _ (length bs) 4 _ h l)
-
--- ---- user bits
-
--- What a reading of user bits owes: the answer, and the message beside it.
-abbrev pub OwesUserBits : Result (Option UserBits) SysexError → Answer (Option UserBits) → Type 0
-OwesUserBits r a = (answer_of r ≡ a) × (r.bits ≡ bits_in a)
-
-module _ (r : Result (Option UserBits) SysexError) (u : Universal) (bs : List ℕ) where
-  pub bits_other : is_time_code u 2 ≡ false → (r.answer ≡ NotThis) × (r.bits ≡ no_bits) → OwesUserBits r (user_bits_from u bs)
-  unfolding user_bits_from
-  bits_other h p =
-      let e : user_bits_from u bs ≡ gives None = read_other _ (length bs) 9 _ h in
-      rw e (ap₂ answer_with p.0 p.1, p.1)
-
-  pub bits_short : is_time_code u 2 ≡ true → (length bs ≡ 9 → ⊥) → (r.answer ≡ Refused Length) × (r.bits ≡ no_bits)
-      → OwesUserBits r (user_bits_from u bs)
-  unfolding user_bits_from
-  bits_short h l p =
-      let e : user_bits_from u bs ≡ refused (refusal 2) = read_short _ (length bs) 9 _ h l in
-      rw e (ap₂ answer_with p.0 p.1, p.1)
-
-pub bits_whole : (u : Universal) (bs : List ℕ) → is_time_code u 2 ≡ true → length bs ≡ 9
-    → (gives (Some (received_bits u.device_id bs)) ≡ user_bits_from u bs)
-    × (received_bits u.device_id bs ≡ bits_in (user_bits_from u bs))
-unfolding user_bits_from
-bits_whole u bs h l =
-    let e : user_bits_from u bs ≡ gives (Some (received_bits u.device_id bs)) = read_whole _ (length bs) 9 _ h l in
-    rw e (refl, refl)

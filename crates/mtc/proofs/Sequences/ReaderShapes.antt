@@ -1,6 +1,7 @@
 -- What decides in a reader, together with the bytes that led there: no piece held; one piece and no direction; or the first
 -- k + 1 pieces of a direction. Every call keeps the shape, and after the first byte of a stream one of three is left.
 -- Assumes nothing.
+use Rattle.mtc.specs.declared.reader.MtcSequence.{MtcSequence}
 use Rattle.std.specs.Prelude.{Option, Some, None}
 use Prim.Native.Nat.{ℕ, zero, suc, ◌+◌, ◌-◌, ◌<◌}
 use mathlib.Core.Bool.{Bool, true, false, cond, ◌||◌, false≢true}

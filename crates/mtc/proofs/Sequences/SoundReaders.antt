@@ -1,5 +1,6 @@
 -- Of a sound reader, for crates above: what its numbers are bounded by, what it does with a piece by how that stands to those before it,
 -- and where it keeps the labels of a report. Assumes nothing.
+use Rattle.mtc.specs.declared.reader.MtcSequence.{MtcSequence}
 use Rattle.std.specs.Prelude.{Option, Some, None}
 use Prim.Native.Nat.{ℕ, zero, suc, ◌≤◌}
 use mathlib.Core.Bool.{Bool, true, false, cond}

@@ -1,4 +1,5 @@
 -- The stream law. Assumes nothing.
+use Rattle.mtc.specs.declared.reader.MtcSequence.{MtcSequence}
 use Rattle.std.specs.Prelude.{Option, Some, None}
 use Prim.Native.Nat.{ℕ, zero, suc, ◌+◌}
 use mathlib.Core.Bool.{Bool, true, false, not}

@@ -1,4 +1,6 @@
 -- The reader on whole sequences: what the bytes of one report, and the reader that they leave. Assumes nothing.
+use Rattle.labels.specs.declared.time.MtcTime.{MtcTime}
+use Rattle.mtc.specs.declared.reader.MtcSequence.{MtcSequence}
 use Rattle.std.specs.Prelude.{Option, Some, None}
 use Prim.Native.Nat.{ℕ}
 use mathlib.Core.Bool.{true, false}

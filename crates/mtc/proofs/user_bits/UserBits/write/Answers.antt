@@ -1,23 +1,16 @@
 -- `mtc::user_bits::UserBits::write` meets its contract: refused for the device, refused for a group or the flags, or handed to
 -- the message writer. Assumes nothing.
 use mathlib.Core.Path.{sym, ◌∙◌}
-use borrow.Author.Rules.{rules}
-use Rattle.mtc.proofs.Messages.MessageWriting.{bits_device, bits_groups, bits_flags, bits_written}
+use Rattle.mtc.proofs.Messages.MessageWriting.{bits_device, bits_groups, bits_flags}
 use Rattle.universal.proofs.Clauses.{result_and_out}
 use Rattle.mtc.proofs.user_bits.UserBits.write.Goals as goal
 
-pub returns-then-device_id-gt127 : goal.returns-then-device_id-gt127
-returns-then-device_id-gt127 c = result_and_out (bits_device _ _ c.if-device_id-gt127.true)
+pub returns-then-self-gt127 : goal.returns-then-self-gt127
+returns-then-self-gt127 c = result_and_out (bits_device _ _ c.if-self-gt127.true)
 
 pub returns-then-not-all_nibbles : goal.returns-then-not-all_nibbles
-returns-then-not-all_nibbles c = result_and_out (bits_groups _ _ c.if-device_id-gt127.false (sym c.all_nibbles.ensures ∙ c.if-not-all_nibbles.true))
+returns-then-not-all_nibbles c = result_and_out (bits_groups _ _ c.if-self-gt127.false (sym c.all_nibbles.ensures ∙ c.if-not-all_nibbles.true))
 
-pub returns-then-flags-gt3 : goal.returns-then-flags-gt3
-returns-then-flags-gt3 c = result_and_out (bits_flags _ _ c.if-device_id-gt127.false (sym c.all_nibbles.ensures ∙ c.if-not-all_nibbles.false) c.if-flags-gt3.true)
+pub returns-then-self-gt3 : goal.returns-then-self-gt3
+returns-then-self-gt3 c = result_and_out (bits_flags _ _ c.if-self-gt127.false (sym c.all_nibbles.ensures ∙ c.if-not-all_nibbles.false) c.if-self-gt3.true)
 
-pub returns : goal.returns
-returns c = result_and_out (bits_written _ _ c.if-device_id-gt127.false _ _ _ (search rules)
-    (sym c.all_nibbles.ensures ∙ c.if-not-all_nibbles.false)
-    c.if-flags-gt3.false
-    c.time_code.ensures
-    (c.write.ensures.result_value, c.write.ensures.out_after))
