@@ -2,7 +2,6 @@ mod AcceptedCodes
 mod CodeAnswers
 mod BeyondPage
 mod Bits
-mod Forms
 pub mod Laws
 mod Names
 mod ReadByPage

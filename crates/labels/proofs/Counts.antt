@@ -12,7 +12,7 @@ use Rattle.labels.specs.declared.time.TimeCodeType.{TimeCodeType}
 use Rattle.labels.specs.declared.time.TimeCodeType.TheVariants.{Fps24, Fps25, Fps30Drop, Fps30}
 use Rattle.labels.specs.St12.{label, frames_per_second, is_skipped, is_valid}
 use Rattle.labels.specs.Time.{day_of, formula, frame_count, with_skipped, numbered, label_at}
-use Rattle.labels.proofs.Rates.{fps_positive, fps_small, day_positive}
+use Rattle.labels.proofs.Rates.{fps_positive, day_positive}
 use Rattle.labels.proofs.Validity.{NotDropped, skipped_kept, kept_skipped, InRange, valid_facts, facts_valid}
 
 -- ---- labels as numbers, none skipped
@@ -208,13 +208,6 @@ seconds_below Fps24 n h = omega arith
 seconds_below Fps25 n h = omega arith
 seconds_below Fps30Drop n h = drop_seconds_below n h
 seconds_below Fps30 n h = omega arith
-
--- Of a count of the day the seconds and frames are a label's.
-pub label_at_second_small : (n k d p : ℕ) (r : TimeCodeType) → d ≡ day_of r → k ≡ with_skipped r (n % d) → p ≡ frames_per_second r
-    → (k / p < 86400) × (k % p < 30)
-label_at_second_small n k d p r ed ek ep =
-    rw (ep, ek, ed)
-    (seconds_below r (n % day_of r) (mod-lt n (day_positive r)), omega (arith, mod-lt (with_skipped r (n % day_of r)) (fps_positive r), fps_small r))
 
 drop_kept : (n : ℕ) → DropParts n → is_skipped (numbered Fps30Drop (with_skipped Fps30Drop n)) ≡ false
 drop_kept n p =

@@ -1,11 +1,10 @@
 -- The generator: what its proofs cite. Assumes nothing.
 use Rattle.std.specs.Prelude.{Option, Some, None}
-use Prim.Native.Nat.{ℕ, ◌+◌, ◌%◌, ◌≤◌, ◌<◌}
+use Prim.Native.Nat.{ℕ, ◌+◌, ◌%◌, ◌≤◌}
 use mathlib.Core.Bool.{Bool, true, false, cond}
 use mathlib.Core.List.{List, [], ◌∷◌}
 use mathlib.Core.Path.{◌≡◌, ◌∙◌}
 use native.Mathlib.Omega.{arith}
-use borrow.Author.Tests.{le-leb, lt-leb}
 use lib.Dec.{T, lit≤, le→leb}
 use lib.ListN.{get_or}
 use Rattle.mtc.specs.QuarterFrame.{pieces}
@@ -19,15 +18,6 @@ use Rattle.mtc.specs.declared.generator.Sent.{Sent}
 use Rattle.universal.specs.Refusals.{gives, refused, refusal, answer_of}
 
 -- ---- a last piece above 7 is none
-
-pub known_within : {m : Option ℕ} {l : ℕ} → m ≡ Some l → l ≤ 7 → known m ≡ Some l
-known_within {m} {l} e h = rw (e, le-leb l 7 h)
-
-pub known_above : {m : Option ℕ} {l : ℕ} → m ≡ Some l → 7 < l → known m ≡ None
-known_above {m} {l} e h = rw (e, lt-leb l 7 h)
-
-pub known_none : {m : Option ℕ} → m ≡ None → known m ≡ None
-known_none e = rw e
 
 -- ---- the next byte
 

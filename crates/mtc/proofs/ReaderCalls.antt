@@ -1,30 +1,27 @@
 -- The reader: what its proofs cite, a lemma for each way through its code. Assumes nothing.
 use Rattle.std.specs.Prelude.{Option, Some, None}
-use Prim.Native.Nat.{ℕ, zero, suc, ◌+◌, ◌≤◌, ◌<◌}
-use mathlib.Core.Bool.{Bool, true, false, not, cond, ◌&&◌}
+use Prim.Native.Nat.{ℕ, zero, suc, ◌≤◌, ◌<◌}
+use mathlib.Core.Bool.{Bool, true, false, ◌&&◌}
 use mathlib.Core.List.{List, [], ◌∷◌}
 use mathlib.Core.Path.{◌≡◌, refl, sym, ap, ◌∙◌, subst}
 use mathlib.Core.Logic.{⊎_elim}
 use native.Mathlib.Nat.{eq-or-lt_of_le}
 use native.Mathlib.Numerals.{add-one}
 use native.Mathlib.Omega.{arith}
-use borrow.Author.Tests.{le-leb, lt-leb, lt-ltb, eq-eqb, ne_eqb}
+use borrow.Author.Tests.{le-leb, lt-ltb, eq-eqb, ne_eqb}
 use lib.Dec.{T, leb, eqb, leb→le, le→leb}
 use lib.ListN.{get_or, set, take, length}
 use Rattle.mtc.specs.UserBits.{all_nibbles}
 use lib.Seq.{take_all}
 use Rattle.std.specs.List.{list_all}
 use Rattle.std.proofs.lemmas.List.Folds.{list_all_more}
-use Rattle.mtc.specs.Generator.{first, after, sequence_frames}
+use Rattle.mtc.specs.Generator.{first, after}
 use Rattle.mtc.specs.QuarterFrame.{from_byte}
-use Rattle.mtc.specs.Reader.{Standing, nibbles_fit, piece_fits, is_sound, or_fresh, fresh, Control, control, direction_between, ordered, out_of_order, order_of, starts, number_of, passed, stored, completed, sequence_of, reader_by_number, report_by_number, event_with, raw_of, direction_of, sequence_of_label, same_time, jumps, after_piece, report_of, after_byte, event_of}
-use Rattle.labels.specs.Time.{add_frames, bits_of}
-use Rattle.labels.specs.declared.time.MtcTime.{MtcTime}
+use Rattle.mtc.specs.Reader.{Standing, nibbles_fit, piece_fits, is_sound, or_fresh, fresh, Control, control, direction_between, ordered, out_of_order, order_of, number_of, passed, stored, completed, sequence_of, reader_by_number, report_by_number, event_with, after_piece, report_of, after_byte, event_of}
 use Rattle.mtc.specs.declared.generator.Direction.{Direction}
 use Rattle.mtc.specs.declared.quarter_frame.QuarterFrame.{QuarterFrame}
 use Rattle.mtc.specs.declared.reader.MtcEvent.{MtcEvent}
 use Rattle.mtc.specs.declared.reader.MtcReader.{MtcReader}
-use Rattle.mtc.specs.declared.reader.MtcSequence.{MtcSequence}
 
 -- ---- both of two tests
 
@@ -88,21 +85,6 @@ fit_all n h =
 -- ---- sound records
 
 module _ (r : MtcReader) where
-  pub unsound_count : 7 < r.count → false ≡ is_sound r
-  unfolding is_sound
-  unsound_count h = rw (lt-leb _ _ h)
-
-  pub unsound_first : r.count ≤ 7 → 7 < r.first → false ≡ is_sound r
-  unfolding is_sound
-  unsound_first c h = rw (le-leb _ _ c, lt-leb _ _ h)
-
-  pub unsound_last : r.count ≤ 7 → r.first ≤ 7 → piece_fits r.last ≡ false → false ≡ is_sound r
-  unfolding is_sound
-  unsound_last c f h = rw (le-leb _ _ c, le-leb _ _ f, h)
-
-  pub sound_but : r.count ≤ 7 → r.first ≤ 7 → piece_fits r.last ≡ true → nibbles_fit 8 r.nibbles ≡ is_sound r
-  unfolding is_sound
-  sound_but c f h = rw (le-leb _ _ c, le-leb _ _ f, h)
 
   pub or_fresh_sound : true ≡ is_sound r → (r ≡ or_fresh r) × T (is_sound r)
   unfolding or_fresh
@@ -143,38 +125,16 @@ module _ (r : MtcReader) where
 
 -- ---- how a piece stands to those before it
 
-module _ (l p : ℕ) where
-  pub between_forward : after Direction.Forward l ≡ p → Some Direction.Forward ≡ direction_between l p
-  between_forward h = rw (eq-eqb _ _ h)
-
-  pub between_reverse : (after Direction.Forward l ≡ p → ⊥) → after Direction.Reverse l ≡ p → Some Direction.Reverse ≡ direction_between l p
-  between_reverse n h = rw (ne_eqb _ _ n, eq-eqb _ _ h)
-
-  pub between_none : (after Direction.Forward l ≡ p → ⊥) → (after Direction.Reverse l ≡ p → ⊥) → None ≡ direction_between l p
-  between_none n h = rw (ne_eqb _ _ n, ne_eqb _ _ h)
-
 module _ (r : Control) (d f : Option Direction) where
-  pub no_neighbour : f ≡ None → ordered false d false ≡ out_of_order r d f
-  no_neighbour e = rw e (none d)
-    where
-      none : (x : Option Direction) → ordered false x false ≡ out_of_order r x None
-      none None = refl
-      none (Some y) = refl
 
   pub turned : {x y : Direction} → d ≡ Some x → f ≡ Some y → ordered false (Some y) false ≡ out_of_order r d f
   turned e g = rw (e, g)
-
-  pub second_alone : {y : Direction} → d ≡ None → f ≡ Some y → r.count ≡ 0 → ordered false (Some y) true ≡ out_of_order r d f
-  second_alone e g h = rw (e, g, h)
 
   pub second : {y : Direction} → d ≡ None → f ≡ Some y → (r.count ≡ 0 → ⊥) → {b : ℕ} → b ≡ first y
       → ordered (eqb r.first b) (Some y) true ≡ out_of_order r d f
   second e g h i = rw (e, g, i, lt-ltb 0 r.count (omega (arith, h)))
 
 module _ (r : Control) (p : ℕ) where
-  pub order_alone : r.last ≡ None → ordered false r.direction true ≡ order_of r p
-  unfolding order_of
-  order_alone e = rw e
 
   module _ {l : ℕ} (e : r.last ≡ Some l) where
     pub order_second : {f : Option Direction} → f ≡ direction_between l p → r.direction ≡ None → out_of_order r r.direction f ≡ order_of r p
@@ -192,24 +152,9 @@ module _ (r : Control) (p : ℕ) where
 
 -- ---- a piece's number
 
-module _ (r : Control) (o : Standing) (p : ℕ) {h : ℕ} (eh : h ≡ cond o.next r.count 0) where
-  pub number_next : 0 < h → h + 1 ≡ number_of r o p
-  unfolding number_of
-  number_next l = rw (← eh, ne_eqb h 0 (λ e. omega arith))
-
-  pub number_first : h ≤ 0 → true ≡ starts o.direction p → 1 ≡ number_of r o p
-  unfolding number_of
-  number_first l s = rw (← eh, eq-eqb h 0 (omega arith), ← s)
-
-  pub number_none : h ≤ 0 → false ≡ starts o.direction p → 0 ≡ number_of r o p
-  unfolding number_of
-  number_none l s = rw (← eh, eq-eqb h 0 (omega arith), ← s)
-
 -- ---- one byte
 
 module _ (q : QuarterFrame) (b : ℕ) (e : q ≡ from_byte b) where
-  pub piece_small : q.piece ≤ 7
-  piece_small = rw e (omega arith)
 
   pub value_small : q.value ≤ 15
   value_small = rw e (omega arith)
@@ -241,30 +186,3 @@ module _ (r₀ : MtcReader) (b : ℕ) {r : MtcReader} {q : QuarterFrame} {o : St
       (x ∙ rw (← after_byte_lem, ne_eqb n 0 z, ne_eqb n 8 w), y ∙ rw (← event_byte, ne_eqb n 8 w))
 
 -- ---- a whole sequence
-
-module _ (t u : MtcTime) where
-  pub other_hours : (t.hours ≡ u.hours → ⊥) → false ≡ same_time t u
-  other_hours h = rw (ne_eqb _ _ h)
-
-  pub other_minutes : t.hours ≡ u.hours → (t.minutes ≡ u.minutes → ⊥) → false ≡ same_time t u
-  other_minutes h m = rw (eq-eqb _ _ h, ne_eqb _ _ m)
-
-  pub other_seconds : t.hours ≡ u.hours → t.minutes ≡ u.minutes → (t.seconds ≡ u.seconds → ⊥) → false ≡ same_time t u
-  other_seconds h m s = rw (eq-eqb _ _ h, eq-eqb _ _ m, ne_eqb _ _ s)
-
-  module _ (h : t.hours ≡ u.hours) (m : t.minutes ≡ u.minutes) (s : t.seconds ≡ u.seconds) where
-    pub other_frames : (t.frames ≡ u.frames → ⊥) → false ≡ same_time t u
-    other_frames f = rw (eq-eqb _ _ h, eq-eqb _ _ m, eq-eqb _ _ s, ne_eqb _ _ f)
-
-    pub same_counts : t.frames ≡ u.frames → {a b : ℕ} → a ≡ bits_of t.rate → b ≡ bits_of u.rate → eqb a b ≡ same_time t u
-    same_counts f i j = rw (eq-eqb _ _ h, eq-eqb _ _ m, eq-eqb _ _ s, eq-eqb _ _ f, i, j)
-
-pub jumps_from : (m : Option MtcTime) (d : Direction) (raw : MtcTime) {t u : MtcTime} {b : Bool}
-    → m ≡ Some t → u ≡ add_frames t (sequence_frames d) → b ≡ same_time u raw → not b ≡ jumps m d raw
-jumps_from m d raw e i j = rw (j, i, e)
-
--- The sequence that eight nibbles, a direction and a previous label report.
-pub sequence_is : (r : MtcReader) {raw : MtcTime} {d : Direction} {s : MtcSequence}
-    → raw ≡ raw_of r.nibbles → d ≡ direction_of r.direction → s ≡ sequence_of_label raw d r.previous → s ≡ sequence_of r
-unfolding sequence_of
-sequence_is r er ed es = rw (es, ed, er)

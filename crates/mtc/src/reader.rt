@@ -31,7 +31,7 @@ pub struct MtcEvent {
 }
 
 // The reader's record. One with a count or piece above 7 or a nibble above 15, which no call leaves, is taken as fresh.
-#[derive(Clone, Copy)]
+#[derive(Clone, Copy, Default)]
 pub struct MtcReader {
     pub nibbles: [u8; 8],
     pub count: u8,
@@ -56,17 +56,7 @@ impl MtcReader {
     pub fn new() -> Self
         ensures { result ≡ fresh }
     {
-        MtcReader {
-            nibbles: [0; 8],
-            count: 0,
-            first: 0,
-            last: None,
-            direction: None,
-            locked: false,
-            running: false,
-            previous: None,
-            time: None,
-        }
+        MtcReader::default()
     }
 
     // Takes one data byte, and answers what it gives.

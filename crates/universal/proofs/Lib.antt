@@ -3,7 +3,6 @@
 -- Assumes nothing.
 pub mod Clauses
 mod Emissions
-mod Families
 pub mod Laws
 mod MessageFields
 mod Messages

@@ -2,40 +2,18 @@
 use Rattle.std.specs.Prelude.{Option, Some, None}
 use Prim.Native.Nat.{ℕ}
 use mathlib.Core.Path.{◌≡◌, refl, ap, ap₂}
-use mathlib.Core.Bool.{Bool, true, false, not, ◌&&◌, false≢true, and-eq-true_iff}
+use mathlib.Core.Bool.{Bool, true, false, ◌&&◌, false≢true, and-eq-true_iff}
 use mathlib.Core.List.{List}
 use lib.Dec.{eqb}
 use lib.ListN.{length}
 use native.Mathlib.Omega.{arith}
-use borrow.Author.Tests.{eq-eqb, ne_eqb, eqb-true, not-true, not-false}
+use borrow.Author.Tests.{eq-eqb, ne_eqb, eqb-true}
 use Rattle.universal.specs.Message.{header}
 use Rattle.universal.specs.Refusals.{Refusal, Answer, gives, refused, refusal}
 use Rattle.universal.specs.declared.message.Universal.{Universal}
 use Rattle.mtc.specs.Kind.{time_code, is_sub_id2, is_time_code, read_kind, ReadsOnly}
 
 -- ---- the kind, test by test
-
-module _ (u : Universal) (n : ℕ) where
-  -- Non-Real Time.
-  pub not_real_time : not u.real_time ≡ true → false ≡ is_time_code u n
-  unfolding is_time_code
-  not_real_time h = rw (not-true u.real_time h)
-
-  module _ (real : not u.real_time ≡ false) where
-    -- Another sub-ID 1.
-    pub other_sub_id1 : (u.sub_id1 ≡ 1 → ⊥) → false ≡ is_time_code u n
-    unfolding is_time_code
-    other_sub_id1 h = rw (not-false u.real_time real, ne_eqb u.sub_id1 1 h)
-
-    -- No sub-ID 2.
-    pub without_sub_id2 : u.sub_id1 ≡ 1 → u.sub_id2 ≡ None → false ≡ is_time_code u n
-    unfolding is_time_code
-    without_sub_id2 h s = rw (not-false u.real_time real, eq-eqb u.sub_id1 1 h, s)
-
-    -- A sub-ID 2 decides.
-    pub by_sub_id2 : (k : ℕ) → u.sub_id1 ≡ 1 → u.sub_id2 ≡ Some k → eqb k n ≡ is_time_code u n
-    unfolding is_time_code
-    by_sub_id2 k h s = rw (not-false u.real_time real, eq-eqb u.sub_id1 1 h, s)
 
 -- ---- one kind
 

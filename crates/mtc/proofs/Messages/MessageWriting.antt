@@ -1,26 +1,23 @@
 -- A message of one kind put into a buffer: refused for its device, refused for its values, or handed to the message writer.
 -- Assumes nothing.
 use Prim.Native.Nat.{ℕ, ◌≤◌, ◌<◌}
-use mathlib.Core.Path.{◌≡◌, sym, ap, ap₂, ◌∙◌}
+use mathlib.Core.Path.{◌≡◌, sym, ap, ◌∙◌}
 use mathlib.Core.Bool.{Bool, true, false, ◌&&◌}
 use mathlib.Core.List.{List, [], ◌∷◌, ◌++◌}
 use lib.Dec.{leb}
-use lib.ListN.{length, get_or}
+use lib.ListN.{length}
 use borrow.Author.Tests.{le-leb, lt-leb}
 use Rattle.universal.specs.Emission.{Emission, refusing, answer}
 use Rattle.universal.specs.Message.{message}
 use Rattle.universal.specs.Overlay.{overlay}
 use Rattle.universal.specs.Refusals.{refusal, Answer, refused}
-use Rattle.universal.specs.declared.message.Universal.{Universal}
 use Rattle.universal.proofs.Laws.{overlay_none, answer_refused}
 use Rattle.labels.specs.St12.{is_valid}
-use Rattle.labels.specs.Time.{hours_byte}
 use Rattle.mtc.specs.Kind.{time_code, write_kind}
 use Rattle.mtc.specs.FullMessage.{full_data, full_message_written}
 use Rattle.mtc.specs.UserBits.{all_nibbles, user_bits_written}
 use Rattle.mtc.specs.declared.full_message.FullMessage.{FullMessage}
 use Rattle.mtc.specs.declared.user_bits.UserBits.{UserBits}
-use Rattle.mtc.proofs.Messages.UserBitGroups.{eight_spelled}
 
 -- What a call owes that put an emission at the buffer's start: its answer, and the buffer.
 abbrev pub OwesMessage : Emission → Answer ℕ → List ℕ → List ℕ → Type 0
@@ -53,15 +50,6 @@ pub checks_passed : (device : ℕ) (in_range : Bool) (sub_id2 : ℕ) (bs : List 
     → write_kind device in_range sub_id2 bs ≡ message (time_code device sub_id2) bs
 checks_passed device in_range sub_id2 bs h v = rw (le-leb device 127 h, v)
 
--- The message writer's answer and buffer are then the call's.
-pub handed_on : (device : ℕ) (in_range : Bool) (sub_id2 : ℕ) (bs : List ℕ) (u : Universal) (ds out after : List ℕ) (r : Answer ℕ)
-    → device ≤ 127 → in_range ≡ true → u ≡ time_code device sub_id2 → ds ≡ bs → OwesMessage (message u ds) r out after
-    → OwesMessage (write_kind device in_range sub_id2 bs) r out after
-handed_on device in_range sub_id2 bs u ds out after r h v p q w =
-    let e : message u ds ≡ write_kind device in_range sub_id2 bs =
-    ap₂ message p q ∙ sym (checks_passed device in_range sub_id2 bs h v) in
-    (w.0 ∙ ap (λ (k : Emission). answer k (length out)) e, w.1 ∙ ap (λ (k : Emission). overlay out 0 k.bytes) e)
-
 -- ---- full messages
 
 module _ (m : FullMessage) (out : List ℕ) where
@@ -73,15 +61,6 @@ module _ (m : FullMessage) (out : List ℕ) where
     pub full_label : is_valid m.time ≡ false → OwesMessage (full_message_written m) (refused (refusal 3)) out out
     unfolding full_message_written
     full_label v = value_refused m.device_id (is_valid m.time) 1 (full_data m.time) out low v
-
-    pub full_written : (u : Universal) (hr : ℕ) (after : List ℕ) (r : Answer ℕ) → is_valid m.time ≡ true
-        → u ≡ time_code m.device_id 1 → hr ≡ hours_byte m.time
-        → OwesMessage (message u (hr ∷ m.time.minutes ∷ m.time.seconds ∷ m.time.frames ∷ [])) r out after
-        → OwesMessage (full_message_written m) r out after
-    unfolding full_message_written
-    full_written u hr after r v p q w =
-        handed_on m.device_id (is_valid m.time) 1 (full_data m.time) u _ out after r low v p
-        (ap (λ (h : ℕ). h ∷ m.time.minutes ∷ m.time.seconds ∷ m.time.frames ∷ []) q) w
 
 -- ---- user bits
 
@@ -101,22 +80,3 @@ module _ (b : UserBits) (out : List ℕ) where
     pub bits_flags : all_nibbles b.groups ≡ true → 3 < b.flags → OwesMessage (user_bits_written b) (refused (refusal 3)) out out
     unfolding user_bits_written
     bits_flags v f = value_refused b.device_id in_range 2 (b.groups ++ b.flags ∷ []) out low (rw (v, lt-leb b.flags 3 f))
-
-    pub bits_written : (u : Universal) (after : List ℕ) (r : Answer ℕ) → length b.groups ≡ 8 → all_nibbles b.groups ≡ true
-        → b.flags ≤ 3 → u ≡ time_code b.device_id 2
-        → OwesMessage (message u
-        (get_or b.groups 0 0
-        ∷ get_or b.groups 1 0
-        ∷ get_or b.groups 2 0
-        ∷ get_or b.groups 3 0
-        ∷ get_or b.groups 4 0
-        ∷ get_or b.groups 5 0
-        ∷ get_or b.groups 6 0
-        ∷ get_or b.groups 7 0
-        ∷ b.flags
-        ∷ [])) r out after
-        → OwesMessage (user_bits_written b) r out after
-    unfolding user_bits_written
-    bits_written u after r n v f p w =
-        handed_on b.device_id in_range 2 (b.groups ++ b.flags ∷ []) u _ out after r low (rw (v, le-leb b.flags 3 f)) p
-        (sym (ap (λ (l : List ℕ). l ++ b.flags ∷ []) (eight_spelled b.groups n))) w

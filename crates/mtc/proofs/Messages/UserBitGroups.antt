@@ -1,14 +1,13 @@
 -- Groups of 4 bits: values that are at most 0FH, one by one, and the eight groups of a message. Assumes nothing.
 use Prim.Native.Nat.{ℕ, zero, suc, ◌+◌, ◌≤◌, ◌<◌, suc-le-suc}
-use mathlib.Core.Path.{◌≡◌, refl, ap, ◌∙◌}
-use mathlib.Core.Bool.{Bool, true, false, and-eq-true_iff}
+use mathlib.Core.Path.{◌≡◌, ap, ◌∙◌}
+use mathlib.Core.Bool.{true, and-eq-true_iff}
 use mathlib.Core.List.{List, [], ◌∷◌, ◌++◌}
-use native.Mathlib.Nat.{le_of_suc-le-suc, zero-lt-suc}
 use native.Mathlib.Omega.{arith}
 use lib.Dec.{leb, lit<}
 use lib.ListN.{length, drop, get_or, drop_of_length-le}
 use lib.Seq.{drop-cons}
-use borrow.Author.Tests.{le-leb, leb-true}
+use borrow.Author.Tests.{leb-true}
 use Rattle.universal.specs.Message.{all_low}
 use Rattle.universal.proofs.Laws.{all_low_append, all_low_cons, all_low_none, all_low_of}
 use Rattle.mtc.specs.UserBits.{all_nibbles}
@@ -21,21 +20,6 @@ unfolding all_nibbles
 nibble_below [] i h = lit< tt
 nibble_below (g ∷ gs) zero h = suc-le-suc (leb-true g 15 ((and-eq-true_iff (leb g 15) (all_nibbles gs)).0 h).0)
 nibble_below (g ∷ gs) (suc i) h = nibble_below gs i ((and-eq-true_iff (leb g 15) (all_nibbles gs)).0 h).1
-
--- Values below 16 are nibbles.
-pub all_below : (gs : List ℕ) → ((i : ℕ) → i < length gs → get_or gs i 0 < 16) → all_nibbles gs ≡ true
-unfolding all_nibbles
-all_below [] h = refl
-all_below (g ∷ gs) h =
-    rw (le-leb g 15 (le_of_suc-le-suc (h zero (zero-lt-suc (length gs))))) (all_below gs (λ i l. h (suc i) (suc-le-suc l)))
-
--- One above 0FH is none.
-pub one_above : (gs : List ℕ) (i : ℕ) → 15 < get_or gs i 0 → all_nibbles gs ≡ false
-one_above gs i h = go (all_nibbles gs) refl
-  where
-    go : (b : Bool) → all_nibbles gs ≡ b → all_nibbles gs ≡ false
-    go true e = absurd (omega (arith, nibble_below gs i e))
-    go false e = e
 
 -- The data bytes of groups and flags are low.
 pub data_low : (gs : List ℕ) (flags : ℕ) → all_nibbles gs ≡ true → flags < 4 → all_low (gs ++ flags ∷ []) ≡ true

@@ -1,10 +1,9 @@
 -- Quarter frames: a label's data bytes read as pieces and values, and put together again. Assumes nothing.
-use Prim.Native.Nat.{ℕ, zero, suc, ◌+◌, ◌*◌, ◌/◌, ◌%◌, ◌≤◌, ◌<◌}
+use Prim.Native.Nat.{ℕ, ◌+◌, ◌*◌, ◌/◌, ◌%◌, ◌≤◌, ◌<◌}
 use mathlib.Core.List.{List, [], ◌∷◌, map}
 use mathlib.Core.Path.{◌≡◌, refl, ap₂}
 use native.Mathlib.Omega.{arith}
 use lib.Dec.{lit<}
-use lib.ListN.{get_or}
 use Rattle.mtc.specs.Generator.{first}
 use Rattle.mtc.specs.QuarterFrame.{piece_of, value_of, pieces}
 use Rattle.mtc.specs.Reader.{raw_of}
@@ -158,15 +157,3 @@ raw_values t w =
     rw (eh, er, em, es, ef, type_of_bits t.rate)
 
 -- ---- one piece of eight
-
--- Past the eighth of eight there is nothing.
-pub past_eight : (a b c d e f g h : ℕ) → (p : ℕ) → (p ≡ 0 → ⊥) → (p ≡ 1 → ⊥) → (p ≡ 2 → ⊥) → (p ≡ 3 → ⊥) → (p ≡ 4 → ⊥) → (p ≡ 5 → ⊥) → (p ≡ 6 → ⊥) → (p ≡ 7 → ⊥) → 0 ≡ get_or (a ∷ b ∷ c ∷ d ∷ e ∷ f ∷ g ∷ h ∷ []) p 0
-past_eight a b c d e f g h zero n0 n1 n2 n3 n4 n5 n6 n7 = absurd (n0 refl)
-past_eight a b c d e f g h (suc zero) n0 n1 n2 n3 n4 n5 n6 n7 = absurd (n1 refl)
-past_eight a b c d e f g h (suc (suc zero)) n0 n1 n2 n3 n4 n5 n6 n7 = absurd (n2 refl)
-past_eight a b c d e f g h (suc (suc (suc zero))) n0 n1 n2 n3 n4 n5 n6 n7 = absurd (n3 refl)
-past_eight a b c d e f g h (suc (suc (suc (suc zero)))) n0 n1 n2 n3 n4 n5 n6 n7 = absurd (n4 refl)
-past_eight a b c d e f g h (suc (suc (suc (suc (suc zero))))) n0 n1 n2 n3 n4 n5 n6 n7 = absurd (n5 refl)
-past_eight a b c d e f g h (suc (suc (suc (suc (suc (suc zero)))))) n0 n1 n2 n3 n4 n5 n6 n7 = absurd (n6 refl)
-past_eight a b c d e f g h (suc (suc (suc (suc (suc (suc (suc zero))))))) n0 n1 n2 n3 n4 n5 n6 n7 = absurd (n7 refl)
-past_eight a b c d e f g h (suc (suc (suc (suc (suc (suc (suc (suc n)))))))) n0 n1 n2 n3 n4 n5 n6 n7 = refl

@@ -10,4 +10,3 @@ returns-then-self-gt127 c = result_and_out (full_device _ _ c.if-self-gt127.true
 
 pub returns-then-not-is_valid : goal.returns-then-not-is_valid
 returns-then-not-is_valid c = result_and_out (full_label _ _ c.if-self-gt127.false (sym c.is_valid.ensures ∙ c.if-not-is_valid.true))
-

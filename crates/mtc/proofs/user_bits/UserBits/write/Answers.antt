@@ -13,4 +13,3 @@ returns-then-not-all_nibbles c = result_and_out (bits_groups _ _ c.if-self-gt127
 
 pub returns-then-self-gt3 : goal.returns-then-self-gt3
 returns-then-self-gt3 c = result_and_out (bits_flags _ _ c.if-self-gt127.false (sym c.all_nibbles.ensures ∙ c.if-not-all_nibbles.false) c.if-self-gt3.true)
-
