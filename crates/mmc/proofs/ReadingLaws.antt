@@ -1,6 +1,6 @@
 -- The read at a place of a string, for crates above: what the bytes there make of it, where it goes on, and a whole walk one read
 -- at a time. Assumes nothing.
-use Rattle.std.specs.Prelude.{Result}
+use Rattle.std.specs.Prelude.{Result, None, Ok, Err}
 use Prim.Native.Nat.{ℕ, zero, suc, ◌+◌, ◌-◌, ◌≤◌, ◌<◌}
 use mathlib.Core.Path.{◌≡◌, refl, sym, ap, ◌∙◌}
 use mathlib.Core.Bool.{Bool, true, false, cond, true≢false}
@@ -18,12 +18,11 @@ use Rattle.mmc.specs.declared.length.Kind.TheVariants.{Commands}
 use Rattle.mmc.specs.declared.length.Length.{Length}
 use Rattle.mmc.specs.declared.length.Length.TheVariants.{Fixed, Count}
 use Rattle.mmc.specs.declared.part.Part.{Part}
-use Rattle.mmc.specs.declared.split.Parts.TheVariants.{Item, Cut}
 use Rattle.mmc.specs.Command.{command_by_name, read_command, command_of_case, next_command}
 use Rattle.mmc.specs.Length.{length_of, command_length, within}
 use Rattle.mmc.specs.Part.{part, part_of, is_inside}
 use Rattle.mmc.specs.Rp013 as R
-use Rattle.mmc.specs.Split.{ItemPlace, Next, measured, split_at, next, next_as, parts_as, next_item_of}
+use Rattle.mmc.specs.Split.{ItemPlace, Next, measured, split_at, next, next_as, parts_as, next_item_of, parts_of}
 use Rattle.mmc.specs.Strings.{Walk, before, walk_from, reads_of, item_at, walk, next_of, read_from, item_places, FoundThere}
 use Rattle.universal.specs.Refusals.{Refusal, Answer, gives, refused, refusal, refusal_of}
 use Rattle.universal.specs.declared.error.SysexError.{SysexError}
@@ -84,20 +83,20 @@ command_of_parts body place = refl
 module _ (body : List ℕ) (place at : ℕ) (k : Result ItemPlace SysexError)
     (e : next_item_of (record { answer = k; place = at }) ≡ next Commands body place) where
   -- So it is by what `next_parts` answered.
-  pub command_found : (n d : Part) → k ≡ Found n d
+  pub command_found : (n d : Part) → k ≡ Ok (record { name = n; «data» = d })
       → next_command body place ≡ record { answer = gives (command_of_case (read_command (part_of body n) (part_of body d)) n d); place = at }
   command_found n d q =
       command_of_parts body place
       ∙ sym (read_found (parts_as (λ (n d : List ℕ). command_of_case (read_command n d)) body) (next Commands body place) k at e n d _ q refl)
 
-  pub command_refused : (r : SysexError) → k ≡ Refused r
+  pub command_refused : (r : SysexError) → k ≡ Err r
       → next_command body place ≡ record { answer = refused (refusal_of r); place = at }
   command_refused r q =
       command_of_parts body place
       ∙ sym (read_refused (parts_as (λ (n d : List ℕ). command_of_case (read_command n d)) body) (next Commands body place) k at e r q)
 
   -- A name that begins with 00H is no known command.
-  pub command_prefixed : (n d : Part) → place < length body → get_or body place 0 ≡ 0 → k ≡ Found n d
+  pub command_prefixed : (n d : Part) → place < length body → get_or body place 0 ≡ 0 → k ≡ Ok (record { name = n; «data» = d })
       → next_command body place ≡ record { answer = gives (Other n d); place = at }
   command_prefixed n d l z q =
       command_found n d q
@@ -110,10 +109,10 @@ pub command_end : (body : List ℕ) (place : ℕ) → length body ≤ place
 command_end body place h = command_of_parts body place ∙ sym (ap (command_in body) (next_end Commands body place h))
 
 module _ (body : List ℕ) (place : ℕ) (l : place < length body) where
-  cut_command : Cut ≡ split_at Commands body place → next_command body place ≡ record { answer = refused (refusal 2); place = length body }
+  cut_command : None ≡ split_at Commands body place → next_command body place ≡ record { answer = refused (refusal 2); place = length body }
   cut_command e = command_of_parts body place ∙ sym (ap (command_in body) (next_cut Commands body place l (sym e)))
 
-  item_command : (n d : Part) (after : ℕ) → Item n d after ≡ split_at Commands body place
+  item_command : (n d : Part) (after : ℕ) → parts_of n d after ≡ split_at Commands body place
       → next_command body place ≡ record { answer = gives (command_of_case (read_command (part_of body n) (part_of body d)) n d); place = after }
   item_command n d after e = command_of_parts body place ∙ sym (ap (command_in body) (next_item Commands body place n d after l (sym e)))
 

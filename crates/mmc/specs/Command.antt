@@ -1,15 +1,13 @@
 -- Commands with their names and data as bytes, and how mmc.rs reads them. Assumes nothing.
-use Rattle.universal.specs.declared.error.SysexError.{SysexError}
-use Rattle.std.specs.Prelude.{ℕ, cond, List, ltb, eqb, length, get_or, Result}
+use Rattle.std.specs.Prelude.{ℕ, cond, List, ltb, eqb, length, get_or}
 use Rattle.mmc.specs.declared.command.MmcCommand.{MmcCommand}
 use Rattle.mmc.specs.declared.command.MmcCommand.TheVariants.{Stop, Play, DeferredPlay, FastForward, Rewind, RecordStrobe, RecordExit, Pause, Reset, Write, LocateField, LocateTarget, Move, Other}
 use Rattle.mmc.specs.declared.length.Kind.TheVariants.{Commands}
 use Rattle.mmc.specs.declared.part.Part.{Part}
 use Rattle.codes.specs.declared.time_code.StandardTimeCode.{StandardTimeCode}
 use Rattle.mmc.specs.Rp013Commands as P
-use Rattle.mmc.specs.Split.{Next, next, next_as, parts_as, next_item_of}
+use Rattle.mmc.specs.Split.{Next, next, next_as, parts_as}
 use Rattle.codes.specs.TimeCode.{read_standard}
-use Rattle.universal.specs.Refusals.{Answer, gives, refused, refusal_of, answer_of}
 
 -- The case of a command, without the bytes of its own that a Write or another command has.
 pub data CommandCase : Type 0 where
@@ -72,11 +70,3 @@ command_of_case other n d = Other n d
 
 unfoldable pub next_command : List ℕ → ℕ → Next MmcCommand
 next_command body place = next_as (parts_as (λ (x y : List ℕ). command_of_case (read_command x y)) body) (next Commands body place)
-
--- The answer, in the paper's numbers.
-abbrev pub answer_of : Result MmcCommand SysexError → Answer MmcCommand
-answer_of (A.Command c) = gives c
-answer_of (A.Refused e) = refused (refusal_of e)
-
-abbrev pub next_item_of : NextCommand → Next MmcCommand
-next_item_of r = record { answer = answer_of r.answer; place = r.place }

@@ -1,6 +1,5 @@
 -- Information fields, and how mmc.rs reads them. Assumes nothing.
-use Rattle.universal.specs.declared.error.SysexError.{SysexError}
-use Rattle.std.specs.Prelude.{ℕ, ◌-◌, cond, List, eqb, length, get_or, Result}
+use Rattle.std.specs.Prelude.{ℕ, ◌-◌, cond, List, eqb, length, get_or}
 use Rattle.mmc.specs.declared.field.InfoField.{InfoField}
 use Rattle.mmc.specs.declared.field.InfoField.TheVariants.{TimeCode, Short, Other}
 use Rattle.mmc.specs.declared.length.Kind.TheVariants.{Fields}
@@ -8,9 +7,8 @@ use Rattle.mmc.specs.declared.part.Part.{Part}
 use Rattle.codes.specs.declared.time_code.StandardTimeCode.{StandardTimeCode}
 use Rattle.codes.specs.declared.time_code.ShortTimeCode.{ShortTimeCode}
 use Rattle.mmc.specs.Length.{within}
-use Rattle.mmc.specs.Split.{Next, next, next_as, parts_as, next_item_of}
+use Rattle.mmc.specs.Split.{Next, next, next_as, parts_as}
 use Rattle.codes.specs.TimeCode.{read_standard, read_short}
-use Rattle.universal.specs.Refusals.{Answer, gives, refused, refusal_of, answer_of}
 
 -- The case of a field, without the bytes of its own that another field has.
 pub data FieldCase : Type 0 where
@@ -39,11 +37,3 @@ field_of_case other_field n d = Other n d
 
 unfoldable pub next_field : List ℕ → ℕ → Next InfoField
 next_field body place = next_as (parts_as (λ (x y : List ℕ). field_of_case (read_field x y)) body) (next Fields body place)
-
--- The answer, in the paper's numbers.
-abbrev pub answer_of : Result InfoField SysexError → Answer InfoField
-answer_of (A.Field f) = gives f
-answer_of (A.Refused e) = refused (refusal_of e)
-
-abbrev pub next_item_of : NextField → Next InfoField
-next_item_of r = record { answer = answer_of r.answer; place = r.place }

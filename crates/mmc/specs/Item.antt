@@ -1,7 +1,6 @@
 -- What mmc.rs emits of a command or a field before the refusing check. 6 comes first, for a part that is not inside the lent
 -- source. Assumes nothing.
-use Rattle.universal.specs.declared.error.SysexError.{SysexError}
-use Rattle.std.specs.Prelude.{ℕ, ◌+◌, Bool, true, false, not, cond, ◌&&◌, List, [], ◌∷◌, eqb, Some, Result, ⊤}
+use Rattle.std.specs.Prelude.{ℕ, ◌+◌, Bool, true, false, not, cond, ◌&&◌, List, [], ◌∷◌, eqb, Some}
 use Rattle.mmc.specs.declared.command.MmcCommand.{MmcCommand}
 use Rattle.mmc.specs.declared.command.MmcCommand.TheVariants as C
 use Rattle.mmc.specs.declared.field.InfoField.{InfoField}
@@ -18,15 +17,15 @@ use Rattle.mmc.specs.Named.{named_item}
 use Rattle.mmc.specs.Rp013Commands as P
 use Rattle.mmc.specs.Part.{is_inside, part_of}
 use Rattle.codes.specs.TimeCode.{standard_fits, standard_list, short_fits, short_list}
-use Rattle.universal.specs.Refusals.{refusal_of}
+use Rattle.universal.specs.Refusals.{Answer, gives, refused}
 use Rattle.universal.specs.Emission.{Emission, sent, check, ◌then◌}
 
 -- ---- time codes, and names with data of the source
 
--- Bytes that passed a check, or its refusal.
-abbrev pub checked_item : Result ⊤ SysexError → List ℕ → Emission
-checked_item Accepted bs = sent bs
-checked_item (Refused e) bs = record { bytes = []; stop = Some (refusal_of e) }
+-- Bytes, or a refusal with nothing emitted.
+abbrev pub code_item : Answer (List ℕ) → Emission
+code_item (gives bs) = sent bs
+code_item (refused r) = record { bytes = []; stop = Some r }
 
 unfoldable pub standard_item : StandardTimeCode → Emission
 standard_item c = check (standard_fits c) 3 then sent (standard_list c)

@@ -1,16 +1,9 @@
 -- Machine control messages, as mmc.rs reads them from the five split parts of a Universal message. Assumes nothing.
-use Rattle.universal.specs.declared.error.SysexError.{SysexError}
-use Rattle.std.specs.Prelude.{ℕ, Bool, true, false, cond, List, eqb, length, Option, Some, None, Result}
+use Rattle.std.specs.Prelude.{ℕ, Bool, true, false, cond, List, eqb, length, Option, Some, None}
 use Rattle.mmc.specs.declared.message.MmcMessage.{MmcMessage}
 use Rattle.mmc.specs.declared.message.MmcMessage.TheVariants.{Commands, Responses}
-use Rattle.universal.specs.Refusals.{Answer, gives, refused, refusal, refusal_of, answer_of}
+use Rattle.universal.specs.Refusals.{Answer, gives, refused, refusal}
 use Rattle.universal.specs.declared.message.Universal.{Universal}
-
--- A message, none where it is another kind, or the refusal.
-abbrev pub answer_of : Result (Option MmcMessage) SysexError → Answer (Option MmcMessage)
-answer_of (Message m) = gives (Some m)
-answer_of NotThis = gives None
-answer_of (Refused e) = refused (refusal_of e)
 
 -- A string of its own: 2 where it is empty.
 abbrev pub with_string : MmcMessage → List ℕ → Answer (Option MmcMessage)

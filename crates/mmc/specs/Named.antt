@@ -1,6 +1,6 @@
 -- A name and its data written by the length rule, as mmc.rs does it: the bytes emitted before the refusing check. Assumes nothing.
 use Rattle.universal.specs.declared.error.SysexError.{SysexError}
-use Rattle.std.specs.Prelude.{ℕ, ◌-◌, Bool, false, not, ◌&&◌, List, [], ◌∷◌, leb, eqb, length, get_or, Option, Some, None, Result, ⊤}
+use Rattle.std.specs.Prelude.{ℕ, ◌-◌, Bool, false, not, ◌&&◌, List, [], ◌∷◌, leb, eqb, length, get_or, Option, Some, None, Result, Ok, Err}
 use Rattle.mmc.specs.declared.length.Kind.{Kind}
 use Rattle.mmc.specs.declared.length.Length.{Length}
 use Rattle.mmc.specs.declared.length.Length.TheVariants.{Fixed, Count}
@@ -17,9 +17,9 @@ pub record Extent : Type 0 where
   pub len : ℕ
   pub stop : Option Refusal
 
-abbrev pub stop_of : Result ⊤ SysexError → Option Refusal
-stop_of Accepted = None
-stop_of (Refused e) = Some (refusal_of e)
+abbrev pub stop_of : {A : Type 0} → Result A SysexError → Option Refusal
+stop_of (Ok a) = None
+stop_of (Err e) = Some (refusal_of e)
 
 abbrev pub put_of : Put → Extent
 put_of p = record { len = p.len; stop = stop_of p.checked }

@@ -1,14 +1,13 @@
 -- The splitter of mmc.rs: the item at a place of a string, by the length rule of its kind. Assumes nothing.
-use Rattle.universal.specs.declared.error.SysexError.{SysexError}
-use Rattle.mmc.specs.Split.{next_item_of}
-use Rattle.std.specs.Prelude.{ℕ, ◌+◌, ◌-◌, ◌≤◌, ◌≡◌, cond, ◌&&◌, List, leb, ltb, eqb, length, get_or, Result}
+use Rattle.std.specs.Prelude.{ℕ, ◌+◌, ◌-◌, ◌≤◌, ◌≡◌, cond, ◌&&◌, List, leb, ltb, eqb, length, get_or, Option, Some, None}
 use Rattle.mmc.specs.declared.length.Kind.{Kind}
 use Rattle.mmc.specs.declared.length.Length.{Length}
 use Rattle.mmc.specs.declared.length.Length.TheVariants.{Fixed, Count}
 use Rattle.mmc.specs.declared.part.Part.{Part}
+pub use Rattle.mmc.specs.declared.split.ItemPlace.{ItemPlace}
 use Rattle.mmc.specs.declared.split.Parts.{Parts}
-use Rattle.mmc.specs.declared.split.Parts.TheVariants.{Item, Cut}
-use Rattle.universal.specs.Refusals.{Answer, gives, refused, refusal, refusal_of, answer_of}
+use Rattle.mmc.specs.declared.split.NextItem.{NextItem}
+use Rattle.universal.specs.Refusals.{Answer, gives, refused, refusal, answer_of}
 use Rattle.mmc.specs.Length.{length_of}
 use Rattle.mmc.specs.Part.{part, part_of}
 
@@ -16,32 +15,31 @@ use Rattle.mmc.specs.Part.{part, part_of}
 unfoldable pub prefixes_at : List ℕ → ℕ → ℕ
 prefixes_at body at = cond (eqb (get_or body at 1) 0) (cond (eqb (get_or body (at + 1) 1) 0) 2 1) 0
 
+-- An item of a name and data, and the place after it.
+abbrev pub parts_of : Part → Part → ℕ → Option Parts
+parts_of n d after = Some (record { item = record { name = n; «data» = d }; next = after })
+
 -- So many data bytes after a name, where the string has them.
-unfoldable pub measured : List ℕ → Part → ℕ → ℕ → Parts
+unfoldable pub measured : List ℕ → Part → ℕ → ℕ → Option Parts
 measured body name after len =
-    cond (leb after (length body) && leb len (length body - after)) (Item name (part after len) (after + len)) Cut
+    cond (leb after (length body) && leb len (length body - after)) (parts_of name (part after len) (after + len)) None
 
 -- A fixed number of data bytes, or a count byte and that many.
-abbrev pub by_length : List ℕ → Part → ℕ → Length → Parts
+abbrev pub by_length : List ℕ → Part → ℕ → Length → Option Parts
 by_length body name after (Fixed n) = measured body name after n
 by_length body name after Count =
-    cond (ltb after (length body)) (measured body name (after + 1) (get_or body after 0)) Cut
+    cond (ltb after (length body)) (measured body name (after + 1) (get_or body after 0)) None
 
 -- The item whose name ends at `last` after so many zeros.
-abbrev pub named : Kind → List ℕ → ℕ → ℕ → Parts
+abbrev pub named : Kind → List ℕ → ℕ → ℕ → Option Parts
 named kind body at zeros =
     cond (ltb (at + zeros) (length body))
-    (by_length body (part at (zeros + 1)) (at + zeros + 1) (length_of kind (get_or body (at + zeros) 0))) Cut
+    (by_length body (part at (zeros + 1)) (at + zeros + 1) (length_of kind (get_or body (at + zeros) 0))) None
 
-unfoldable pub split_at : Kind → List ℕ → ℕ → Parts
+unfoldable pub split_at : Kind → List ℕ → ℕ → Option Parts
 split_at kind body at = named kind body at (prefixes_at body at)
 
 -- ---- one item after another
-
--- Where an item's name and data are.
-pub record ItemPlace : Type 0 where
-  pub name : Part
-  pub «data» : Part
 
 -- A name from a place on and data up to another, both in a string of so many bytes.
 pub record Inside (long place : ℕ) (name d : Part) (after : ℕ) : Type 0 where
@@ -56,9 +54,9 @@ pub record Next (A : Type 0) : Type 0 where
   pub place : ℕ
 
 -- The item and the place after it; 2 and the end of a string that is cut short.
-abbrev pub found : Parts → ℕ → Next ItemPlace
-found (Item n d after) end = record { answer = gives (record { name = n; «data» = d }); place = after }
-found Cut end = record { answer = refused (refusal 2); place = end }
+abbrev pub found : Option Parts → ℕ → Next ItemPlace
+found (Some p) end = record { answer = gives p.item; place = p.next }
+found None end = record { answer = refused (refusal 2); place = end }
 
 -- 9 at or past the end, which changes nothing.
 unfoldable pub next : Kind → List ℕ → ℕ → Next ItemPlace
@@ -67,11 +65,7 @@ next kind body place =
     (record { answer = refused (refusal 9); place = place })
 
 -- The answer of a read, in the paper's numbers.
-abbrev pub answer_of : Result ItemPlace SysexError → Answer ItemPlace
-answer_of (A.Found n d) = gives (record { name = n; «data» = d })
-answer_of (A.Refused e) = refused (refusal_of e)
-
-abbrev pub next_item_of : NextParts → Next ItemPlace
+abbrev pub next_item_of : {A : Type 0} → NextItem A → Next A
 next_item_of r = record { answer = answer_of r.answer; place = r.place }
 
 -- The item read as something.

@@ -9,7 +9,6 @@ use Rattle.mmc.specs.declared.length.Kind.{Kind}
 use Rattle.mmc.specs.declared.length.Kind.TheVariants.{Commands, Fields}
 use Rattle.mmc.specs.declared.length.Length.{Length}
 use Rattle.mmc.specs.declared.length.Length.TheVariants.{Fixed, Count}
-use Rattle.mmc.specs.declared.split.Parts.TheVariants as P
 use Rattle.mmc.specs.Command.{CommandCase, stop, play, deferred_play, fast_forward, rewind, record_strobe, record_exit, pause, reset, write, locate_field, locate_target, move, read_command, command_of_case, next_command}
 use Rattle.mmc.specs.Field.{FieldCase, time_code_field, short_field, read_field, field_of_case, next_field}
 use Rattle.mmc.specs.Item.{command_item, field_item}
@@ -17,7 +16,7 @@ use Rattle.mmc.specs.Length.{length_of}
 use Rattle.mmc.specs.Named.{name_fits, last_of_name}
 use Rattle.mmc.specs.Part.{part, part_of}
 use Rattle.mmc.specs.Rp013.{Item, IsItem}
-use Rattle.mmc.specs.Split.{split_at, ItemPlace, Next, next, next_as}
+use Rattle.mmc.specs.Split.{split_at, ItemPlace, Next, next, next_as, parts_of}
 use Rattle.codes.specs.TimeCode.{standard_list, short_list, zeroed}
 use Rattle.universal.specs.Emission.{Emission, sent, ◌then◌}
 use Rattle.universal.specs.Message.{all_low}
@@ -108,7 +107,7 @@ read_as read kind place (x ∷ xs) =
 -- An item is found at a place: the splitter gives its parts there and the place after it, and the parts have its bytes.
 pub record Found (kind : Kind) (body : List ℕ) (place : ℕ) (x : Item) : Type 0 where
   pub split : split_at kind body place
-      ≡ P.Item (item_place kind place x).name (item_place kind place x).«data» (place + length (item_bytes kind x))
+      ≡ parts_of (item_place kind place x).name (item_place kind place x).«data» (place + length (item_bytes kind x))
   pub name_bytes : part_of body (item_place kind place x).name ≡ x.name
   pub data_bytes : part_of body (item_place kind place x).«data» ≡ x.«data»
 

@@ -1,13 +1,13 @@
 // Commands (RP-013, pp. 14, 20 to 32): a name and its data read into a case, and the next command of a string.
 ghost use Rattle.mmc.specs.Split.{next_item_of};
-ghost use Rattle.std.specs.Prelude.{◌≡◌, ◌<◌, ◌≤◌, length};
+ghost use Rattle.std.specs.Prelude.{◌≡◌, ◌<◌, ◌≤◌, length, List, ℕ};
+ghost use Rattle.mmc.specs.Split.{parts_as};
 ghost use Rattle.mmc.specs.Command.{read_command, read_locate, read_move, command_of_case, next_command};
 
 use crate::length::Kind;
 use crate::part::Part;
-use crate::split::{next_parts};
+use crate::split::{ItemPlace, NextItem, next_parts};
 use codes::StandardTimeCode;
-use universal::SysexError;
 
 // The names of the transport tier's commands (p. 14).
 pub const STOP: u8 = 0x01;
@@ -58,17 +58,15 @@ pub enum MmcCommand {
     Other { name: Part, data: Part },
 }
 
-// The command of a name and its data, which lie at these parts of the string.
-fn read(name: &[u8], data: &[u8], name_at: Part, data_at: Part) -> MmcCommand
-    ensures { result ≡ command_of_case (read_command name.now «data».now) name_at data_at }
+// The command of an item of a string.
+#[tactic(auto, unfolding(crate::specs::Command::read_command, crate::specs::Command::command_by_name))]
+fn read(body: &[u8], item: ItemPlace) -> MmcCommand
+    ensures { result ≡ parts_as (λ (x y : List ℕ). command_of_case (read_command x y)) body.now item }
 {
-    if name.len() != 1 {
-        return MmcCommand::Other {
-            name: name_at,
-            data: data_at,
-        };
-    }
-    let byte = name[0];
+    let data = item.data.of(body);
+    let &[byte] = item.name.of(body) else {
+        return other(item);
+    };
     match byte {
         STOP => MmcCommand::Stop,
         PLAY => MmcCommand::Play,
@@ -79,92 +77,59 @@ fn read(name: &[u8], data: &[u8], name_at: Part, data_at: Part) -> MmcCommand
         RECORD_EXIT => MmcCommand::RecordExit,
         PAUSE => MmcCommand::Pause,
         MMC_RESET => MmcCommand::Reset,
-        WRITE => MmcCommand::Write(data_at),
-        LOCATE => read_locate(data, name_at, data_at),
-        MOVE => read_move(data, name_at, data_at),
-        _ => MmcCommand::Other {
-            name: name_at,
-            data: data_at,
-        },
+        WRITE => MmcCommand::Write(item.data),
+        LOCATE => read_locate(data, item),
+        MOVE => read_move(data, item),
+        _ => other(item),
+    }
+}
+
+// Any other command.
+fn other(item: ItemPlace) -> MmcCommand
+    ensures { result ≡ MmcCommand.Other item.name item.«data» }
+{
+    MmcCommand::Other {
+        name: item.name,
+        data: item.data,
     }
 }
 
 // Locate, by its sub-command: data past what it defines is passed over (p. 5).
-fn read_locate(data: &[u8], name_at: Part, data_at: Part) -> MmcCommand
-    ensures { result ≡ command_of_case (read_locate «data».now) name_at data_at }
+#[tactic(auto, unfolding(crate::specs::Command::read_locate))]
+fn read_locate(data: &[u8], item: ItemPlace) -> MmcCommand
+    ensures { result ≡ command_of_case (read_locate «data».now) item.name item.«data» }
 {
-    if data.len() < 2 {
-        return MmcCommand::Other {
-            name: name_at,
-            data: data_at,
-        };
-    }
-    if data[0] == 0 {
-        let register = data[1];
-        if register == 0 {
-            return MmcCommand::Other {
-                name: name_at,
-                data: data_at,
-            };
+    match *data {
+        [0, register, ..] if register != 0 => MmcCommand::LocateField { register },
+        [1, hr, mn, sc, fr, ff, ..] => {
+            MmcCommand::LocateTarget(StandardTimeCode::from_bytes([hr, mn, sc, fr, ff]))
         }
-        return MmcCommand::LocateField { register };
+        _ => other(item),
     }
-    if data[0] != 1 {
-        return MmcCommand::Other {
-            name: name_at,
-            data: data_at,
-        };
-    }
-    if data.len() < 6 {
-        return MmcCommand::Other {
-            name: name_at,
-            data: data_at,
-        };
-    }
-    let code = StandardTimeCode::from_bytes([data[1], data[2], data[3], data[4], data[5]]);
-    MmcCommand::LocateTarget(code)
 }
 
 // Move, where both names are given.
-fn read_move(data: &[u8], name_at: Part, data_at: Part) -> MmcCommand
-    ensures { result ≡ command_of_case (read_move «data».now) name_at data_at }
+#[tactic(auto, unfolding(crate::specs::Command::read_move))]
+fn read_move(data: &[u8], item: ItemPlace) -> MmcCommand
+    ensures { result ≡ command_of_case (read_move «data».now) item.name item.«data» }
 {
-    if data.len() < 2 {
-        return MmcCommand::Other {
-            name: name_at,
-            data: data_at,
-        };
-    }
-    let destination = data[0];
-    let source = data[1];
-    if destination == 0 {
-        return MmcCommand::Other {
-            name: name_at,
-            data: data_at,
-        };
-    }
-    if source == 0 {
-        return MmcCommand::Other {
-            name: name_at,
-            data: data_at,
-        };
-    }
-    MmcCommand::Move {
-        destination,
-        source,
+    match *data {
+        [destination, source, ..] if destination != 0 && source != 0 => MmcCommand::Move {
+            destination,
+            source,
+        },
+        _ => other(item),
     }
 }
 
 // The command at a place of a string and the place after it; 2 and the end where the string is cut short; 9 at or past it.
+#[tactic(auto, unfolding(crate::specs::Command::next_command))]
 pub fn next_command(body: &[u8], place: usize) -> NextItem<MmcCommand>
     ensures { next_item_of result ≡ next_command body.now place }
 {
-    let NextItem<ItemPlace> { answer, place } = next_parts(body, place, Kind::Commands);
-    let answer = match answer {
-        Ok(ItemPlace { name, data }) => {
-            Ok(read(name.of(body), data.of(body), name, data))
-        }
-        Err(e) => Err(e),
-    };
-    NextItem<MmcCommand> { answer, place }
+    let next = next_parts(body, place, Kind::Commands);
+    NextItem {
+        answer: next.answer.map(|item| read(body, item)),
+        place: next.place,
+    }
 }

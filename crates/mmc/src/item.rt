@@ -1,9 +1,10 @@
 // Commands and fields put into a buffer: each check in the source's order, and before it the bytes that it lets go out.
 ghost use Rattle.std.specs.Prelude.{◌≡◌, ◌≤◌};
 ghost use Rattle.universal.specs.Overlay.{overlay};
+ghost use Rattle.universal.specs.Refusals.{answer_of};
 ghost use Rattle.mmc.specs.Length.{within};
 ghost use Rattle.mmc.specs.Named.{put_of, extent_of};
-ghost use Rattle.mmc.specs.Item.{checked_item, standard_item, short_item, other_item, write_item, locate_field_item, locate_target_item, move_item, command_item, form_fits, code_fits, time_code_item, short_code_item, field_item};
+ghost use Rattle.mmc.specs.Item.{code_item, other_item, write_item, locate_field_item, locate_target_item, move_item, command_item, form_fits, code_fits, time_code_item, short_code_item, field_item};
 
 use crate::command::{
     DEFERRED_PLAY, FAST_FORWARD, LOCATE, MMC_RESET, MOVE, MmcCommand, PAUSE, PLAY, RECORD_EXIT,
@@ -11,172 +12,98 @@ use crate::command::{
 };
 use crate::field::InfoField;
 use crate::length::Kind;
-use crate::named::{Put, put_byte, put_named};
+use crate::named::{Put, put_all, put_byte, put_named};
 use crate::part::Part;
 use codes::{FinalByte, ShortTimeCode, StandardTimeCode};
 use universal::{SysexError, put, put_part};
 
-// Bytes that passed a check, or its refusal.
-fn put_checked(out: &mut [u8], at: usize, checked: Result<(), SysexError>, bytes: &[u8]) -> Put
-    ensures result_value { put_of result ≡ extent_of (checked_item checked bytes.now) }
-    ensures out_after { out.new ≡ overlay out.old at (checked_item checked bytes.now).bytes }
+// The bytes of a time code, or its refusal.
+#[tactic(auto, using(universal::proofs::Laws::overlay_none))]
+fn put_code<const N: usize>(out: &mut [u8], at: usize, bytes: Result<[u8; N], SysexError>) -> Put
+    ensures result_value { put_of result ≡ extent_of (code_item (answer_of bytes.entry)) }
+    ensures out_after { out.new ≡ overlay out.old at (code_item (answer_of bytes.entry)).bytes }
 {
-    if let Err(e) = checked {
-        return Put {
-            len: 0,
-            checked: Err(e),
-        };
+    match bytes {
+        Ok(bytes) => put_all(out, at, &bytes),
+        Err(e) => Put::refused(e),
     }
-    put_part(out, at, bytes);
-    Put {
-        len: bytes.len(),
-        checked: Ok(()),
-    }
-}
-
-// The five bytes of a time code.
-fn put_standard(out: &mut [u8], at: usize, code: StandardTimeCode) -> Put
-    ensures result_value { put_of result ≡ extent_of (standard_item code) }
-    ensures out_after { out.new ≡ overlay out.old at (standard_item code).bytes }
-{
-    let written = code.to_bytes();
-    let checked = written.checked;
-    let bytes = written.bytes;
-    put_checked(out, at, checked, &bytes)
-}
-
-// The two bytes of a short one.
-fn put_short(out: &mut [u8], at: usize, code: ShortTimeCode) -> Put
-    ensures result_value { put_of result ≡ extent_of (short_item code) }
-    ensures out_after { out.new ≡ overlay out.old at (short_item code).bytes }
-{
-    let written = code.to_bytes();
-    let checked = written.checked;
-    let bytes = written.bytes;
-    put_checked(out, at, checked, &bytes)
 }
 
 // A name and data of the source.
+#[tactic(auto, using(universal::proofs::Laws::overlay_none), unfolding(crate::specs::Item::other_item))]
 fn put_other(out: &mut [u8], at: usize, source: &[u8], name: Part, data: Part, kind: Kind) -> Put
     requires { at ≤ 40000 }
     ensures result_value { put_of result ≡ extent_of (other_item kind source.now name «data») }
     ensures out_after { out.new ≡ overlay out.old at (other_item kind source.now name «data»).bytes }
 {
-    if !name.is_inside(source) {
-        return Put {
-            len: 0,
-            checked: Err(SysexError::Source),
-        };
-    }
-    if !data.is_inside(source) {
-        return Put {
-            len: 0,
-            checked: Err(SysexError::Source),
-        };
+    if !name.is_inside(source) || !data.is_inside(source) {
+        return Put::refused(SysexError::Source);
     }
     put_named(out, at, name.of(source), data.of(source), kind)
 }
 
 // Write: its data is a part of the source.
+#[tactic(auto, using(universal::proofs::Laws::overlay_none), unfolding(crate::specs::Item::write_item))]
 fn put_write(out: &mut [u8], at: usize, source: &[u8], data: Part) -> Put
     requires { at ≤ 40000 }
     ensures result_value { put_of result ≡ extent_of (write_item source.now «data») }
     ensures out_after { out.new ≡ overlay out.old at (write_item source.now «data»).bytes }
 {
     if !data.is_inside(source) {
-        return Put {
-            len: 0,
-            checked: Err(SysexError::Source),
-        };
+        return Put::refused(SysexError::Source);
     }
-    let name = [WRITE];
-    put_named(out, at, &name, data.of(source), Kind::Commands)
+    put_named(out, at, &[WRITE], data.of(source), Kind::Commands)
 }
 
 // Locate to a register, 08H to 0FH.
+#[tactic(auto, using(universal::proofs::Laws::overlay_none), unfolding(crate::specs::Item::locate_field_item))]
 fn put_locate_field(out: &mut [u8], at: usize, register: u8) -> Put
     ensures result_value { put_of result ≡ extent_of (locate_field_item register) }
     ensures out_after { out.new ≡ overlay out.old at (locate_field_item register).bytes }
 {
-    if register < 0x08 {
-        return Put {
-            len: 0,
-            checked: Err(SysexError::OutOfRange),
-        };
+    if register < 0x08 || register >= 0x10 {
+        return Put::refused(SysexError::OutOfRange);
     }
-    if register >= 0x10 {
-        return Put {
-            len: 0,
-            checked: Err(SysexError::OutOfRange),
-        };
-    }
-    let bytes = [LOCATE, 2, 0, register];
-    put_part(out, at, &bytes);
-    Put {
-        len: 4,
-        checked: Ok(()),
-    }
+    put_all(out, at, &[LOCATE, 2, 0, register])
 }
 
 // Locate to a time, in the form with subframes.
+#[tactic(auto, using(universal::proofs::Laws::overlay_none, universal::proofs::Laws::overlay_then, crate::proofs::Writing::ItemPuts::standard_code), unfolding(crate::specs::Item::locate_target_item))]
 fn put_locate_target(out: &mut [u8], at: usize, target: StandardTimeCode) -> Put
     requires { at ≤ 40000 }
     ensures result_value { put_of result ≡ extent_of (locate_target_item target) }
     ensures out_after { out.new ≡ overlay out.old at (locate_target_item target).bytes }
 {
-    let final_byte = target.final_byte;
-    if let FinalByte::Status(_) = final_byte {
-        return Put {
-            len: 0,
-            checked: Err(SysexError::OutOfRange),
-        };
-    }
-    let start = [LOCATE, 6, 1];
-    put_part(out, at, &start);
-    let rest = put_standard(out, at + 3, target);
-    let checked = rest.checked;
-    Put {
-        len: 3 + rest.len,
-        checked,
+    match target.final_byte {
+        FinalByte::Status(_) => Put::refused(SysexError::OutOfRange),
+        FinalByte::Subframes(_) => {
+            put_part(out, at, &[LOCATE, 6, 1]);
+            put_code(out, at + 3, target.to_bytes()).behind(3)
+        }
     }
 }
 
 // Move between two fields, 01H to 1FH.
+#[tactic(auto, using(universal::proofs::Laws::overlay_none), unfolding(crate::specs::Item::move_item))]
 fn put_move(out: &mut [u8], at: usize, destination: u8, source: u8) -> Put
     ensures result_value { put_of result ≡ extent_of (move_item destination source) }
     ensures out_after { out.new ≡ overlay out.old at (move_item destination source).bytes }
 {
-    if !is_time_field(destination) {
-        return Put {
-            len: 0,
-            checked: Err(SysexError::OutOfRange),
-        };
+    if !is_time_field(destination) || !is_time_field(source) {
+        return Put::refused(SysexError::OutOfRange);
     }
-    if !is_time_field(source) {
-        return Put {
-            len: 0,
-            checked: Err(SysexError::OutOfRange),
-        };
-    }
-    let bytes = [MOVE, 2, destination, source];
-    put_part(out, at, &bytes);
-    Put {
-        len: 4,
-        checked: Ok(()),
-    }
+    put_all(out, at, &[MOVE, 2, destination, source])
 }
 
 // A time code field's name, 01H to 1FH.
 fn is_time_field(name: u8) -> bool
     ensures { result ≡ within 1 32 name }
 {
-    if name < 0x01 {
-        return false;
-    }
-    name < 0x20
+    name >= 0x01 && name < 0x20
 }
 
 // One command.
+#[tactic(auto, unfolding(crate::specs::Item::command_item))]
 pub(crate) fn put_command(out: &mut [u8], at: usize, source: &[u8], command: MmcCommand) -> Put
     requires { at ≤ 40000 }
     ensures result_value { put_of result ≡ extent_of (command_item source.now command) }
@@ -219,60 +146,43 @@ fn form_fits(field: u8, negative: bool, final_byte: FinalByte) -> bool
 }
 
 // A time code field of a name and a form that may be written.
+#[tactic(auto, unfolding(crate::specs::Item::code_fits))]
 fn code_fits(field: u8, negative: bool, final_byte: FinalByte) -> bool
     ensures { result ≡ code_fits field negative final_byte }
 {
-    if !is_time_field(field) {
-        return false;
-    }
-    form_fits(field, negative, final_byte)
+    is_time_field(field) && form_fits(field, negative, final_byte)
 }
 
 // A time code field.
+#[tactic(auto, using(universal::proofs::Laws::overlay_none, universal::proofs::Laws::overlay_then, crate::proofs::Writing::ItemPuts::standard_code), unfolding(crate::specs::Item::time_code_item))]
 fn put_time_code(out: &mut [u8], at: usize, field: u8, code: StandardTimeCode) -> Put
     requires { at ≤ 40000 }
     ensures result_value { put_of result ≡ extent_of (time_code_item field code) }
     ensures out_after { out.new ≡ overlay out.old at (time_code_item field code).bytes }
 {
-    let final_byte = code.final_byte;
-    if !code_fits(field, code.negative, final_byte) {
-        return Put {
-            len: 0,
-            checked: Err(SysexError::OutOfRange),
-        };
+    if !code_fits(field, code.negative, code.final_byte) {
+        return Put::refused(SysexError::OutOfRange);
     }
     put(out, at, field);
-    let rest = put_standard(out, at + 1, code);
-    let checked = rest.checked;
-    Put {
-        len: 1 + rest.len,
-        checked,
-    }
+    put_code(out, at + 1, code.to_bytes()).behind(1)
 }
 
 // The short form of one, by the name 20H higher.
+#[tactic(auto, using(universal::proofs::Laws::overlay_none, universal::proofs::Laws::overlay_then, crate::proofs::Writing::ItemPuts::short_code, crate::proofs::Writing::ItemPuts::fits_below), unfolding(crate::specs::Item::short_code_item))]
 fn put_short_code(out: &mut [u8], at: usize, field: u8, code: ShortTimeCode) -> Put
     requires { at ≤ 40000 }
     ensures result_value { put_of result ≡ extent_of (short_code_item field code) }
     ensures out_after { out.new ≡ overlay out.old at (short_code_item field code).bytes }
 {
-    let final_byte = code.final_byte;
-    if !code_fits(field, code.negative, final_byte) {
-        return Put {
-            len: 0,
-            checked: Err(SysexError::OutOfRange),
-        };
+    if !code_fits(field, code.negative, code.final_byte) {
+        return Put::refused(SysexError::OutOfRange);
     }
     put(out, at, field + 0x20);
-    let rest = put_short(out, at + 1, code);
-    let checked = rest.checked;
-    Put {
-        len: 1 + rest.len,
-        checked,
-    }
+    put_code(out, at + 1, code.to_bytes()).behind(1)
 }
 
 // One field.
+#[tactic(auto, unfolding(crate::specs::Item::field_item))]
 pub(crate) fn put_field(out: &mut [u8], at: usize, source: &[u8], field: InfoField) -> Put
     requires { at ≤ 40000 }
     ensures result_value { put_of result ≡ extent_of (field_item source.now field) }

@@ -3,7 +3,7 @@ ghost use Rattle.std.specs.Prelude.{◌≡◌};
 ghost use Rattle.mmc.specs.Length.{command_length, field_length, length_of};
 
 // The two kinds of strings: commands, and information fields.
-#[derive(Clone, Copy)]
+#[derive(Clone, Copy, PartialEq, Eq)]
 pub enum Kind {
     Commands,
     Fields,
@@ -17,6 +17,7 @@ pub enum Length {
 }
 
 // Commands: 40H to 77H have a count, the others no data.
+#[tactic(auto, unfolding(crate::specs::Length::command_length))]
 pub fn command_length(name: u8) -> Length
     ensures { result ≡ command_length name }
 {
@@ -27,6 +28,7 @@ pub fn command_length(name: u8) -> Length
 }
 
 // Fields: 01H to 1FH have five bytes, 20H to 3FH two, 40H to 77H a count, the others no data.
+#[tactic(auto, unfolding(crate::specs::Length::field_length))]
 pub fn field_length(name: u8) -> Length
     ensures { result ≡ field_length name }
 {
@@ -39,6 +41,7 @@ pub fn field_length(name: u8) -> Length
 }
 
 // The rule of a kind.
+#[tactic(auto, unfolding(crate::specs::Length::length_of))]
 pub(crate) fn length_of(kind: Kind, name: u8) -> Length
     ensures { result ≡ length_of kind name }
 {

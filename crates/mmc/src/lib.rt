@@ -12,13 +12,12 @@ mod split;
 mod write;
 
 pub use codes::{
-    FinalByte, ShortTimeCode, StandardTimeCode,
-    TimeCodeStatus, full_name, short_name,
+    FinalByte, ShortTimeCode, StandardTimeCode, TimeCodeStatus, full_name, short_name,
 };
 pub use command::{MmcCommand, next_command};
 pub use field::{InfoField, next_field};
 pub use length::{Kind, Length, command_length, field_length};
-pub use message::{MmcMessage};
+pub use message::MmcMessage;
 pub use part::Part;
-pub use split::{next_parts};
+pub use split::{ItemPlace, NextItem, next_parts};
 pub use write::{Writer, Wrote, open_commands, open_fields, open_responses};

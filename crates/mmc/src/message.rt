@@ -5,6 +5,11 @@ ghost use Rattle.mmc.specs.Message.{message_from};
 
 use universal::{SysexError, Universal};
 
+// Sub-ID 1 of a command message.
+pub(crate) const COMMAND: u8 = 0x06;
+// Sub-ID 1 of a response message.
+pub(crate) const RESPONSE: u8 = 0x07;
+
 // Commands to a device, a group or all devices, or responses from a device. The string is the data beside it.
 #[derive(Clone, Copy)]
 pub enum MmcMessage {
@@ -14,26 +19,22 @@ pub enum MmcMessage {
 
 impl MmcMessage {
     // Reads Real Time, sub-ID 1 06H or 07H; another message is "not this", an empty string 2.
+    #[tactic(auto, unfolding(crate::specs::Message::message_from))]
     pub fn from_universal(u: Universal, data: &[u8]) -> Result<Option<MmcMessage>, SysexError>
         ensures { answer_of result ≡ message_from u «data».now }
     {
-        let device_id = u.device_id;
-        let kind = u.sub_id1;
         if !u.real_time {
             return Ok(None);
         }
-        if kind == 0x06 {
-            if data.len() == 0 {
-                return Err(SysexError::Length);
-            }
-            return Ok(Some(MmcMessage::Commands { device_id }));
+        let device_id = u.device_id;
+        let message = match u.sub_id1 {
+            COMMAND => MmcMessage::Commands { device_id },
+            RESPONSE => MmcMessage::Responses { device_id },
+            _ => return Ok(None),
+        };
+        if data.is_empty() {
+            return Err(SysexError::Length);
         }
-        if kind == 0x07 {
-            if data.len() == 0 {
-                return Err(SysexError::Length);
-            }
-            return Ok(Some(MmcMessage::Responses { device_id }));
-        }
-        Ok(None)
+        Ok(Some(message))
     }
 }

@@ -1,8 +1,10 @@
 // A name and its data put into a buffer by the length rule of their kind, and what a put answers.
-ghost use Rattle.std.specs.Prelude.{◌≡◌, ◌∷◌, [], ◌≤◌};
+ghost use Rattle.std.specs.Prelude.{◌≡◌, ◌∷◌, [], ◌≤◌, ◌<◌, ◌+◌, ◌^◌, Some, None};
 ghost use Rattle.universal.specs.Overlay.{overlay};
 ghost use Rattle.universal.specs.Emission.{sent};
-ghost use Rattle.mmc.specs.Named.{name_fits, by_rule, named_item, put_of, extent_of};
+ghost use Rattle.universal.specs.Message.{data_emission};
+ghost use Rattle.universal.specs.Refusals.{refusal_of};
+ghost use Rattle.mmc.specs.Named.{name_fits, by_rule, named_item, put_of, extent_of, stop_of};
 
 use crate::length::{Kind, Length, length_of};
 use universal::{SysexError, all_low, put, put_part};
@@ -14,106 +16,115 @@ pub struct Put {
     pub checked: Result<(), SysexError>,
 }
 
+impl Put {
+    // So many bytes, which passed.
+    pub(crate) fn accepted(len: usize) -> Put
+        ensures { put_of result ≡ record { len = len; stop = None } }
+    {
+        Put {
+            len,
+            checked: Ok(()),
+        }
+    }
+
+    // A refusal before any byte.
+    pub(crate) fn refused(error: SysexError) -> Put
+        ensures { put_of result ≡ record { len = 0; stop = Some (refusal_of error) } }
+    {
+        Put {
+            len: 0,
+            checked: Err(error),
+        }
+    }
+
+    // The same behind so many bytes more.
+    pub(crate) fn behind(self, len: usize) -> Put
+        requires { len + self.len < 2 ^ 64 }
+        ensures { put_of result ≡ record { len = len + self.len; stop = stop_of self.checked } }
+    {
+        Put {
+            len: len + self.len,
+            checked: self.checked,
+        }
+    }
+}
+
 // True for one byte after at most two zeros, which is zero only after two.
+#[tactic(auto, unfolding(crate::specs::Named::name_fits))]
 fn name_fits(name: &[u8]) -> bool
     ensures { result ≡ name_fits name.now }
 {
-    let n = name.len();
-    if n == 1 {
-        return name[0] != 0;
+    match *name {
+        [last] => last != 0,
+        [0, last] => last != 0,
+        [0, 0, _] => true,
+        _ => false,
     }
-    if n == 2 {
-        if name[0] != 0 {
-            return false;
-        }
-        return name[1] != 0;
+}
+
+// Bytes that are put as they are.
+pub(crate) fn put_all(out: &mut [u8], at: usize, bytes: &[u8]) -> Put
+    ensures result_value { put_of result ≡ extent_of (sent bytes.now) }
+    ensures out_after { out.new ≡ overlay out.old at (sent bytes.now).bytes }
+{
+    put_part(out, at, bytes);
+    Put::accepted(bytes.len())
+}
+
+// Data, or 1 for a byte above 7FH before any goes out.
+#[tactic(auto, using(universal::proofs::Laws::overlay_none, universal::proofs::Laws::data_sent, universal::proofs::Laws::data_refused))]
+fn put_data(out: &mut [u8], at: usize, data: &[u8]) -> Put
+    ensures result_value { put_of result ≡ extent_of (data_emission «data».now) }
+    ensures out_after { out.new ≡ overlay out.old at (data_emission «data».now).bytes }
+{
+    if !all_low(data) {
+        return Put::refused(SysexError::DataByte);
     }
-    if n == 3 {
-        if name[0] != 0 {
-            return false;
-        }
-        return name[1] == 0;
-    }
-    false
+    put_all(out, at, data)
 }
 
 // Data of the length that the rule asks for, after its count byte where it has one.
+#[tactic(auto, using(universal::proofs::Laws::overlay_none, universal::proofs::Laws::overlay_then, universal::proofs::Laws::data_sent), unfolding(crate::specs::Named::by_rule))]
 fn put_by_rule(out: &mut [u8], at: usize, rule: Length, data: &[u8]) -> Put
     requires { at ≤ 40003 }
     ensures result_value { put_of result ≡ extent_of (by_rule rule «data».now) }
     ensures out_after { out.new ≡ overlay out.old at (by_rule rule «data».now).bytes }
 {
+    let n = data.len();
     match rule {
-        Length::Fixed(n) => {
-            if n != data.len() {
-                return Put {
-                    len: 0,
-                    checked: Err(SysexError::Length),
-                };
+        Length::Fixed(wanted) => {
+            if n != wanted {
+                return Put::refused(SysexError::Length);
             }
-            if !all_low(data) {
-                return Put {
-                    len: 0,
-                    checked: Err(SysexError::DataByte),
-                };
-            }
-            put_part(out, at, data);
-            Put {
-                len: n,
-                checked: Ok(()),
-            }
+            put_data(out, at, data)
         }
         Length::Count => {
-            let n = data.len();
             if n > 0x7F {
-                return Put {
-                    len: 0,
-                    checked: Err(SysexError::Length),
-                };
+                return Put::refused(SysexError::Length);
             }
             put(out, at, n as u8);
-            if !all_low(data) {
-                return Put {
-                    len: 1,
-                    checked: Err(SysexError::DataByte),
-                };
-            }
-            put_part(out, at + 1, data);
-            Put {
-                len: n + 1,
-                checked: Ok(()),
-            }
+            put_data(out, at + 1, data).behind(1)
         }
     }
 }
 
 // A name and its data.
+#[tactic(auto, using(universal::proofs::Laws::overlay_none, universal::proofs::Laws::overlay_then, universal::proofs::Laws::data_sent, universal::proofs::Laws::data_refused, crate::proofs::Writing::EmissionPuts::name_length), unfolding(crate::specs::Named::named_item))]
 pub(crate) fn put_named(out: &mut [u8], at: usize, name: &[u8], data: &[u8], kind: Kind) -> Put
     requires { at ≤ 40000 }
     ensures result_value { put_of result ≡ extent_of (named_item kind name.now «data».now) }
     ensures out_after { out.new ≡ overlay out.old at (named_item kind name.now «data».now).bytes }
 {
     if !name_fits(name) {
-        return Put {
-            len: 0,
-            checked: Err(SysexError::Length),
-        };
+        return Put::refused(SysexError::Length);
     }
     if !all_low(name) {
-        return Put {
-            len: 0,
-            checked: Err(SysexError::DataByte),
-        };
+        return Put::refused(SysexError::DataByte);
     }
     put_part(out, at, name);
     let n = name.len();
     let rule = length_of(kind, name[n - 1]);
-    let rest = put_by_rule(out, at + n, rule, data);
-    let checked = rest.checked;
-    Put {
-        len: n + rest.len,
-        checked,
-    }
+    put_by_rule(out, at + n, rule, data).behind(n)
 }
 
 // One byte.
@@ -122,8 +133,5 @@ pub(crate) fn put_byte(out: &mut [u8], at: usize, byte: u8) -> Put
     ensures out_after { out.new ≡ overlay out.old at (sent (byte ∷ [])).bytes }
 {
     put(out, at, byte);
-    Put {
-        len: 1,
-        checked: Ok(()),
-    }
+    Put::accepted(1)
 }

@@ -10,30 +10,21 @@ pub struct Part {
 
 impl Part {
     // True when the part lies inside the bytes.
+    #[tactic(auto, unfolding(crate::specs::Part::is_inside))]
     pub fn is_inside(self, bytes: &[u8]) -> bool
         ensures { result ≡ is_inside bytes.now self }
     {
-        let start = self.start;
-        let len = self.len;
-        if start > bytes.len() {
-            return false;
-        }
-        len <= bytes.len() - start
+        self.start <= bytes.len() && self.len <= bytes.len() - self.start
     }
 
     // The bytes of the part, or none where it does not lie inside.
+    #[tactic(auto, unfolding(crate::specs::Part::is_inside, crate::specs::Part::part_of))]
     pub fn of(self, bytes: &[u8]) -> &[u8]
         ensures { result.now ≡ part_of bytes.now self }
     {
-        let start = self.start;
-        let len = self.len;
-        if start > bytes.len() {
+        if !self.is_inside(bytes) {
             return &bytes[..0];
         }
-        if len > bytes.len() - start {
-            return &bytes[..0];
-        }
-        let end = start + len;
-        &bytes[start..end]
+        &bytes[self.start..self.start + self.len]
     }
 }

@@ -1,6 +1,6 @@
 // Writing a string: opened, given its items one at a time, and closed. One buffer is lent throughout and left alone between
 // the calls. A failed writer repeats its first refusal and writes nothing more.
-ghost use Rattle.std.specs.Prelude.{◌≡◌, ◌<◌, ◌≤◌, length};
+ghost use Rattle.std.specs.Prelude.{◌≡◌, ◌<◌, ◌≤◌, length, Some};
 ghost use Rattle.universal.specs.Refusals.{refusal_of, answer_of};
 ghost use Rattle.universal.specs.Overlay.{overlay};
 ghost use Rattle.mmc.specs.Item.{command_item, field_item};
@@ -10,13 +10,10 @@ ghost use Rattle.mmc.specs.Write.{writing_of, opens_at, writing_past, or_failed,
 use crate::command::MmcCommand;
 use crate::field::InfoField;
 use crate::item;
+use crate::message::{COMMAND, RESPONSE};
 use crate::named::Put;
 use universal::{SysexError, Universal, close};
 
-// Sub-ID 1 of a command message.
-const COMMAND: u8 = 0x06;
-// Sub-ID 1 of a response message.
-const RESPONSE: u8 = 0x07;
 // The most items of one writing.
 const MOST_ITEMS: usize = 256;
 // A position that no writing passes.
@@ -56,6 +53,7 @@ fn writer_of(opened: Result<usize, SysexError>) -> Writer
 }
 
 // Opens a command string: F0H, 7FH, the device, 06H.
+#[tactic(auto, unfolding(crate::specs::Write::opened_commands, crate::specs::Write::begun))]
 pub fn open_commands(out: &mut [u8], device_id: u8) -> Writer
     ensures result_value { writing_of result ≡ begun (opened_commands device_id) }
     ensures out_after { out.new ≡ overlay out.old 0 (opened_commands device_id).bytes }
@@ -70,6 +68,7 @@ pub fn open_commands(out: &mut [u8], device_id: u8) -> Writer
 }
 
 // Opens a response string: F0H, 7FH, the device, 07H. A response comes from one device, so 7FH is refused.
+#[tactic(auto, using(universal::proofs::Laws::overlay_none), unfolding(crate::specs::Write::opened_responses, crate::specs::Write::begun))]
 pub fn open_responses(out: &mut [u8], device_id: u8) -> Writer
     ensures result_value { writing_of result ≡ begun (opened_responses device_id) }
     ensures out_after { out.new ≡ overlay out.old 0 (opened_responses device_id).bytes }
@@ -103,32 +102,26 @@ pub fn open_fields() -> Writer
 
 impl Writer {
     // The check of a writer before its next call: its own refusal, or 10 for a record that no calls leave.
+    #[tactic(auto, unfolding(crate::specs::Write::or_failed))]
     fn or_failed(self) -> Result<(), SysexError>
         ensures { stop_of result ≡ (or_failed (writing_of self)).stop }
     {
-        if self.items > MOST_ITEMS {
-            return Err(SysexError::ItemLimit);
-        }
-        if self.at > MOST_POSITION {
+        if self.items > MOST_ITEMS || self.at > MOST_POSITION {
             return Err(SysexError::ItemLimit);
         }
         self.checked
     }
 
     // The check of a writer before its next item: its own, or 10 where 256 were accepted.
+    #[tactic(auto, unfolding(crate::specs::Write::ready, crate::specs::Write::or_failed))]
     fn ready(self) -> Result<(), SysexError>
         ensures { stop_of result ≡ ready (writing_of self) }
     {
         // Most often it is its own; handed on as it is, it is not made anew.
-        if self.items < MOST_ITEMS {
-            if self.at <= MOST_POSITION {
-                return self.checked;
-            }
+        if self.items < MOST_ITEMS && self.at <= MOST_POSITION {
+            return self.checked;
         }
-        let checked = self.or_failed();
-        if let Err(e) = checked {
-            return Err(e);
-        }
+        self.or_failed()?;
         if self.items == MOST_ITEMS {
             return Err(SysexError::ItemLimit);
         }
@@ -137,16 +130,12 @@ impl Writer {
 
     // The writer that repeats a refusal.
     fn failed(self, error: SysexError) -> Wrote
-        ensures { (writing_of result.writer ≡ writing_past (writing_of self) (record { len = 0; stop = some (refusal_of error) })) × (stop_of result.checked ≡ some (refusal_of error)) }
+        ensures { (writing_of result.writer ≡ writing_past (writing_of self) (record { len = 0; stop = Some (refusal_of error) })) × (stop_of result.checked ≡ Some (refusal_of error)) }
     {
-        let writer = Writer {
-            at: self.at,
-            items: self.items,
-            checked: Err(error),
-        };
+        let checked = Err(error);
         Wrote {
-            writer,
-            checked: Err(error),
+            writer: Writer { checked, ..self },
+            checked,
         }
     }
 
@@ -157,85 +146,62 @@ impl Writer {
     {
         let checked = put.checked;
         let at = self.at + put.len;
-        match checked {
-            Ok(()) => {
-                let writer = Writer {
-                    at,
-                    items: self.items + 1,
-                    checked,
-                };
-                Wrote { writer, checked }
-            }
-            Err(_) => {
-                let writer = Writer {
-                    at,
-                    items: self.items,
-                    checked,
-                };
-                Wrote { writer, checked }
-            }
+        let items = match checked {
+            Ok(()) => self.items + 1,
+            Err(_) => self.items,
+        };
+        Wrote {
+            writer: Writer { at, items, checked },
+            checked,
         }
     }
 
     // Writes one command. Its parts lie in the lent source.
+    #[tactic(auto, using(universal::proofs::Laws::overlay_none, crate::proofs::Writing::ItemPuts::command_small), unfolding(crate::specs::Write::ready, crate::specs::Write::or_failed, crate::specs::Write::writing_after, crate::specs::Write::admitted))]
     pub fn put_command(self, out: &mut [u8], source: &[u8], command: MmcCommand) -> Wrote
         ensures writer_value { (writing_of result.writer ≡ writing_after (writing_of self) (command_item source.now command)) × (stop_of result.checked ≡ (admitted (writing_of self) (command_item source.now command)).stop) }
         ensures out_after { out.new ≡ out_after (writing_of self) out.old (command_item source.now command) }
     {
-        let ready = self.ready();
-        if let Err(e) = ready {
-            return self.failed(e);
+        match self.ready() {
+            Ok(()) => self.after(item::put_command(out, self.at, source, command)),
+            Err(e) => self.failed(e),
         }
-        let at = self.at;
-        let put = item::put_command(out, at, source, command);
-        self.after(put)
     }
 
     // Writes one field, into a response or a string of fields.
+    #[tactic(auto, using(universal::proofs::Laws::overlay_none, crate::proofs::Writing::ItemPuts::field_small), unfolding(crate::specs::Write::ready, crate::specs::Write::or_failed, crate::specs::Write::writing_after, crate::specs::Write::admitted))]
     pub fn put_field(self, out: &mut [u8], source: &[u8], field: InfoField) -> Wrote
         ensures writer_value { (writing_of result.writer ≡ writing_after (writing_of self) (field_item source.now field)) × (stop_of result.checked ≡ (admitted (writing_of self) (field_item source.now field)).stop) }
         ensures out_after { out.new ≡ out_after (writing_of self) out.old (field_item source.now field) }
     {
-        let ready = self.ready();
-        if let Err(e) = ready {
-            return self.failed(e);
+        match self.ready() {
+            Ok(()) => self.after(item::put_field(out, self.at, source, field)),
+            Err(e) => self.failed(e),
         }
-        let at = self.at;
-        let put = item::put_field(out, at, source, field);
-        self.after(put)
     }
 
     // Closes a command or response string: the body has 1 to 48 bytes, and the whole must fit the buffer.
+    #[tactic(auto, using(universal::proofs::Laws::overlay_none), unfolding(crate::specs::Write::closed_message, crate::specs::Write::whole_message, crate::specs::Write::or_failed))]
     pub fn close_message(self, out: &mut [u8]) -> Result<usize, SysexError>
         ensures result_value { answer_of result ≡ whole_message (writing_of self) (length out.old) }
         ensures out_after { out.new ≡ overlay out.old self.at (closed_message (writing_of self)).bytes }
     {
-        let checked = self.or_failed();
-        if let Err(e) = checked {
-            return Err(e);
-        }
-        let at = self.at;
-        if at < 5 {
+        self.or_failed()?;
+        if self.at < 5 || self.at > 52 {
             return Err(SysexError::Length);
         }
-        if at > 52 {
-            return Err(SysexError::Length);
-        }
-        close(out, at)
+        close(out, self.at)
     }
 
     // Closes a string of fields, which must fit the buffer.
+    #[tactic(auto, unfolding(crate::specs::Write::closed_fields, crate::specs::Write::whole_fields, crate::specs::Write::or_failed))]
     pub fn close_fields(self, out: &[u8]) -> Result<usize, SysexError>
         ensures { answer_of result ≡ whole_fields (writing_of self) (length out.now) }
     {
-        let checked = self.or_failed();
-        if let Err(e) = checked {
-            return Err(e);
+        self.or_failed()?;
+        if self.at > out.len() {
+            return Err(SysexError::BufferTooSmall { needed: self.at });
         }
-        let at = self.at;
-        if at > out.len() {
-            return Err(SysexError::BufferTooSmall { needed: at });
-        }
-        Ok(at)
+        Ok(self.at)
     }
 }

@@ -1,5 +1,6 @@
 -- The item at the front of bytes, wherever they stand in a string: what the splitter finds there, or that they are cut short.
 -- Assumes nothing.
+use Rattle.std.specs.Prelude.{None}
 use Prim.Native.Nat.{ℕ, suc, ◌+◌, ◌-◌, ◌≤◌, ◌<◌}
 use mathlib.Core.Path.{◌≡◌, refl, sym, ap, ◌∙◌}
 use mathlib.Core.Bool.{Bool, true, false, not, true≢false}
@@ -13,12 +14,11 @@ use lib.Seq.{get_or-append_seam, get_or-append-add, take-append_seam, drop-appen
 use Rattle.mmc.specs.declared.length.Kind.{Kind}
 use Rattle.mmc.specs.declared.length.Length.{Length}
 use Rattle.mmc.specs.declared.length.Length.TheVariants.{Fixed, Count}
-use Rattle.mmc.specs.declared.split.Parts.TheVariants as P
 use Rattle.mmc.specs.Length.{length_of}
 use Rattle.mmc.specs.Named.{name_fits, last_of_name}
 use Rattle.mmc.specs.Part.{part, is_inside, part_of}
 use Rattle.mmc.specs.Rp013.{Item}
-use Rattle.mmc.specs.Split.{prefixes_at, measured, split_at}
+use Rattle.mmc.specs.Split.{prefixes_at, measured, split_at, parts_of}
 use Rattle.mmc.specs.Strings.{item, rule_of, with_count, item_bytes, data_fits, item_fits, count_bytes, Found}
 use Rattle.universal.proofs.Tests.{and_parts}
 use Rattle.mmc.proofs.Writing.EmissionPuts.{name_length}
@@ -74,7 +74,7 @@ last_of pre name rest h =
 
 -- What the splitter gives, with its numbers written otherwise.
 item_same : (start n m a b d x y : ℕ) → n ≡ m → a ≡ b → x ≡ y
-    → P.Item (part start n) (part a d) x ≡ P.Item (part start m) (part b d) y
+    → parts_of (part start n) (part a d) x ≡ parts_of (part start m) (part b d) y
 item_same start n m a b d x y p q s = rw (p, q, s)
 
 module _ (kind : Kind) (pre name rest : List ℕ) (f : name_fits name ≡ true) where
@@ -99,7 +99,7 @@ module _ (kind : Kind) (pre name rest : List ℕ) (f : name_fits name ≡ true) 
 
   split_fixed : (n : ℕ) → length_of kind (last_of_name name) ≡ Fixed n → n ≤ length rest
       → split_at kind (string pre name rest) (length pre)
-      ≡ P.Item (part (length pre) (length name)) (part (length pre + length name + 0) n) (length pre + (length name + n))
+      ≡ parts_of (part (length pre) (length name)) (part (length pre + length name + 0) n) (length pre + (length name + n))
   split_fixed n e h =
       let a : length pre + (length name - 1) + 1 ≤ length (string pre name rest) = omega (arith, lengths) in
       let b : n ≤ length (string pre name rest) - (length pre + (length name - 1) + 1) = omega (arith, lengths) in
@@ -108,7 +108,7 @@ module _ (kind : Kind) (pre name rest : List ℕ) (f : name_fits name ≡ true) 
       ∙ item_same (length pre) _ _ _ _ n _ _ (omega (arith, lengths)) (omega (arith, lengths)) (omega (arith, lengths))
 
   cut_fixed : (n : ℕ) → length_of kind (last_of_name name) ≡ Fixed n → length rest < n
-      → split_at kind (string pre name rest) (length pre) ≡ P.Cut
+      → split_at kind (string pre name rest) (length pre) ≡ None
   cut_fixed n e h =
       let a : length pre + (length name - 1) + 1 ≤ length (string pre name rest) = omega (arith, lengths) in
       let b : length (string pre name rest) - (length pre + (length name - 1) + 1) < n = omega (arith, lengths) in
@@ -116,7 +116,7 @@ module _ (kind : Kind) (pre name rest : List ℕ) (f : name_fits name ≡ true) 
 
 -- A count byte that is missing.
 cut_count : (kind : Kind) (pre name : List ℕ) → name_fits name ≡ true → length_of kind (last_of_name name) ≡ Count
-    → split_at kind (string pre name []) (length pre) ≡ P.Cut
+    → split_at kind (string pre name []) (length pre) ≡ None
 cut_count kind pre name f e =
     sym (no_count kind (string pre name []) (length pre) (length name - 1) (zeros_of pre name [] f) (inside kind pre name [] f)
     (rule_of_lem kind pre name [] f Count e) (omega (arith, lengths kind pre name [] f)))
@@ -143,7 +143,7 @@ module _ (kind : Kind) (pre name : List ℕ) (c : ℕ) (rest : List ℕ) (f : na
 
   split_count : c ≤ length rest
       → split_at kind (string pre name (c ∷ rest)) (length pre)
-      ≡ P.Item (part (length pre) (length name)) (part (length pre + length name + 1) c) (length pre + (length name + suc c))
+      ≡ parts_of (part (length pre) (length name)) (part (length pre + length name + 1) c) (length pre + (length name + suc c))
   split_count h =
       let a : length pre + (length name - 1) + 1 + 1 ≤ length (string pre name (c ∷ rest)) = omega (arith, known) in
       let b : c ≤ length (string pre name (c ∷ rest)) - (length pre + (length name - 1) + 1 + 1) = omega (arith, known) in
@@ -151,7 +151,7 @@ module _ (kind : Kind) (pre name : List ℕ) (c : ℕ) (rest : List ℕ) (f : na
       ∙ sym (enough (string pre name (c ∷ rest)) _ _ c a b)
       ∙ item_same (length pre) _ _ _ _ c _ _ (omega (arith, known)) (omega (arith, known)) (omega (arith, known))
 
-  cut_counted : length rest < c → split_at kind (string pre name (c ∷ rest)) (length pre) ≡ P.Cut
+  cut_counted : length rest < c → split_at kind (string pre name (c ∷ rest)) (length pre) ≡ None
   cut_counted h =
       let a : length pre + (length name - 1) + 1 + 1 ≤ length (string pre name (c ∷ rest)) = omega (arith, known) in
       let b : length (string pre name (c ∷ rest)) - (length pre + (length name - 1) + 1 + 1) < c = omega (arith, known) in
@@ -162,7 +162,7 @@ module _ (kind : Kind) (pre name : List ℕ) (c : ℕ) (rest : List ℕ) (f : na
 module _ (kind : Kind) (pre name d post : List ℕ) (f : name_fits name ≡ true) where
   split_by_rule : (rule : Length) → length_of kind (last_of_name name) ≡ rule → data_fits rule d ≡ true
       → split_at kind (string pre name (with_count rule d ++ post)) (length pre)
-      ≡ P.Item (part (length pre) (length name)) (part (length pre + length name + count_bytes rule) (length d))
+      ≡ parts_of (part (length pre) (length name)) (part (length pre + length name + count_bytes rule) (length d))
       (length pre + (length name + length (with_count rule d)))
   split_by_rule (Fixed n) e h =
       let l : length (d ++ post) ≡ length d + length post = length-append d post in
@@ -200,7 +200,7 @@ item_found kind pre x post h =
 
 -- Cut short wherever the bytes stand; or an item that fits, and the bytes after it.
 pub data ItemFront (kind : Kind) (s : List ℕ) : Type 0 where
-  cut : ((pre : List ℕ) → split_at kind (pre ++ s) (length pre) ≡ P.Cut) → ItemFront kind s
+  cut : ((pre : List ℕ) → split_at kind (pre ++ s) (length pre) ≡ None) → ItemFront kind s
   whole : (x : Item) (post : List ℕ) → item_fits kind x ≡ true → s ≡ item_bytes kind x ++ post → ItemFront kind s
 
 module _ (kind : Kind) (name : List ℕ) (f : name_fits name ≡ true) where
@@ -232,7 +232,7 @@ module _ (kind : Kind) (name : List ℕ) (f : name_fits name ≡ true) where
   rule_front (c ∷ rest) Count e = counted_front c rest e (leb c (length rest)) refl
 
 -- One prefix without a last byte.
-lone_zero : (kind : Kind) (x : ℕ) → x ≡ 0 → (pre : List ℕ) → split_at kind (pre ++ (x ∷ [])) (length pre) ≡ P.Cut
+lone_zero : (kind : Kind) (x : ℕ) → x ≡ 0 → (pre : List ℕ) → split_at kind (pre ++ (x ∷ [])) (length pre) ≡ None
 lone_zero kind x e pre =
     let n : length (pre ++ (x ∷ [])) ≡ length pre + 1 = length-append pre (x ∷ []) in
     let z : get_or (pre ++ (x ∷ [])) (length pre) 0 ≡ 0 = get_or-append_seam pre x [] 0 ∙ e in
@@ -241,7 +241,7 @@ lone_zero kind x e pre =
 
 -- Two of them.
 lone_zeros : (kind : Kind) (x y : ℕ) → x ≡ 0 → y ≡ 0 → (pre : List ℕ)
-    → split_at kind (pre ++ (x ∷ y ∷ [])) (length pre) ≡ P.Cut
+    → split_at kind (pre ++ (x ∷ y ∷ [])) (length pre) ≡ None
 lone_zeros kind x y e q pre =
     let n : length (pre ++ (x ∷ y ∷ [])) ≡ length pre + 2 = length-append pre (x ∷ y ∷ []) in
     let z : get_or (pre ++ (x ∷ y ∷ [])) (length pre) 0 ≡ 0 = get_or-append_seam pre x (y ∷ []) 0 ∙ e in

@@ -1,6 +1,7 @@
 -- Where a read that gives an item goes on: past its place, and inside the string. What refuses a read before the end. Assumes nothing.
+use Rattle.std.specs.Prelude.{Option, Some, None}
 use Prim.Native.Nat.{ℕ, ◌+◌, ◌-◌, ◌≤◌, ◌<◌}
-use mathlib.Core.Path.{◌≡◌, refl}
+use mathlib.Core.Path.{◌≡◌, refl, sym, ap}
 use mathlib.Core.Bool.{Bool, true, false, cond, ◌&&◌}
 use mathlib.Core.List.{List}
 use native.Mathlib.Omega.{arith}
@@ -12,31 +13,35 @@ use Rattle.mmc.specs.declared.length.Length.{Length}
 use Rattle.mmc.specs.declared.length.Length.TheVariants.{Fixed, Count}
 use Rattle.mmc.specs.declared.part.Part.{Part}
 use Rattle.mmc.specs.declared.split.Parts.{Parts}
-use Rattle.mmc.specs.declared.split.Parts.TheVariants.{Item, Cut}
 use Rattle.mmc.specs.Length.{length_of}
 use Rattle.mmc.specs.Part.{part}
-use Rattle.mmc.specs.Split.{prefixes_at, measured, by_length, split_at, ItemPlace, found, next, answer_as, next_as}
+use Rattle.mmc.specs.Split.{prefixes_at, measured, by_length, split_at, ItemPlace, found, next, answer_as, next_as, parts_of}
 use Rattle.universal.specs.Refusals.{Refusal, Answer, gives, refused, refusal}
 use Rattle.universal.proofs.Tests.{and_parts}
 
 -- An item that was found under a test: the test holds.
-under : (b : Bool) (x : Parts) (n d : Part) (e : ℕ) → cond b x Cut ≡ Item n d e → (b ≡ true) × (x ≡ Item n d e)
+under : (b : Bool) (x : Option Parts) (n d : Part) (e : ℕ) → cond b x None ≡ parts_of n d e → (b ≡ true) × (x ≡ parts_of n d e)
 under true x n d e h = (refl, h)
 under false x n d e h = absurd (let z : ◌≡◌ {A = ℕ} 0 1 = cc in omega arith)
 
-measured_end : (body : List ℕ) (name : Part) (at len : ℕ) (n d : Part) (e : ℕ) → measured body name at len ≡ Item n d e
+-- The place after it.
+abbrev place_after : Option Parts → ℕ
+place_after (Some p) = p.next
+place_after None = 0
+
+measured_end : (body : List ℕ) (name : Part) (at len : ℕ) (n d : Part) (e : ℕ) → measured body name at len ≡ parts_of n d e
     → (at ≤ e) × (e ≤ length body)
 unfolding measured
 measured_end body name at len n d e h =
-    let t = under (leb at (length body) && leb len (length body - at)) (Item name (part at len) (at + len)) n d e h in
+    let t = under (leb at (length body) && leb len (length body - at)) (parts_of name (part at len) (at + len)) n d e h in
     let p = and_parts (leb at (length body)) (leb len (length body - at)) t.0 in
     let a : at ≤ length body = leb-true at (length body) p.0 in
     let b : len ≤ length body - at = leb-true len (length body - at) p.1 in
-    let i : Item name (part at len) (at + len) ≡ Item n d e = t.1 in
-    let q : e ≡ at + len = cc in
+    let i : parts_of name (part at len) (at + len) ≡ parts_of n d e = t.1 in
+    let q : e ≡ at + len = sym (ap place_after i) in
     (omega arith, omega arith)
 
-by_length_end : (body : List ℕ) (name : Part) (at : ℕ) (rule : Length) (n d : Part) (e : ℕ) → by_length body name at rule ≡ Item n d e
+by_length_end : (body : List ℕ) (name : Part) (at : ℕ) (rule : Length) (n d : Part) (e : ℕ) → by_length body name at rule ≡ parts_of n d e
     → (at ≤ e) × (e ≤ length body)
 by_length_end body name at (Fixed k) n d e h = measured_end body name at k n d e h
 by_length_end body name at Count n d e h =
@@ -44,7 +49,7 @@ by_length_end body name at Count n d e h =
     let m = measured_end body name (at + 1) (get_or body at 0) n d e t.1 in
     (omega (arith, m.0), m.1)
 
-split_end : (kind : Kind) (body : List ℕ) (at : ℕ) (n d : Part) (e : ℕ) → split_at kind body at ≡ Item n d e
+split_end : (kind : Kind) (body : List ℕ) (at : ℕ) (n d : Part) (e : ℕ) → split_at kind body at ≡ parts_of n d e
     → (at < e) × (e ≤ length body)
 unfolding split_at
 split_end kind body at n d e h =
@@ -57,13 +62,13 @@ split_end kind body at n d e h =
 
 -- ---- a read
 
-next_moves : (body : List ℕ) (place : ℕ) (l : ItemPlace) (b : Bool) (s : Parts)
-    → ((n d : Part) (e : ℕ) → s ≡ Item n d e → (place < e) × (e ≤ length body))
+next_moves : (body : List ℕ) (place : ℕ) (l : ItemPlace) (b : Bool) (s : Option Parts)
+    → ((n d : Part) (e : ℕ) → s ≡ parts_of n d e → (place < e) × (e ≤ length body))
     → (cond b (found s (length body)) (record { answer = refused (refusal 9); place = place })).answer ≡ gives l
     → (place < (cond b (found s (length body)) (record { answer = refused (refusal 9); place = place })).place)
     × ((cond b (found s (length body)) (record { answer = refused (refusal 9); place = place })).place ≤ length body)
-next_moves body place l true (Item n d e) f h = f n d e refl
-next_moves body place l true Cut f h = absurd (let z : ◌≡◌ {A = ℕ} 0 1 = cc in omega arith)
+next_moves body place l true (Some p) f h = f p.item.name p.item.«data» p.next refl
+next_moves body place l true None f h = absurd (let z : ◌≡◌ {A = ℕ} 0 1 = cc in omega arith)
 next_moves body place l false s f h = absurd (let z : ◌≡◌ {A = ℕ} 0 1 = cc in omega arith)
 
 pub moves : (kind : Kind) (body : List ℕ) (place : ℕ) (l : ItemPlace) → (next kind body place).answer ≡ gives l
@@ -86,9 +91,9 @@ read_moves f x kind body place h =
 
 -- ---- a refused read
 
-refused_by : (s : Parts) (end : ℕ) (r : Refusal) → (found s end).answer ≡ refused r → r ≡ refusal 2
-refused_by (Item n d e) end r h = absurd (let z : ◌≡◌ {A = ℕ} 0 1 = cc in omega arith)
-refused_by Cut end r h = cc
+refused_by : (s : Option Parts) (end : ℕ) (r : Refusal) → (found s end).answer ≡ refused r → r ≡ refusal 2
+refused_by (Some p) end r h = absurd (let z : ◌≡◌ {A = ℕ} 0 1 = cc in omega arith)
+refused_by None end r h = cc
 
 -- Before the end it is the string that is cut short.
 pub cut_short : (kind : Kind) (body : List ℕ) (place : ℕ) → place < length body → (r : Refusal)

@@ -1,6 +1,6 @@
 -- A name that begins with 00H has more than one byte. Assumes nothing.
 use Rattle.universal.specs.declared.error.SysexError.{SysexError}
-use Rattle.std.specs.Prelude.{Result}
+use Rattle.std.specs.Prelude.{Result, Option, None, Ok, Some}
 use Prim.Native.Nat.{ℕ, ◌+◌, ◌-◌, ◌≤◌, ◌<◌}
 use mathlib.Core.Path.{◌≡◌, refl, sym, ap, ◌∙◌}
 use mathlib.Core.Bool.{Bool, true, false, cond, ◌&&◌, true≢false}
@@ -15,23 +15,22 @@ use Rattle.mmc.specs.declared.length.Length.{Length}
 use Rattle.mmc.specs.declared.length.Length.TheVariants.{Fixed, Count}
 use Rattle.mmc.specs.declared.part.Part.{Part}
 use Rattle.mmc.specs.declared.split.Parts.{Parts}
-use Rattle.mmc.specs.declared.split.Parts.TheVariants.{Item, Cut}
 use Rattle.mmc.specs.Length.{length_of}
 use Rattle.mmc.specs.Part.{part, part_of, is_inside}
-use Rattle.mmc.specs.Split.{ItemPlace, Next, prefixes_at, measured, by_length, split_at, found, next, next_item_of}
+use Rattle.mmc.specs.Split.{ItemPlace, Next, prefixes_at, measured, by_length, split_at, found, next, next_item_of, parts_of}
 use Rattle.universal.specs.Refusals.{Answer, gives, refused}
 use Rattle.mmc.proofs.RangeTests.{get_d_any}
 
 -- An item has this name.
-abbrev Named : Part → Parts → Type 0
-Named p (Item n d after) = n ≡ p
-Named p Cut = Unit {0}
+abbrev Named : Part → Option Parts → Type 0
+Named p (Some x) = x.item.name ≡ p
+Named p None = Unit {0}
 
 measured_named : (body : List ℕ) (name : Part) (after len : ℕ) → Named name (measured body name after len)
 unfolding measured
 measured_named body name after len = go (leb after (length body) && leb len (length body - after))
   where
-    go : (b : Bool) → Named name (cond b (Item name (part after len) (after + len)) Cut)
+    go : (b : Bool) → Named name (cond b (parts_of name (part after len) (after + len)) None)
     go true = refl
     go false = tt
 
@@ -39,7 +38,7 @@ length_named : (body : List ℕ) (name : Part) (after : ℕ) (rule : Length) →
 length_named body name after (Fixed n) = measured_named body name after n
 length_named body name after Count = go (ltb after (length body))
   where
-    go : (b : Bool) → Named name (cond b (measured body name (after + 1) (get_or body after 0)) Cut)
+    go : (b : Bool) → Named name (cond b (measured body name (after + 1) (get_or body after 0)) None)
     go true = measured_named body name (after + 1) (get_or body after 0)
     go false = tt
 
@@ -52,19 +51,19 @@ split_named kind body at = go (ltb (at + prefixes_at body at) (length body))
 
     go : (b : Bool)
         → Named name
-        (cond b (by_length body name (at + prefixes_at body at + 1) (length_of kind (get_or body (at + prefixes_at body at) 0))) Cut)
+        (cond b (by_length body name (at + prefixes_at body at + 1) (length_of kind (get_or body (at + prefixes_at body at) 0))) None)
     go true = length_named body name (at + prefixes_at body at + 1) (length_of kind (get_or body (at + prefixes_at body at) 0))
     go false = tt
 
 -- What is found is a name with them.
-item_named : (s : Parts) (p n d : Part) (end at : ℕ) → Named p s
-    → next_item_of (record { answer = Found n d; place = at }) ≡ found s end → n ≡ p
-item_named (Item m a after) p n d end at h e = ap (λ (x : Next ItemPlace). name_in x.answer) e ∙ h
+item_named : (s : Option Parts) (p n d : Part) (end at : ℕ) → Named p s
+    → next_item_of (record { answer = Ok (record { name = n; «data» = d }); place = at }) ≡ found s end → n ≡ p
+item_named (Some x) p n d end at h e = ap (λ (y : Next ItemPlace). name_in y.answer) e ∙ h
   where
     name_in : Answer ItemPlace → Part
     name_in (gives l) = l.name
     name_in (refused r) = p
-item_named Cut p n d end at h e = absurd (true≢false (ap (λ (x : Next ItemPlace). is_given x.answer) e))
+item_named None p n d end at h e = absurd (true≢false (ap (λ (x : Next ItemPlace). is_given x.answer) e))
   where
     is_given : Answer ItemPlace → Bool
     is_given (gives l) = true
@@ -94,10 +93,10 @@ module _ (kind : Kind) (body : List ℕ) (place at : ℕ) (l : place < length bo
       go false = lit≤ tt
 
   -- An item that was found where 00H stands has no name of one byte.
-  pub long : (n d : Part) → k ≡ Found n d → length (part_of body n) ≡ 1 → ⊥
+  pub long : (n d : Part) → k ≡ Ok (record { name = n; «data» = d }) → length (part_of body n) ≡ 1 → ⊥
   unfolding next
   long n d q h =
-      let f : next_item_of (record { answer = Found n d; place = at }) ≡ found (split_at kind body place) (length body) =
+      let f : next_item_of (record { answer = Ok (record { name = n; «data» = d }); place = at }) ≡ found (split_at kind body place) (length body) =
       ap (λ (y : Result ItemPlace SysexError). next_item_of (record { answer = y; place = at })) (sym q) ∙ e ∙ rw (lt-ltb place (length body) l) refl in
       let m : n.len ≡ prefixes_at body place + 1 =
       ap (λ (p : Part). p.len)

@@ -1,5 +1,5 @@
 -- The splitter, test by test. Assumes nothing.
-use Rattle.std.specs.Prelude.{Result}
+use Rattle.std.specs.Prelude.{Result, None, Ok, Err}
 use Prim.Native.Nat.{ℕ, ◌+◌, ◌-◌, ◌≤◌, ◌<◌}
 use mathlib.Core.Path.{◌≡◌, sym, ap, ap₂, ◌∙◌}
 use mathlib.Core.Bool.{Bool, true, false, cond}
@@ -10,10 +10,9 @@ use lib.ListN.{length, get_or, get_or-eq_default}
 use Rattle.mmc.specs.declared.length.Kind.{Kind}
 use Rattle.mmc.specs.declared.length.Length.TheVariants.{Fixed, Count}
 use Rattle.mmc.specs.declared.part.Part.{Part}
-use Rattle.mmc.specs.declared.split.Parts.TheVariants.{Item, Cut}
 use Rattle.mmc.specs.Length.{length_of}
 use Rattle.mmc.specs.Part.{part, part_of}
-use Rattle.mmc.specs.Split.{prefixes_at, measured, split_at, ItemPlace, Next, next, next_as, next_item_of}
+use Rattle.mmc.specs.Split.{prefixes_at, measured, split_at, ItemPlace, Next, next, next_as, next_item_of, parts_of}
 use Rattle.universal.specs.Refusals.{gives, refused, refusal, refusal_of}
 use Rattle.universal.specs.declared.error.SysexError.{SysexError}
 use Rattle.mmc.proofs.RangeTests.{get_d_any}
@@ -52,22 +51,22 @@ few_zeros body at = go (eqb (get_or body at 1) 0) (eqb (get_or body (at + 1) 1) 
 -- ---- the data after it
 
 module _ (body : List ℕ) (name : Part) (after len : ℕ) where
-  pub past_the_end : length body < after → Cut ≡ measured body name after len
+  pub past_the_end : length body < after → None ≡ measured body name after len
   unfolding measured
   past_the_end h = rw (lt-leb after (length body) h)
 
-  pub too_few : after ≤ length body → length body - after < len → Cut ≡ measured body name after len
+  pub too_few : after ≤ length body → length body - after < len → None ≡ measured body name after len
   unfolding measured
   too_few l h = rw (le-leb after (length body) l, lt-leb len (length body - after) h)
 
-  pub enough : after ≤ length body → len ≤ length body - after → Item name (part after len) (after + len) ≡ measured body name after len
+  pub enough : after ≤ length body → len ≤ length body - after → parts_of name (part after len) (after + len) ≡ measured body name after len
   unfolding measured
   enough l h = rw (le-leb after (length body) l, le-leb len (length body - after) h)
 
 -- ---- the item
 
 module _ (kind : Kind) (body : List ℕ) (at zeros : ℕ) (z : zeros ≡ prefixes_at body at) where
-  pub cut_name : length body ≤ at + zeros → Cut ≡ split_at kind body at
+  pub cut_name : length body ≤ at + zeros → None ≡ split_at kind body at
   unfolding split_at
   cut_name h = rw (sym z, le-ltb (at + zeros) (length body) h)
 
@@ -77,7 +76,7 @@ module _ (kind : Kind) (body : List ℕ) (at zeros : ℕ) (z : zeros ≡ prefixe
     unfolding split_at
     fixed_data n e = rw (sym z, lt-ltb (at + zeros) (length body) l, e)
 
-    pub no_count : length_of kind (get_or body (at + zeros) 0) ≡ Count → length body ≤ at + zeros + 1 → Cut ≡ split_at kind body at
+    pub no_count : length_of kind (get_or body (at + zeros) 0) ≡ Count → length body ≤ at + zeros + 1 → None ≡ split_at kind body at
     unfolding split_at
     no_count e h = rw (sym z, lt-ltb (at + zeros) (length body) l, e, le-ltb (at + zeros + 1) (length body) h)
 
@@ -93,12 +92,12 @@ module _ (kind : Kind) (body : List ℕ) (place : ℕ) where
   unfolding next
   next_end h = rw (le-ltb place (length body) h)
 
-  pub next_cut : place < length body → split_at kind body place ≡ Cut
+  pub next_cut : place < length body → split_at kind body place ≡ None
       → record { answer = refused (refusal 2); place = length body } ≡ next kind body place
   unfolding next
   next_cut h e = rw (lt-ltb place (length body) h, e)
 
-  pub next_item : (n d : Part) (after : ℕ) → place < length body → split_at kind body place ≡ Item n d after
+  pub next_item : (n d : Part) (after : ℕ) → place < length body → split_at kind body place ≡ parts_of n d after
       → record { answer = gives (record { name = n; «data» = d }); place = after } ≡ next kind body place
   unfolding next
   next_item n d after h e = rw (lt-ltb place (length body) h, e)
@@ -106,14 +105,14 @@ module _ (kind : Kind) (body : List ℕ) (place : ℕ) where
 -- It is read as something where it was found, and its refusal stays.
 module _ {A : Type 0} (f : ItemPlace → A) (x : Next ItemPlace) (k : Result ItemPlace SysexError) (place : ℕ)
     (e : next_item_of (record { answer = k; place = place }) ≡ x) where
-  pub read_found : (n d : Part) (r : A) → k ≡ Found n d → r ≡ f (record { name = n; «data» = d })
+  pub read_found : (n d : Part) (r : A) → k ≡ Ok (record { name = n; «data» = d }) → r ≡ f (record { name = n; «data» = d })
       → ◌≡◌ {A = Next A} (record { answer = gives r; place = place }) (next_as f x)
   read_found n d r q p =
       ap (λ (y : A). record { answer = gives y; place = place }) p
       ∙ ap (λ (y : Result ItemPlace SysexError). next_as f (next_item_of (record { answer = y; place = place }))) (sym q)
       ∙ ap (next_as f) e
 
-  pub read_refused : (r : SysexError) → k ≡ Refused r
+  pub read_refused : (r : SysexError) → k ≡ Err r
       → ◌≡◌ {A = Next A} (record { answer = refused (refusal_of r); place = place }) (next_as f x)
   read_refused r q =
       ap (λ (y : Result ItemPlace SysexError). next_as f (next_item_of (record { answer = y; place = place }))) (sym q) ∙ ap (next_as f) e

@@ -1,4 +1,5 @@
 -- Walks over a string: through items that fit, and to the end or to bytes that are cut short. Assumes nothing.
+use Rattle.std.specs.Prelude.{None}
 use Prim.Native.Nat.{ℕ, zero, suc, ◌+◌, ◌-◌, ◌≤◌, ◌<◌}
 use mathlib.Core.Path.{◌≡◌, refl, sym, ap, ap₂, ◌∙◌}
 use mathlib.Core.Bool.{true}
@@ -9,7 +10,6 @@ use native.Mathlib.Omega.{arith}
 use lib.ListN.{length, length-append}
 use Rattle.mmc.specs.declared.length.Kind.{Kind}
 use Rattle.mmc.specs.declared.length.Kind.TheVariants.{Commands, Fields}
-use Rattle.mmc.specs.declared.split.Parts.TheVariants as P
 use Rattle.mmc.specs.Command.{next_command}
 use Rattle.mmc.specs.Field.{next_field}
 use Rattle.mmc.specs.Named.{name_fits}
@@ -72,7 +72,7 @@ module _ {A : Type 0} (f : ItemPlace → A) (kind : Kind) (body : List ℕ) wher
       ap (λ (n : Next A). before n.answer (walk_from (reads f kind body) most n.place)) (ap (next_as f) (sym (next_end kind body place h)))
 
   -- A walk that is before bytes cut short.
-  walk_cut : (most place : ℕ) → 1 ≤ most → place < length body → split_at kind body place ≡ P.Cut
+  walk_cut : (most place : ℕ) → 1 ≤ most → place < length body → split_at kind body place ≡ None
       → walk_from (reads f kind body) most place ≡ record { items = []; stop = refusal 2 }
   unfolding walk_from
   walk_cut zero place m h e = absurd (not-suc-le-zero m)
@@ -117,12 +117,12 @@ module _ {A : Type 0} (f : ItemPlace → A) (kind : Kind) (body : List ℕ) wher
 
   -- To bytes that are cut short.
   pub through_cut : (xs : List Item) → all_fit kind xs ≡ true → (pre tail : List ℕ) → body ≡ pre ++ (joined kind xs ++ tail)
-      → 1 ≤ length tail → ((p : List ℕ) → split_at kind (p ++ tail) (length p) ≡ P.Cut) → (most : ℕ) → length xs < most
+      → 1 ≤ length tail → ((p : List ℕ) → split_at kind (p ++ tail) (length p) ≡ None) → (most : ℕ) → length xs < most
       → walk_from (reads f kind body) most (length pre) ≡ record { items = map f (item_places kind (length pre) xs); stop = refusal 2 }
   through_cut xs h pre tail e s c most l =
       let n : length body ≡ length pre + (length (joined kind xs) + length tail) = ap length e ∙ simp length-append in
       let q : (pre ++ joined kind xs) ++ tail ≡ body = append_assoc pre (joined kind xs) tail ∙ sym e in
-      let k : split_at kind body (length pre + length (joined kind xs)) ≡ P.Cut =
+      let k : split_at kind body (length pre + length (joined kind xs)) ≡ None =
       rw (q, length-append pre (joined kind xs)) at (c (pre ++ joined kind xs)) in
       through xs h pre tail e (length pre) refl most (omega arith)
       ∙ ap (prepend (map f (item_places kind (length pre) xs)))
@@ -213,7 +213,7 @@ fit_append kind (x ∷ xs) ys h k =
 abbrev pub WalkEnd : Kind → List ℕ → ℕ → Type 0
 WalkEnd kind tail stop =
     ((tail ≡ []) × (stop ≡ 9))
-    ⊎ ((1 ≤ length tail) × (stop ≡ 2) × ((pre : List ℕ) → split_at kind (pre ++ tail) (length pre) ≡ P.Cut))
+    ⊎ ((1 ≤ length tail) × (stop ≡ 2) × ((pre : List ℕ) → split_at kind (pre ++ tail) (length pre) ≡ None))
 
 -- The items taken from the front of bytes, and what is left.
 pub record TakenItems (kind : Kind) (s : List ℕ) : Type 0 where

@@ -17,6 +17,7 @@ use Rattle.mmc.specs.Named.{Extent, extent_of, name_fits, last_of_name, by_rule,
 use Rattle.universal.specs.Refusals.{refusal}
 use Rattle.universal.specs.Emission.{Emission, sent, refusing, ◌then◌}
 use Rattle.universal.specs.Message.{all_low}
+use Rattle.universal.specs.Message.{data_emission}
 use Rattle.universal.specs.Overlay.{overlay}
 use Rattle.universal.proofs.Laws.{overlay_none, overlay_then, data_sent, data_refused}
 
@@ -49,6 +50,27 @@ puts_after e bs out middle after at n o l m p = (
     whole : n + o.len ≡ length (bs ++ e.bytes)
     whole = ap₂ (λ (x y : ℕ). x + y) l (ap (λ (q : Extent). q.len) p.0) ∙ sym (length-append bs e.bytes)
 
+-- The buffer after bytes that went out and the emission behind them.
+pub left_behind : (e : Emission) (bs : List ℕ) (rest : Emission) (out middle after : List ℕ) (at next : ℕ) → e ≡ sent bs then rest
+    → middle ≡ overlay out at bs → after ≡ overlay middle next rest.bytes → next ≡ at + length bs → after ≡ overlay out at e.bytes
+left_behind e bs rest out middle after at next q m a n =
+    overlay_then out middle after at next bs rest.bytes m a n ∙ ap (λ (x : Emission). overlay out at x.bytes) (sym q)
+
+-- What a put answers of bytes that went out and the emission behind them.
+pub extent_behind : (bs : List ℕ) (rest : Emission) (o : Extent) → o ≡ extent_of rest
+    → record { len = length bs + o.len; stop = o.stop } ≡ extent_of (sent bs then rest)
+extent_behind bs rest o p =
+    ap (λ (x : Extent). record { len = length bs + x.len; stop = x.stop }) p
+    ∙ ap (λ (k : ℕ). record { len = k; stop = rest.stop }) (sym (length-append bs rest.bytes))
+
+-- Data is no longer than it is.
+pub data_length : (d : List ℕ) → length (data_emission d).bytes ≤ length d
+data_length d = go (all_low d) refl
+  where
+    go : (b : Bool) → all_low d ≡ b → length (data_emission d).bytes ≤ length d
+    go true e = rw (data_sent d e) (omega arith)
+    go false e = rw (data_refused d e) (omega arith)
+
 -- ---- data by the rule
 
 module _ (d : List ℕ) where
@@ -67,6 +89,10 @@ module _ (d : List ℕ) where
   pub count_long : 127 < length d → by_rule Count d ≡ refusing 2
   unfolding by_rule
   count_long h = rw (lt-leb (length d) 127 h)
+
+  pub count_sent : length d ≤ 127 → by_rule Count d ≡ sent (length d ∷ []) then data_emission d
+  unfolding by_rule
+  count_sent h = rw (le-leb (length d) 127 h)
 
   pub count_high : length d ≤ 127 → all_low d ≡ false → by_rule Count d ≡ record { bytes = length d ∷ []; stop = Some (refusal 1) }
   unfolding by_rule
@@ -92,6 +118,11 @@ module _ (kind : Kind) (name d : List ℕ) where
   name_sent f h = rw (f, data_sent name h)
 
 -- ---- a name's form
+
+-- So with the rule that its last byte has.
+pub name_by : (kind : Kind) (name d : List ℕ) (rule : Length) → name_fits name ≡ true → all_low name ≡ true
+    → rule ≡ length_of kind (last_of_name name) → named_item kind name d ≡ sent name then by_rule rule d
+name_by kind name d rule f l e = name_sent kind name d f l ∙ ap (λ (r : Length). sent name then by_rule r d) (sym e)
 
 pub name_length : (name : List ℕ) → name_fits name ≡ true → (1 ≤ length name) × (length name ≤ 3)
 unfolding name_fits

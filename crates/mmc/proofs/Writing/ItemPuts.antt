@@ -1,6 +1,4 @@
 -- Commands and fields put into a buffer, check by check. Assumes nothing.
-use Rattle.universal.specs.declared.error.SysexError.{SysexError}
-use Rattle.std.specs.Prelude.{Some, Result, ⊤}
 use Prim.Native.Nat.{ℕ, ◌+◌, ◌≤◌, ◌<◌}
 use mathlib.Core.Path.{◌≡◌, refl, sym, ap, ap₂, subst, ◌∙◌}
 use mathlib.Core.Bool.{Bool, true, false, cond, ◌&&◌}
@@ -17,13 +15,13 @@ use Rattle.mmc.specs.declared.length.Kind.TheVariants.{Commands, Fields}
 use Rattle.codes.specs.declared.time_code.FinalByte.{FinalByte}
 use Rattle.codes.specs.declared.time_code.StandardTimeCode.{StandardTimeCode}
 use Rattle.codes.specs.declared.time_code.ShortTimeCode.{ShortTimeCode}
-use Rattle.mmc.specs.Item.{checked_item, standard_item, short_item, other_item, write_item, locate_field_item, is_subframes, locate_target_item, move_item, command_item, form_fits, code_fits, time_code_item, short_code_item, field_item}
+use Rattle.mmc.specs.Item.{code_item, standard_item, short_item, other_item, write_item, locate_field_item, is_subframes, locate_target_item, move_item, command_item, form_fits, code_fits, time_code_item, short_code_item, field_item}
 use Rattle.mmc.specs.Length.{within}
 use Rattle.mmc.specs.Named.{Extent, named_item}
 use Rattle.mmc.specs.Part.{is_inside, part_of}
-use Rattle.codes.specs.TimeCode.{checked_of, standard_fits, standard_list, standard_bytes, short_fits, short_list, short_bytes}
+use Rattle.codes.specs.TimeCode.{standard_fits, standard_list, standard_bytes, short_fits, short_list, short_bytes}
 use Rattle.universal.proofs.Laws.{gives_refused}
-use Rattle.universal.specs.Refusals.{Refusal, gives, refused, refusal, refusal_of}
+use Rattle.universal.specs.Refusals.{Refusal, gives, refused, refusal}
 use Rattle.universal.specs.Emission.{Emission, sent, refusing, check, ◌then◌}
 use Rattle.codes.proofs.Laws.{five_bytes, two_bytes}
 use Rattle.mmc.proofs.Writing.EmissionPuts.{Puts, named_small}
@@ -58,23 +56,18 @@ pub short_length : (c : ShortTimeCode) → length (short_item c).bytes ≤ 2
 unfolding short_item
 short_length c = code_length (short_fits c) (short_list c) 2 (two_bytes c)
 
--- Bytes that passed a check as the code's own emission.
-code_checked : (k : Result ⊤ SysexError) (b : List ℕ) (t : Bool) (l : List ℕ) → checked_of k b ≡ cond t (gives l) (refused (refusal 3))
-    → check t 3 then sent l ≡ checked_item k b
-code_checked Accepted b t l e =
-    let g = given_bytes t l b e in
-    ap₂ (λ (x : Bool) (y : List ℕ). check x 3 then sent y) g.0 (sym g.1)
-code_checked (Refused r) b t l e =
-    let g = given_refusal t l (refusal_of r) e in
-    ap (λ (x : Bool). check x 3 then sent l) g.0 ∙ ap (λ (x : Refusal). record { bytes = []; stop = Some x }) (sym g.1)
+-- Bytes under a check are those of its answer.
+code_by : (t : Bool) (l : List ℕ) → check t 3 then sent l ≡ code_item (cond t (gives l) (refused (refusal 3)))
+code_by true l = refl
+code_by false l = refl
 
-pub standard_checked : (c : StandardTimeCode) (k : Result ⊤ SysexError) (b : List ℕ) → checked_of k b ≡ standard_bytes c → standard_item c ≡ checked_item k b
+pub standard_code : (c : StandardTimeCode) → standard_item c ≡ code_item (standard_bytes c)
 unfolding standard_item
-standard_checked c k b e = code_checked k b (standard_fits c) (standard_list c) e
+standard_code c = code_by (standard_fits c) (standard_list c)
 
-pub short_checked : (c : ShortTimeCode) (k : Result ⊤ SysexError) (b : List ℕ) → checked_of k b ≡ short_bytes c → short_item c ≡ checked_item k b
+pub short_code : (c : ShortTimeCode) → short_item c ≡ code_item (short_bytes c)
 unfolding short_item
-short_checked c k b e = code_checked k b (short_fits c) (short_list c) e
+short_code c = code_by (short_fits c) (short_list c)
 
 -- ---- names with data of the source
 

@@ -1,5 +1,5 @@
 -- A writing, call by call. Assumes nothing.
-use Rattle.std.specs.Prelude.{Option, Some, None, Result, ⊤}
+use Rattle.std.specs.Prelude.{Option, Some, None, Result, ⊤, Ok, Err}
 use Prim.Native.Nat.{ℕ, ◌+◌, ◌≤◌, ◌<◌}
 use mathlib.Core.Path.{◌≡◌, refl, sym, ap, ap₂, subst, ◌∙◌}
 use mathlib.Core.Bool.{Bool, true, false, not, cond, ◌&&◌}
@@ -227,10 +227,10 @@ pub left_as : (e known : Emission) (out : List ℕ) (at : ℕ) (left : List ℕ)
     → left ≡ overlay out at e.bytes
 left_as e known out at left q p = p ∙ ap (λ (x : Emission). overlay out at x.bytes) (sym q)
 
-pub past_accepted : (w : Writing) (n : ℕ) (k : Result ⊤ SysexError) → k ≡ Accepted
+pub past_accepted : (w : Writing) (n : ℕ) (k : Result ⊤ SysexError) → k ≡ Ok tt
     → record { at = w.at + n; items = w.items + 1; stop = stop_of k } ≡ writing_past w (record { len = n; stop = stop_of k })
 past_accepted w n k e = rw e
 
-pub past_refused : (w : Writing) (n : ℕ) (k : Result ⊤ SysexError) (r : SysexError) → k ≡ Refused r
+pub past_refused : (w : Writing) (n : ℕ) (k : Result ⊤ SysexError) (r : SysexError) → k ≡ Err r
     → record { at = w.at + n; items = w.items; stop = stop_of k } ≡ writing_past w (record { len = n; stop = stop_of k })
 past_refused w n k r e = rw e

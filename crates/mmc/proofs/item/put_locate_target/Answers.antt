@@ -1,16 +1,15 @@
-use Rattle.mmc.proofs.Writing.ItemPuts.{puts_as, standard_length, target_status, target_sent}
-use Rattle.mmc.proofs.Writing.EmissionPuts.{puts_none, puts_after}
-use mathlib.Core.Path.{refl, ap}
-use native.Mathlib.Omega.{arith}
-use Rattle.mmc.specs.Named.{Extent}
-use Rattle.universal.proofs.Clauses.{result_and_out}
+-- `mmc::item::put_locate_target` meets its contract: the time code stands behind the three bytes. Assumes nothing.
+use mathlib.Core.Path.{ap, sym, refl, ◌∙◌}
+use mathlib.Core.List.{[], ◌∷◌}
+use Rattle.mmc.specs.Item.{code_item}
+use Rattle.universal.specs.Emission.{sent, ◌then◌}
+use Rattle.mmc.proofs.Writing.EmissionPuts.{left_behind}
+use Rattle.mmc.proofs.Writing.ItemPuts.{target_sent, standard_code}
 use Rattle.mmc.proofs.item.put_locate_target.Goals as goal
 
-pub returns-in-Status : goal.returns-in-Status
-returns-in-Status c = result_and_out (puts_none _ 3 _ _ (target_status _ _ c.in-Status.is refl))
-
-pub overflow_add-result : goal.overflow_add-result
-overflow_add-result c = omega (arith, ap (λ (o : Extent). o.len) c.put_standard-rest.ensures.result_value, standard_length c.args.target)
-
-pub returns : goal.returns
-returns c = result_and_out (puts_as _ _ _ _ _ _ (target_sent _ _ c.in_default.is refl) (puts_after _ _ _ _ _ _ 3 _ refl c.put_part.ensures (c.put_standard-rest.ensures.result_value, c.put_standard-rest.ensures.out_after)))
+pub returns-in-Subframes-clause-out_after : goal.returns-in-Subframes-clause-out_after
+returns-in-Subframes-clause-out_after c =
+    left_behind _ (68 ∷ 6 ∷ 1 ∷ []) _ _ _ _ _ _
+    (target_sent c.args.target _ c.in-Subframes.is refl
+    ∙ ap (λ x. sent (68 ∷ 6 ∷ 1 ∷ []) then x) (standard_code c.args.target ∙ ap code_item (sym c.to_bytes.ensures)))
+    c.put_part.ensures c.put_code.ensures.out_after refl

