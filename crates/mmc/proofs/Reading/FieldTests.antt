@@ -11,12 +11,9 @@ use Rattle.codes.specs.declared.time_code.StandardTimeCode.{StandardTimeCode}
 use Rattle.codes.specs.declared.time_code.ShortTimeCode.{ShortTimeCode}
 use Rattle.mmc.specs.Field.{field_by_name, read_field, field_of_case}
 use Rattle.codes.specs.TimeCode.{read_standard, read_short}
-use Rattle.mmc.proofs.RangeTests.{within_range, below_range, above_range}
+use Rattle.mmc.proofs.RangeTests.{within_range, above_range}
 
 module _ (name d : List ℕ) (n a : Part) where
-  pub field_long_name : (length name ≡ 1 → ⊥) → Other n a ≡ field_of_case (read_field name d) n a
-  unfolding read_field
-  field_long_name h = rw (ne_eqb (length name) 1 h)
 
   module _ (l : length name ≡ 1) where
     pub no_code : 1 ≤ get_or name 0 0 → get_or name 0 0 < 32 → (length d ≡ 5 → ⊥) → Other n a ≡ field_of_case (read_field name d) n a
@@ -39,18 +36,3 @@ module _ (name d : List ℕ) (n a : Part) where
     unfolding read_field field_by_name
     short_code f t h k e =
         rw (l, above_range 1 32 (get_or name 0 0) (omega arith) (omega arith), within_range 33 64 (get_or name 0 0) f t, h, e)
-
-    -- any other name: 0, 20H, and 40H and above
-    pub zero_name : get_or name 0 0 < 1 → Other n a ≡ field_of_case (read_field name d) n a
-    unfolding read_field field_by_name
-    zero_name h = rw (l, below_range 1 32 (get_or name 0 0) h, below_range 33 64 (get_or name 0 0) (omega arith))
-
-    pub between_name : 32 ≤ get_or name 0 0 → get_or name 0 0 < 33 → Other n a ≡ field_of_case (read_field name d) n a
-    unfolding read_field field_by_name
-    between_name f t =
-        rw (l, above_range 1 32 (get_or name 0 0) (omega arith) f, below_range 33 64 (get_or name 0 0) t)
-
-    pub high_name : 64 ≤ get_or name 0 0 → Other n a ≡ field_of_case (read_field name d) n a
-    unfolding read_field field_by_name
-    high_name f =
-        rw (l, above_range 1 32 (get_or name 0 0) (omega arith) (omega arith), above_range 33 64 (get_or name 0 0) (omega arith) f)

@@ -1,7 +1,7 @@
 -- The splitter, test by test. Assumes nothing.
 use Rattle.std.specs.Prelude.{Result, None, Ok, Err}
 use Prim.Native.Nat.{ℕ, ◌+◌, ◌-◌, ◌≤◌, ◌<◌}
-use mathlib.Core.Path.{◌≡◌, sym, ap, ap₂, ◌∙◌}
+use mathlib.Core.Path.{◌≡◌, sym, ap, ◌∙◌}
 use mathlib.Core.Bool.{Bool, true, false, cond}
 use mathlib.Core.List.{List}
 use borrow.Author.Tests.{le-leb, lt-leb, lt-ltb, le-ltb, eq-eqb, ne_eqb}
@@ -11,7 +11,7 @@ use Rattle.mmc.specs.declared.length.Kind.{Kind}
 use Rattle.mmc.specs.declared.length.Length.TheVariants.{Fixed, Count}
 use Rattle.mmc.specs.declared.part.Part.{Part}
 use Rattle.mmc.specs.Length.{length_of}
-use Rattle.mmc.specs.Part.{part, part_of}
+use Rattle.mmc.specs.Part.{part}
 use Rattle.mmc.specs.Split.{prefixes_at, measured, split_at, ItemPlace, Next, next, next_as, next_item_of, parts_of}
 use Rattle.universal.specs.Refusals.{gives, refused, refusal, refusal_of}
 use Rattle.universal.specs.declared.error.SysexError.{SysexError}
@@ -28,11 +28,6 @@ module _ (body : List ℕ) (at : ℕ) (l : at < length body) where
     pub one_at_the_end : length body ≤ at + 1 → 1 ≡ prefixes_at body at
     unfolding prefixes_at
     one_at_the_end h = rw (get_d_any body at 1 0 l, eq-eqb (get_or body at 0) 0 z, get_or-eq_default body 1 h)
-
-    pub one_zero : at + 1 < length body → (get_or body (at + 1) 0 ≡ 0 → ⊥) → 1 ≡ prefixes_at body at
-    unfolding prefixes_at
-    one_zero h n =
-        rw (get_d_any body at 1 0 l, eq-eqb (get_or body at 0) 0 z, get_d_any body (at + 1) 1 0 h, ne_eqb (get_or body (at + 1) 0) 0 n)
 
     pub two_zeros : at + 1 < length body → get_or body (at + 1) 0 ≡ 0 → 2 ≡ prefixes_at body at
     unfolding prefixes_at
@@ -116,8 +111,3 @@ module _ {A : Type 0} (f : ItemPlace → A) (x : Next ItemPlace) (k : Result Ite
       → ◌≡◌ {A = Next A} (record { answer = refused (refusal_of r); place = place }) (next_as f x)
   read_refused r q =
       ap (λ (y : Result ItemPlace SysexError). next_as f (next_item_of (record { answer = y; place = place }))) (sym q) ∙ ap (next_as f) e
-
--- What is read of bytes that are two parts of a string.
-pub read_parts : {A : Type 0} (g : List ℕ → List ℕ → Part → Part → A) (body x y : List ℕ) (n d : Part) (r : A) → r ≡ g x y n d
-    → x ≡ part_of body n → y ≡ part_of body d → r ≡ g (part_of body n) (part_of body d) n d
-read_parts g body x y n d r e p q = e ∙ ap₂ (λ (a b : List ℕ). g a b n d) p q

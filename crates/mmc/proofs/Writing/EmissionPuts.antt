@@ -1,13 +1,13 @@
 -- Emissions put into a buffer: what the put functions answer and leave, once the emission is known. Assumes nothing.
 use Rattle.std.specs.Prelude.{Some}
 use Prim.Native.Nat.{ℕ, ◌+◌, ◌≤◌, ◌<◌}
-use mathlib.Core.Path.{◌≡◌, refl, sym, ap, ap₂, subst, ◌∙◌}
-use mathlib.Core.Bool.{Bool, true, false, not, cond, ◌&&◌, true≢false}
-use mathlib.Core.List.{List, [], ◌∷◌, ◌++◌}
+use mathlib.Core.Path.{◌≡◌, refl, sym, ap, ◌∙◌}
+use mathlib.Core.Bool.{Bool, true, false, cond, true≢false}
+use mathlib.Core.List.{List, [], ◌∷◌}
 use native.Mathlib.Omega.{arith}
 use borrow.Author.Tests.{le-leb, lt-leb, eq-eqb, ne_eqb, leb-true, leb-false, eqb-true, eqb-false}
 use lib.Dec.{leb, eqb, lit≤}
-use lib.ListN.{length, get_or, length-append}
+use lib.ListN.{length, length-append}
 use Rattle.mmc.specs.declared.length.Kind.{Kind}
 use Rattle.mmc.specs.declared.length.Kind.TheVariants.{Commands, Fields}
 use Rattle.mmc.specs.declared.length.Length.{Length}
@@ -19,7 +19,7 @@ use Rattle.universal.specs.Emission.{Emission, sent, refusing, ◌then◌}
 use Rattle.universal.specs.Message.{all_low}
 use Rattle.universal.specs.Message.{data_emission}
 use Rattle.universal.specs.Overlay.{overlay}
-use Rattle.universal.proofs.Laws.{overlay_none, overlay_then, data_sent, data_refused}
+use Rattle.universal.proofs.Laws.{overlay_then, data_sent, data_refused}
 
 -- What a put answers and leaves of an emission.
 abbrev pub Puts : Emission → List ℕ → ℕ → Extent → List ℕ → Type 0
@@ -32,23 +32,6 @@ puts e known out at n after q l b = (
   ap (λ (k : ℕ). record { len = k; stop = known.stop }) l ∙ ap extent_of (sym q),
   b ∙ ap (λ (x : Emission). overlay out at x.bytes) (sym q),
 )
-
--- A refusal before anything goes out.
-pub puts_none : (e : Emission) (k : ℕ) (out : List ℕ) (at : ℕ) → e ≡ refusing k
-    → Puts e out at (record { len = 0; stop = Some (refusal k) }) out
-puts_none e k out at q = puts e (refusing k) out at 0 out q refl (sym (overlay_none out at))
-
--- One emission put after bytes that went out.
-pub puts_after : (e : Emission) (bs : List ℕ) (out middle after : List ℕ) (at n : ℕ) (o : Extent) → n ≡ length bs
-    → middle ≡ overlay out at bs → Puts e middle (at + n) o after
-    → Puts (sent bs then e) out at (record { len = n + o.len; stop = o.stop }) after
-puts_after e bs out middle after at n o l m p = (
-  λ i. record { len = whole i; stop = (p.0 i).stop },
-  overlay_then out middle after at (at + n) bs e.bytes m p.1 (ap (λ (k : ℕ). at + k) l),
-)
-  where
-    whole : n + o.len ≡ length (bs ++ e.bytes)
-    whole = ap₂ (λ (x y : ℕ). x + y) l (ap (λ (q : Extent). q.len) p.0) ∙ sym (length-append bs e.bytes)
 
 -- The buffer after bytes that went out and the emission behind them.
 pub left_behind : (e : Emission) (bs : List ℕ) (rest : Emission) (out middle after : List ℕ) (at next : ℕ) → e ≡ sent bs then rest
@@ -132,36 +115,6 @@ name_length (a ∷ x ∷ []) e = (omega arith, omega arith)
 name_length (a ∷ b ∷ x ∷ []) e = (omega arith, omega arith)
 name_length (a ∷ b ∷ x ∷ y ∷ l) e = absurd (true≢false (sym e))
 
--- By its length, and its first bytes.
-pub fits_one : (name : List ℕ) → length name ≡ 1 → not (eqb (get_or name 0 0) 0) ≡ name_fits name
-unfolding name_fits
-fits_one [] e = absurd (omega arith)
-fits_one (x ∷ []) e = refl
-fits_one (x ∷ y ∷ l) e = absurd (omega arith)
-
-pub fits_two : (name : List ℕ) → length name ≡ 2 → (eqb (get_or name 0 0) 0 && not (eqb (get_or name 1 0) 0)) ≡ name_fits name
-unfolding name_fits
-fits_two [] e = absurd (omega arith)
-fits_two (x ∷ []) e = absurd (omega arith)
-fits_two (a ∷ x ∷ []) e = refl
-fits_two (a ∷ x ∷ y ∷ l) e = absurd (omega arith)
-
-pub fits_three : (name : List ℕ) → length name ≡ 3 → (eqb (get_or name 0 0) 0 && eqb (get_or name 1 0) 0) ≡ name_fits name
-unfolding name_fits
-fits_three [] e = absurd (omega arith)
-fits_three (x ∷ []) e = absurd (omega arith)
-fits_three (a ∷ x ∷ []) e = absurd (omega arith)
-fits_three (a ∷ b ∷ x ∷ []) e = refl
-fits_three (a ∷ b ∷ x ∷ y ∷ l) e = absurd (omega arith)
-
-pub fits_never : (name : List ℕ) → (length name ≡ 1 → ⊥) → (length name ≡ 2 → ⊥) → (length name ≡ 3 → ⊥) → false ≡ name_fits name
-unfolding name_fits
-fits_never [] a b c = refl
-fits_never (x ∷ []) a b c = absurd (a refl)
-fits_never (x ∷ y ∷ []) a b c = absurd (b refl)
-fits_never (x ∷ y ∷ z ∷ []) a b c = absurd (c refl)
-fits_never (x ∷ y ∷ z ∷ w ∷ l) a b c = refl
-
 -- ---- together
 
 pub of_rule : (d : List ℕ) (r q : Length) → r ≡ q → by_rule r d ≡ by_rule q d
@@ -181,15 +134,6 @@ rule_length Count d = go (leb (length d) 127) (all_low d) refl refl
     go true true e l = rw (count_low d (leb-true (length d) 127 e) l) (omega arith)
     go true false e l = rw (count_high d (leb-true (length d) 127 e) l) (omega arith)
     go false b e l = rw (count_long d (leb-false (length d) 127 e)) (omega arith)
-
-pub named_puts : (kind : Kind) (name d : List ℕ) → name_fits name ≡ true → all_low name ≡ true → (rule : Length)
-    → rule ≡ length_of kind (last_of_name name) → (out middle after : List ℕ) (at : ℕ) (o : Extent) → middle ≡ overlay out at name
-    → Puts (by_rule rule d) middle (at + length name) o after
-    → Puts (named_item kind name d) out at (record { len = length name + o.len; stop = o.stop }) after
-named_puts kind name d f h rule e out middle after at o m p =
-    subst (λ (x : Emission). Puts x out at (record { len = length name + o.len; stop = o.stop }) after)
-    (sym (name_sent kind name d f h ∙ ap (λ (r : Length). sent name then by_rule r d) (sym e)))
-    (puts_after (by_rule rule d) name out middle after at (length name) o refl m p)
 
 -- ---- how much goes out at most
 

@@ -1,6 +1,6 @@
 -- Commands and fields put into a buffer, check by check. Assumes nothing.
 use Prim.Native.Nat.{ℕ, ◌+◌, ◌≤◌, ◌<◌}
-use mathlib.Core.Path.{◌≡◌, refl, sym, ap, ap₂, subst, ◌∙◌}
+use mathlib.Core.Path.{◌≡◌, refl}
 use mathlib.Core.Bool.{Bool, true, false, cond, ◌&&◌}
 use mathlib.Core.List.{List, [], ◌∷◌}
 use native.Mathlib.Omega.{arith}
@@ -9,39 +9,21 @@ use Rattle.mmc.specs.declared.command.MmcCommand.{MmcCommand}
 use Rattle.mmc.specs.declared.command.MmcCommand.TheVariants as C
 use Rattle.mmc.specs.declared.field.InfoField.{InfoField}
 use Rattle.mmc.specs.declared.field.InfoField.TheVariants as F
-use Rattle.mmc.specs.declared.length.Kind.{Kind}
-use Rattle.mmc.specs.declared.part.Part.{Part}
 use Rattle.mmc.specs.declared.length.Kind.TheVariants.{Commands, Fields}
 use Rattle.codes.specs.declared.time_code.FinalByte.{FinalByte}
 use Rattle.codes.specs.declared.time_code.StandardTimeCode.{StandardTimeCode}
 use Rattle.codes.specs.declared.time_code.ShortTimeCode.{ShortTimeCode}
 use Rattle.mmc.specs.Item.{code_item, standard_item, short_item, other_item, write_item, locate_field_item, is_subframes, locate_target_item, move_item, command_item, form_fits, code_fits, time_code_item, short_code_item, field_item}
 use Rattle.mmc.specs.Length.{within}
-use Rattle.mmc.specs.Named.{Extent, named_item}
 use Rattle.mmc.specs.Part.{is_inside, part_of}
 use Rattle.codes.specs.TimeCode.{standard_fits, standard_list, standard_bytes, short_fits, short_list, short_bytes}
-use Rattle.universal.proofs.Laws.{gives_refused}
-use Rattle.universal.specs.Refusals.{Refusal, gives, refused, refusal}
-use Rattle.universal.specs.Emission.{Emission, sent, refusing, check, ◌then◌}
+use Rattle.universal.specs.Refusals.{gives, refused, refusal}
+use Rattle.universal.specs.Emission.{Emission, sent, check, ◌then◌}
 use Rattle.codes.proofs.Laws.{five_bytes, two_bytes}
-use Rattle.mmc.proofs.Writing.EmissionPuts.{Puts, named_small}
-use Rattle.mmc.proofs.RangeTests.{within_range, below_range, above_range, within_told}
-
--- What is put of an emission is put of one equal to it.
-pub puts_as : (e known : Emission) (out : List ℕ) (at : ℕ) (o : Extent) (after : List ℕ) → e ≡ known → Puts known out at o after
-    → Puts e out at o after
-puts_as e known out at o after q p = subst (λ (x : Emission). Puts x out at o after) (sym q) p
+use Rattle.mmc.proofs.Writing.EmissionPuts.{named_small}
+use Rattle.mmc.proofs.RangeTests.{within_told}
 
 -- ---- time codes
-
--- Bytes that were given, or the refusal, tell the check.
-given_bytes : (t : Bool) (l b : List ℕ) → gives b ≡ cond t (gives l) (refused (refusal 3)) → (t ≡ true) × (b ≡ l)
-given_bytes true l b e = (refl, cc)
-given_bytes false l b e = absurd (gives_refused b (refusal 3) (sym e))
-
-given_refusal : (t : Bool) (l : List ℕ) (r : Refusal) → refused r ≡ cond t (gives l) (refused (refusal 3)) → (t ≡ false) × (r ≡ refusal 3)
-given_refusal false l r e = (refl, cc)
-given_refusal true l r e = absurd (gives_refused l r e)
 
 -- At most so many bytes go out.
 code_length : (t : Bool) (l : List ℕ) (n : ℕ) → length l ≡ n → length (check t 3 then sent l).bytes ≤ n
@@ -71,81 +53,14 @@ short_code c = code_by (short_fits c) (short_list c)
 
 -- ---- names with data of the source
 
-module _ (kind : Kind) (source : List ℕ) (n d : Part) where
-  pub name_outside : is_inside source n ≡ false → other_item kind source n d ≡ refusing 6
-  unfolding other_item
-  name_outside h = rw h
-
-  pub data_outside : is_inside source n ≡ true → is_inside source d ≡ false → other_item kind source n d ≡ refusing 6
-  unfolding other_item
-  data_outside i h = rw (i, h)
-
-  pub both_inside : is_inside source n ≡ true → is_inside source d ≡ true
-      → other_item kind source n d ≡ named_item kind (part_of source n) (part_of source d)
-  unfolding other_item
-  both_inside i j = rw (i, j)
-
-module _ (source : List ℕ) (d : Part) where
-  pub write_outside : is_inside source d ≡ false → write_item source d ≡ refusing 6
-  unfolding write_item
-  write_outside h = rw h
-
-  pub write_inside : is_inside source d ≡ true → write_item source d ≡ named_item Commands (64 ∷ []) (part_of source d)
-  unfolding write_item
-  write_inside h = rw h
-
--- What is put of a name and data is put of the parts that they are.
-pub named_as : (kind : Kind) (e : Emission) (x y u v : List ℕ) (out : List ℕ) (at : ℕ) (o : Extent) (after : List ℕ)
-    → e ≡ named_item kind u v → x ≡ u → y ≡ v → Puts (named_item kind x y) out at o after → Puts e out at o after
-named_as kind e x y u v out at o after q p r k =
-    puts_as e (named_item kind x y) out at o after (q ∙ ap₂ (named_item kind) (sym p) (sym r)) k
-
 -- ---- locate and move
-
-pub register_below : (r : ℕ) → r < 8 → locate_field_item r ≡ refusing 3
-unfolding locate_field_item
-register_below r h = rw (below_range 8 16 r h)
-
-pub register_above : (r : ℕ) → 8 ≤ r → 16 ≤ r → locate_field_item r ≡ refusing 3
-unfolding locate_field_item
-register_above r l h = rw (above_range 8 16 r l h)
-
-pub register_sent : (r : ℕ) → 8 ≤ r → r < 16 → locate_field_item r ≡ sent (68 ∷ 2 ∷ 0 ∷ r ∷ [])
-unfolding locate_field_item
-register_sent r l h = rw (within_range 8 16 r l h)
-
-pub target_status : (c : StandardTimeCode) (f : FinalByte) → c.final_byte ≡ f → is_subframes f ≡ false → locate_target_item c ≡ refusing 3
-unfolding locate_target_item
-target_status c f e h = rw (e, h)
 
 pub target_sent : (c : StandardTimeCode) (f : FinalByte) → c.final_byte ≡ f → is_subframes f ≡ true
     → locate_target_item c ≡ sent (68 ∷ 6 ∷ 1 ∷ []) then standard_item c
 unfolding locate_target_item
 target_sent c f e h = rw (e, h)
 
-module _ (d s : ℕ) where
-  pub move_destination : within 1 32 d ≡ false → move_item d s ≡ refusing 3
-  unfolding move_item
-  move_destination h = rw h
-
-  pub move_source : within 1 32 d ≡ true → within 1 32 s ≡ false → move_item d s ≡ refusing 3
-  unfolding move_item
-  move_source h k = rw (h, k)
-
-  pub move_sent : within 1 32 d ≡ true → within 1 32 s ≡ true → move_item d s ≡ sent (76 ∷ 2 ∷ d ∷ s ∷ [])
-  unfolding move_item
-  move_sent h k = rw (h, k)
-
 -- ---- time code fields
-
--- The name, and then the form.
-pub code_name_unfit : (f : ℕ) (g : Bool) (l : FinalByte) → within 1 32 f ≡ false → false ≡ code_fits f g l
-unfolding code_fits
-code_name_unfit f g l h = rw h
-
-pub form_told : (f : ℕ) (g : Bool) (l : FinalByte) → within 1 32 f ≡ true → form_fits f g l ≡ code_fits f g l
-unfolding code_fits
-form_told f g l h = rw h
 
 pub fits_below : (f : ℕ) (g : Bool) (l : FinalByte) → code_fits f g l ≡ true → f < 32
 unfolding code_fits
@@ -155,18 +70,10 @@ fits_below f g l h = (within_told 1 32 f (and_left (within 1 32 f) (form_fits f 
     and_left true b e = refl
     and_left false b e = e
 
-pub code_unfit : (f : ℕ) (c : StandardTimeCode) → code_fits f c.negative c.final_byte ≡ false → time_code_item f c ≡ refusing 3
-unfolding time_code_item
-code_unfit f c h = rw h
-
 pub code_sent : (f : ℕ) (c : StandardTimeCode) → code_fits f c.negative c.final_byte ≡ true
     → time_code_item f c ≡ sent (f ∷ []) then standard_item c
 unfolding time_code_item
 code_sent f c h = rw h
-
-pub short_unfit : (f : ℕ) (c : ShortTimeCode) → code_fits f c.negative c.final_byte ≡ false → short_code_item f c ≡ refusing 3
-unfolding short_code_item
-short_unfit f c h = rw h
 
 pub short_sent : (f : ℕ) (c : ShortTimeCode) → code_fits f c.negative c.final_byte ≡ true
     → short_code_item f c ≡ sent ((f + 32) ∷ []) then short_item c
@@ -174,16 +81,6 @@ unfolding short_code_item
 short_sent f c h = rw h
 
 -- ---- by the case
-
-pub command_as : (source : List ℕ) (c k : MmcCommand) (out : List ℕ) (at : ℕ) (o : Extent) (after : List ℕ) → c ≡ k
-    → Puts (command_item source k) out at o after → Puts (command_item source c) out at o after
-command_as source c k out at o after e p =
-    puts_as (command_item source c) (command_item source k) out at o after (ap (command_item source) e) p
-
-pub field_as : (source : List ℕ) (f k : InfoField) (out : List ℕ) (at : ℕ) (o : Extent) (after : List ℕ) → f ≡ k
-    → Puts (field_item source k) out at o after → Puts (field_item source f) out at o after
-field_as source f k out at o after e p =
-    puts_as (field_item source f) (field_item source k) out at o after (ap (field_item source) e) p
 
 -- ---- how much goes out at most
 

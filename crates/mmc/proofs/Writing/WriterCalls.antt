@@ -1,23 +1,21 @@
 -- A writing, call by call. Assumes nothing.
-use Rattle.std.specs.Prelude.{Option, Some, None, Result, ⊤, Ok, Err}
+use Rattle.std.specs.Prelude.{Option, Some, None}
 use Prim.Native.Nat.{ℕ, ◌+◌, ◌≤◌, ◌<◌}
 use mathlib.Core.Path.{◌≡◌, refl, sym, ap, ap₂, subst, ◌∙◌}
-use mathlib.Core.Bool.{Bool, true, false, not, cond, ◌&&◌}
+use mathlib.Core.Bool.{Bool, true, false, not}
 use mathlib.Core.List.{List, [], ◌∷◌}
 use mathlib.Core.Logic.{◌⊎◌, inl, inr}
 use native.Mathlib.Omega.{arith}
 use borrow.Author.Tests.{le-leb, lt-leb, lt-ltb, ne_eqb, leb-true, leb-false, ltb-true}
 use lib.Dec.{leb, ltb, eqb, lit≤}
 use lib.ListN.{length}
-use Rattle.universal.specs.declared.error.SysexError.{SysexError}
-use Rattle.mmc.specs.Named.{Extent, stop_of, extent_of}
-use Rattle.mmc.specs.Write.{Writing, or_failed, opened_commands, opened_responses, begun, opens_at, ready, admitted, writing_past, writing_after, closed_message, closed_fields, whole_message, whole_fields}
-use Rattle.universal.specs.Refusals.{Refusal, refusal, too_small, Answer, gives, refused}
+use Rattle.mmc.specs.Named.{extent_of}
+use Rattle.mmc.specs.Write.{Writing, or_failed, opened_commands, opened_responses, begun, opens_at, ready, admitted, writing_past, writing_after, closed_message, whole_message}
+use Rattle.universal.specs.Refusals.{Refusal, refusal, Answer, refused}
 use Rattle.universal.specs.Emission.{Emission, sent, refusing, check, resume, ◌then◌, fitted, reached, answer_in}
 use Rattle.universal.specs.Message.{opening, header, has_sub_id2, closing}
 use Rattle.universal.specs.Overlay.{overlay}
-use Rattle.universal.proofs.Laws.{overlay_none, then_accepted, check_held, reached_sent, reached_refusing, opening_device, opening_plain, closing_fits, closing_short, none_some}
-use Rattle.mmc.proofs.Writing.EmissionPuts.{Puts}
+use Rattle.universal.proofs.Laws.{overlay_none, then_accepted, check_held, reached_sent, reached_refusing, opening_device, opening_plain, closing_fits, closing_short}
 use Rattle.mmc.proofs.RangeTests.{within_range, below_range, above_range}
 
 -- ---- opening
@@ -65,19 +63,11 @@ opens_responses device w o n p q =
     ∙ opens (opening (header true device 7 None)) (opening_whole device 7 refl (lit≤ tt))
     ∙ ap begun (sym (response_opening device n))
 
-pub begun_refused : (device : ℕ) → device ≡ 127 → record { at = 0; items = 0; stop = Some (refusal 3) } ≡ begun (opened_responses device)
-unfolding begun
-begun_refused device e = ap begun (sym (no_response device e))
-
 -- ---- before a call
 
 pub too_many : (w : Writing) → 256 < w.items → Some (refusal 10) ≡ (or_failed w).stop
 unfolding or_failed
 too_many w h = rw (lt-leb w.items 256 h)
-
-pub too_far : (w : Writing) → w.items ≤ 256 → 40000 < w.at → Some (refusal 10) ≡ (or_failed w).stop
-unfolding or_failed
-too_far w l h = rw (le-leb w.items 256 l, lt-leb w.at 40000 h)
 
 pub as_it_is : (w : Writing) → w.items ≤ 256 → w.at ≤ 40000 → w.stop ≡ (or_failed w).stop
 unfolding or_failed
@@ -94,21 +84,6 @@ ready_kept w l h =
     go None = refl
     go (Some r) = refl
 
--- A writing that goes on is one that calls leave.
-pub writing_goes_on : (w : Writing) → (or_failed w).stop ≡ None → (w.items ≤ 256) × (w.at ≤ 40000)
-unfolding or_failed
-writing_goes_on w = go (leb w.items 256) (leb w.at 40000) refl refl
-  where
-    go : (a b : Bool) → leb w.items 256 ≡ a → leb w.at 40000 ≡ b
-        → (cond (a && b) w (record { at = w.at; items = w.items; stop = Some (refusal 10) })).stop ≡ None
-        → (w.items ≤ 256) × (w.at ≤ 40000)
-    go true true ea eb h = (leb-true _ _ ea, leb-true _ _ eb)
-    go true false ea eb h = absurd (none_some (refusal 10) h)
-    go false b ea eb h = absurd (none_some (refusal 10) h)
-
-pub under_256 : (n : ℕ) → n ≤ 256 → (n ≡ 256 → ⊥) → n < 256
-under_256 n l h = omega arith
-
 -- ---- an item
 
 module _ (w : Writing) where
@@ -116,14 +91,6 @@ module _ (w : Writing) where
   pub ready_failed : (r : Refusal) → (or_failed w).stop ≡ Some r → Some r ≡ ready w
   unfolding ready
   ready_failed r h = sym (ap (λ (s : Option Refusal). (resume [] s (check (ltb w.items 256) 10)).stop) h)
-
-  pub ready_full : (or_failed w).stop ≡ None → w.items ≡ 256 → Some (refusal 10) ≡ ready w
-  unfolding ready
-  ready_full h n = sym (ap₂ (λ (s : Option Refusal) (k : ℕ). (resume [] s (check (ltb k 256) 10)).stop) h n)
-
-  pub ready_on : (or_failed w).stop ≡ None → w.items < 256 → None ≡ ready w
-  unfolding ready
-  ready_on h l = sym (ap₂ (λ (s : Option Refusal) (b : Bool). (resume [] s (check b 10)).stop) h (lt-ltb w.items 256 l))
 
   -- A writing that takes an item goes on, with fewer than 256.
   pub ready_told : ready w ≡ None → ((or_failed w).stop ≡ None) × (w.items < 256)
@@ -157,17 +124,6 @@ module _ (w : Writing) (e : Emission) where
         (p.0 ∙ ap (λ (x : Emission). writing_past w (extent_of x)) (sym known), p.1 ∙ ap (λ (x : Emission). x.stop) (sym known)),
         sym (overlay_none out w.at) ∙ ap (λ (x : Emission). overlay out w.at x.bytes) (sym known),
       )
-
-  pub put_gives : (o : Extent) (after : Writing) (stop : Option Refusal) (out left : List ℕ) → admitted w e ≡ e
-      → Puts e out w.at o left → (after ≡ writing_past w o) × (stop ≡ o.stop) → Gives after stop out left
-  unfolding writing_after
-  put_gives o after stop out left q p a = (
-    (
-      a.0 ∙ ap (writing_past w) p.0 ∙ ap (λ (x : Emission). writing_past w (extent_of x)) (sym q),
-      a.1 ∙ ap (λ (x : Extent). x.stop) p.0 ∙ ap (λ (x : Emission). x.stop) (sym q),
-    ),
-    p.1 ∙ ap (λ (x : Emission). overlay out w.at x.bytes) (sym q),
-  )
 
 -- ---- closing
 
@@ -208,29 +164,4 @@ module _ (w : Writing) where
       go true e = closing_fits w.at (length out) (omega (arith, leb-true (w.at + 1) (length out) e)) room ∙ rw e
       go false e = closing_short w.at (length out) (omega (arith, leb-false (w.at + 1) (length out) e)) (omega arith) ∙ rw e
 
-  -- A string of fields.
-  pub fields_refused : (r : Refusal) (room : ℕ) → (or_failed w).stop ≡ Some r → refused r ≡ whole_fields w room
-  unfolding whole_fields closed_fields
-  fields_refused r room h = rw h
-
-  pub fields_short : (room : ℕ) → (or_failed w).stop ≡ None → room < w.at → refused (too_small w.at) ≡ whole_fields w room
-  unfolding whole_fields closed_fields
-  fields_short room h l = rw (h, lt-leb w.at room l)
-
-  pub fields_fit : (room : ℕ) → (or_failed w).stop ≡ None → w.at ≤ room → gives w.at ≡ whole_fields w room
-  unfolding whole_fields closed_fields
-  fields_fit room h l = rw (h, le-leb w.at room l)
-
 -- ---- what a call leaves of a known emission, and a writing moved on by it
-
-pub left_as : (e known : Emission) (out : List ℕ) (at : ℕ) (left : List ℕ) → e ≡ known → left ≡ overlay out at known.bytes
-    → left ≡ overlay out at e.bytes
-left_as e known out at left q p = p ∙ ap (λ (x : Emission). overlay out at x.bytes) (sym q)
-
-pub past_accepted : (w : Writing) (n : ℕ) (k : Result ⊤ SysexError) → k ≡ Ok tt
-    → record { at = w.at + n; items = w.items + 1; stop = stop_of k } ≡ writing_past w (record { len = n; stop = stop_of k })
-past_accepted w n k e = rw e
-
-pub past_refused : (w : Writing) (n : ℕ) (k : Result ⊤ SysexError) (r : SysexError) → k ≡ Err r
-    → record { at = w.at + n; items = w.items; stop = stop_of k } ≡ writing_past w (record { len = n; stop = stop_of k })
-past_refused w n k r e = rw e
