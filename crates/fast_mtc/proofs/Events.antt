@@ -1,18 +1,18 @@
 -- Events and reports as numbers: as the code makes them, what is read off them, and that nothing of a report is lost. Assumes nothing.
+use Rattle.std.specs.Prelude.{Option, Some, None}
 use Prim.Native.Nat.{ℕ, zero, suc, ◌+◌, ◌*◌, ◌/◌, ◌%◌, ◌≤◌}
 use mathlib.Core.Bool.{Bool, true, false}
 use mathlib.Core.Path.{◌≡◌, refl}
 use native.Mathlib.Omega.{arith}
 use borrow.Author.Tests.{ne_eqb}
 use lib.Dec.{lit≤}
+use mir.Val.{bool_byte}
 use Rattle.fast_mtc.specs.Generator.{direction_at, flat_direction, is_set}
 use Rattle.fast_mtc.specs.Reader.{bit_of, flat_report, flat_event, report_in}
 use Rattle.mtc.proofs.Laws.{report_labels}
 use Rattle.mtc.specs.Reader.{event_with, ReportLabels, after_byte, event_of, or_fresh}
 use Rattle.mtc.specs.declared.generator.Direction.{Direction}
 use Rattle.mtc.specs.declared.generator.Direction.TheVariants.{Forward, Reverse}
-use Rattle.mtc.specs.declared.reader.MaybeSequence.{MaybeSequence}
-use Rattle.mtc.specs.declared.reader.MaybeSequence.TheVariants.{NoSequence, Sequence}
 use Rattle.mtc.specs.declared.reader.MtcEvent.{MtcEvent}
 use Rattle.mtc.specs.declared.reader.MtcReader.{MtcReader}
 use Rattle.mtc.specs.declared.reader.MtcSequence.{MtcSequence}
@@ -25,7 +25,11 @@ unfolding flat_direction
 direction_small Forward = lit≤ tt
 direction_small Reverse = lit≤ tt
 
-pub bit_small : (b : Bool) → bit_of b ≤ 1
+pub bit_is : (b : Bool) → bool_byte b ≡ bit_of b
+bit_is true = refl
+bit_is false = refl
+
+bit_small : (b : Bool) → bit_of b ≤ 1
 bit_small true = lit≤ tt
 bit_small false = lit≤ tt
 
@@ -34,18 +38,18 @@ bit_back true = refl
 bit_back false = refl
 
 pub report_is : (s : MtcSequence) (d b : ℕ) → d ≡ flat_direction s.direction → b ≡ bit_of s.discontinuity
-    → (1 + d * 2 + b * 4 ≡ flat_report (Sequence s)) × (1 + d * 2 + b * 4 ≤ 7)
+    → (1 + d * 2 + b * 4 ≡ flat_report (Some s)) × (1 + d * 2 + b * 4 ≤ 7)
 unfolding flat_report
 report_is s d b ed eb =
     let ld : d ≤ 1 = rw ed (direction_small s.direction) in
     let lb : b ≤ 1 = rw eb (bit_small s.discontinuity) in
     (rw (ed, eb), omega (arith, ld, lb))
 
-pub quiet : (e : MtcEvent) (b : ℕ) → b ≡ bit_of e.boundary → e.sequence ≡ NoSequence → e.piece + b * 256 ≡ flat_event e
+pub quiet : (e : MtcEvent) (b : ℕ) → b ≡ bit_of e.boundary → e.sequence ≡ None → e.piece + b * 256 ≡ flat_event e
 unfolding flat_event flat_report
 quiet e b eb es = rw (eb, es) (omega arith)
 
-pub said : (e : MtcEvent) (s : MtcSequence) (b r : ℕ) → b ≡ bit_of e.boundary → e.sequence ≡ Sequence s → r ≡ flat_report (Sequence s)
+pub said : (e : MtcEvent) (s : MtcSequence) (b r : ℕ) → b ≡ bit_of e.boundary → e.sequence ≡ Some s → r ≡ flat_report (Some s)
     → e.piece + b * 256 + r * 512 ≡ flat_event e
 unfolding flat_event
 said e s b r eb es er = rw (eb, er, es)
@@ -53,21 +57,21 @@ said e s b r eb es er = rw (eb, er, es)
 -- ---- what is read off them
 
 -- Of an event of a piece, its report.
-pub report_of : (p : ℕ) (s : MaybeSequence) → p ≤ 255 → flat_event (event_with p s) / 512 ≡ flat_report s
+pub report_of : (p : ℕ) (s : Option MtcSequence) → p ≤ 255 → flat_event (event_with p s) / 512 ≡ flat_report s
 unfolding flat_event
 report_of p s h = let b : bit_of (event_with p s).boundary ≤ 1 = bit_small (event_with p s).boundary in omega (arith, h, b)
 
 -- No report is 0; any other is not.
-pub none_reported : flat_report NoSequence ≡ 0
+pub none_reported : flat_report None ≡ 0
 unfolding flat_report
 none_reported = refl
 
-pub some_reported : (s : MtcSequence) → is_set (flat_report (Sequence s)) ≡ true
+pub some_reported : (s : MtcSequence) → is_set (flat_report (Some s)) ≡ true
 unfolding flat_report
 some_reported s =
-    rw (ne_eqb (flat_report (Sequence s)) 0 (above (flat_direction s.direction * 2 + bit_of s.discontinuity * 4) (omega arith)))
+    rw (ne_eqb (flat_report (Some s)) 0 (above (flat_direction s.direction * 2 + bit_of s.discontinuity * 4) (omega arith)))
   where
-    above : (n : ℕ) → flat_report (Sequence s) ≡ n + 1 → flat_report (Sequence s) ≡ 0 → ⊥
+    above : (n : ℕ) → flat_report (Some s) ≡ n + 1 → flat_report (Some s) ≡ 0 → ⊥
     above n e x = omega arith
 
 module _ (d b : ℕ) (hd : d ≤ 1) (hb : b ≤ 1) where
@@ -81,7 +85,7 @@ module _ (d b : ℕ) (hd : d ≤ 1) (hb : b ≤ 1) where
   jump_in = omega arith
 
 -- The discontinuity.
-pub jump_reported : (s : MtcSequence) → flat_report (Sequence s) / 4 % 2 ≡ bit_of s.discontinuity
+pub jump_reported : (s : MtcSequence) → flat_report (Some s) / 4 % 2 ≡ bit_of s.discontinuity
 unfolding flat_report
 jump_reported s =
     jump_in (flat_direction s.direction) (bit_of s.discontinuity) (direction_small s.direction) (bit_small s.discontinuity)
@@ -98,10 +102,10 @@ direction_low n = go (n / 2 % 2) (omega arith)
 -- ---- nothing of a report is lost
 
 -- A reader that holds a report's labels gives it back from its number.
-pub report_back : (m : MaybeSequence) (before left : MtcReader) → ReportLabels m before left → report_in left (flat_report m) ≡ m
+pub report_back : (m : Option MtcSequence) (before left : MtcReader) → ReportLabels m before left → report_in left (flat_report m) ≡ m
 unfolding report_in flat_report
-report_back NoSequence before left h = refl
-report_back (Sequence s) before left h =
+report_back None before left h = refl
+report_back (Some s) before left h =
     let d : ℕ = flat_direction s.direction in
     let b : ℕ = bit_of s.discontinuity in
     let hd : d ≤ 1 = direction_small s.direction in
@@ -113,7 +117,7 @@ pub reported_back : (r : MtcReader) (b : ℕ) → report_in (after_byte r b) (fl
 reported_back r b = report_back (event_of r b).sequence (or_fresh r) (after_byte r b) (report_labels r b)
 
 -- A later event without a report keeps the last one.
-pub kept_back : (s : MtcSequence) (before left : MtcReader) → ReportLabels NoSequence before left
-    → report_in before (flat_report (Sequence s)) ≡ Sequence s → report_in left (flat_report (Sequence s)) ≡ Sequence s
+pub kept_back : (s : MtcSequence) (before left : MtcReader) → ReportLabels None before left
+    → report_in before (flat_report (Some s)) ≡ Some s → report_in left (flat_report (Some s)) ≡ Some s
 unfolding report_in
 kept_back s before left h e = rw (h.0, h.1) e

@@ -1,4 +1,5 @@
 -- The generator as bytes: what a store to some of the bytes does to the generator that they stand for. Assumes nothing.
+use Rattle.std.specs.Prelude.{Option, Some, None}
 use Prim.Native.Nat.{ℕ, ◌≤◌, ◌<◌}
 use mathlib.Core.Bool.{true, false}
 use mathlib.Core.List.{List}
@@ -11,8 +12,6 @@ use Rattle.mtc.specs.Generator.{first, after, final, sequence_frames, known, pie
 use Rattle.mtc.specs.QuarterFrame.{pieces}
 use Rattle.labels.specs.Time.{add_frames}
 use Rattle.mtc.specs.declared.generator.Direction.{Direction}
-use Rattle.mtc.specs.declared.generator.MaybePiece.{MaybePiece}
-use Rattle.mtc.specs.declared.generator.MaybePiece.TheVariants.{NoPiece, Piece}
 use Rattle.mtc.specs.declared.generator.MtcGenerator.{MtcGenerator}
 use Rattle.labels.specs.declared.time.MtcTime.{MtcTime}
 use Rattle.fast_mtc.specs.Generator.{direction_at, piece_at, generator_in, moved_to, sent_by, flat_byte}
@@ -40,13 +39,13 @@ moved_in bs f t e ef =
     (spell 8 bs (omega (arith, e))) refl
     ∙ ap (moved_to (generator_in bs)) (ap time_of ef ∙ time_back t)
 
-last_in : (n : ℕ) → n ≤ 7 → piece_at n ≡ Piece n
+last_in : (n : ℕ) → n ≤ 7 → piece_at n ≡ Some n
 unfolding piece_at
 last_in n h = rw (le-leb n 7 h)
 
 -- What a running generator answers and leaves, by what is sent.
 module _ (g : MtcGenerator) (f : FlatByte) (q : MtcGenerator) (r : g.running ≡ true) where
-  byte_answers : (m : MaybePiece) (t : MtcTime) (p : ℕ) → known g.last ≡ m → t ≡ time_next g.direction m g.time → p ≡ piece_next g.direction m
+  byte_answers : (m : Option ℕ) (t : MtcTime) (p : ℕ) → known g.last ≡ m → t ≡ time_next g.direction m g.time → p ≡ piece_next g.direction m
       → (f ≡ flat_byte (gives (get_or (pieces t) p 0))) × (q ≡ sent_at t g.direction p)
       → (f ≡ flat_byte (next_byte g)) × (q ≡ after_next_byte g)
   byte_answers m t p k et ep h =
@@ -67,11 +66,11 @@ module _ (bs : List ℕ) (f : FlatByte) (q : MtcGenerator) (d : Direction) (p : 
   abbrev Sends : MtcGenerator → Type 0
   Sends g = (f ≡ flat_byte (gives (get_or (pieces g.time) p 0))) × (q ≡ sent_by g p)
 
-  none_last : 7 < get_or bs 6 0 → known (generator_in bs).last ≡ NoPiece
+  none_last : 7 < get_or bs 6 0 → known (generator_in bs).last ≡ None
   unfolding generator_in piece_at
   none_last h = rw (lt-leb (get_or bs 6 0) 7 h)
 
-  some_last : get_or bs 6 0 ≤ 7 → known (generator_in bs).last ≡ Piece (get_or bs 6 0)
+  some_last : get_or bs 6 0 ≤ 7 → known (generator_in bs).last ≡ Some (get_or bs 6 0)
   unfolding generator_in
   some_last h = ap known (last_in (get_or bs 6 0) h) ∙ rw (le-leb (get_or bs 6 0) 7 h)
 
@@ -81,12 +80,12 @@ module _ (bs : List ℕ) (f : FlatByte) (q : MtcGenerator) (d : Direction) (p : 
 
   pub starts_over : 7 < get_or bs 6 0 → p ≡ first d → Sends (generator_in bs) → Answered
   starts_over h ep s =
-      byte_answers (generator_in bs) f q runs NoPiece (generator_in bs).time p (none_last h) refl (ep ∙ ap first way_is)
+      byte_answers (generator_in bs) f q runs None (generator_in bs).time p (none_last h) refl (ep ∙ ap first way_is)
       (s.0, s.1 ∙ by_sent (generator_in bs) f q runs (generator_in bs).time p)
 
   pub piece_goes_on : get_or bs 6 0 ≤ 7 → {l : ℕ} → l ≡ final d → (get_or bs 6 0 ≡ l → ⊥) → p ≡ after d (get_or bs 6 0) → Sends (generator_in bs) → Answered
   piece_goes_on h el z ep s =
-      byte_answers (generator_in bs) f q runs (Piece (get_or bs 6 0)) (generator_in bs).time p (some_last h)
+      byte_answers (generator_in bs) f q runs (Some (get_or bs 6 0)) (generator_in bs).time p (some_last h)
       (rw (sym way_is, ne_eqb (get_or bs 6 0) (final d) (λ e. z (e ∙ sym el)))) (ep ∙ ap (λ (x : Direction). after x (get_or bs 6 0)) way_is)
       (s.0, s.1 ∙ by_sent (generator_in bs) f q runs (generator_in bs).time p)
 
@@ -95,7 +94,7 @@ module _ (bs : List ℕ) (f : FlatByte) (q : MtcGenerator) (d : Direction) (p : 
   moves_on h el e ep {g} eg s =
       let t : MtcTime = add_frames (generator_in bs).time (sequence_frames d) in
       let s' : Sends (moved_to (generator_in bs) t) = subst Sends eg s in
-      byte_answers (generator_in bs) f q runs (Piece (get_or bs 6 0)) t p (some_last h)
+      byte_answers (generator_in bs) f q runs (Some (get_or bs 6 0)) t p (some_last h)
       (rw (sym way_is, eq-eqb (get_or bs 6 0) (final d) (e ∙ el))) (ep ∙ ap (λ (x : Direction). after x (get_or bs 6 0)) way_is)
       (s'.0, s'.1 ∙ by_sent (generator_in bs) f q runs t p)
 

@@ -1,20 +1,21 @@
 -- The short ways of the label calls: counts and labels by one quotient, labels as one number, and a few frames away in the same second.
 -- Assumes nothing.
-use Prim.Native.Nat.{ℕ, ◌+◌, ◌-◌, ◌*◌, ◌/◌, ◌%◌, ◌≤◌, ◌<◌}
+use Prim.Native.Nat.{ℕ, zero, suc, ◌+◌, ◌-◌, ◌*◌, ◌/◌, ◌%◌, ◌≤◌, ◌<◌}
 use mathlib.Core.Path.{◌≡◌, refl, sym, subst, ap, ◌∙◌}
+use mathlib.Core.Bool.{false, true≢false}
 use mathlib.Core.Logic.{inr}
-use native.Mathlib.Nat.{mod-eq_of_lt, mul-le-mul_left}
+use native.Mathlib.Nat.{mod-eq_of_lt, mul-le-mul_left, mul-le-mul_right, mul-sub, mul_assoc, mul_comm, mul-div-le, mul-add-div, mul-add-mod_self_left, div-add-mod, lt_of_mul-lt-mul_left, mod-eq-sub-div-mul}
 use native.Mathlib.Omega.{arith}
 use lib.Dec.{T, lit<, lit≤}
-use lib.IntN.{ℤ, pos, negsuc}
-use mir.Syntax.{w32, w64}
+use lib.IntN.{ℤ, pos, negsuc, +ℤ_invr}
+use mir.Syntax.{w32}
 use mir.Val.{Fits}
 use Rattle.labels.specs.declared.time.MtcTime.{MtcTime}
 use Rattle.labels.specs.declared.time.TimeCodeType.{TimeCodeType}
 use Rattle.labels.specs.declared.time.TimeCodeType.TheVariants.{Fps24, Fps25, Fps30Drop, Fps30}
-use Rattle.labels.specs.St12.{label, frames_per_second, is_valid}
+use Rattle.labels.specs.St12.{label, frames_per_second, is_drop_frame, is_valid}
 use Rattle.labels.specs.Time.{bits_of, type_of, day_of, formula, frame_count, label_at_second, label_at, mod_z, add_frames}
-use Rattle.labels.proofs.Laws.{count_by_formula, count_below, even_label, drop_split, label_round, moved_by_count, moved_by_sum, moved_by_none, moved_valid, two_later, frames_later, in_range_valid, mod_below, valid_widths, bits_small, rate_back, fps_small}
+use Rattle.labels.proofs.Laws.{count_by_formula, count_below, even_label, drop_split, label_round, moved_by_count, moved_by_sum, moved_by_none, frames_later, in_range_valid, mod_below, valid_widths, bits_small, rate_back, fps_small}
 use Rattle.fast_mtc.specs.Label.{label_number}
 
 -- ---- rates by their bits
@@ -25,23 +26,11 @@ is_drop Fps25 e = absurd (omega arith)
 is_drop Fps30Drop e = refl
 is_drop Fps30 e = absurd (omega arith)
 
-pub is_24 : (r : TimeCodeType) → bits_of r ≡ 0 → r ≡ Fps24
-is_24 Fps24 e = refl
-is_24 Fps25 e = absurd (omega arith)
-is_24 Fps30Drop e = absurd (omega arith)
-is_24 Fps30 e = absurd (omega arith)
+pub by_bits : (r : TimeCodeType) (b n : ℕ) → bits_of r ≡ b → label_at n (type_of b) ≡ label_at n r
+by_bits r b n e = ap (label_at n) (ap type_of (sym e) ∙ rate_back r)
 
-pub is_25 : (r : TimeCodeType) → bits_of r ≡ 1 → r ≡ Fps25
-is_25 Fps24 e = absurd (omega arith)
-is_25 Fps25 e = refl
-is_25 Fps30Drop e = absurd (omega arith)
-is_25 Fps30 e = absurd (omega arith)
-
-pub is_30 : (r : TimeCodeType) → (bits_of r ≡ 2 → ⊥) → (bits_of r ≡ 0 → ⊥) → (bits_of r ≡ 1 → ⊥) → r ≡ Fps30
-is_30 Fps24 d a b = absurd (a refl)
-is_30 Fps25 d a b = absurd (b refl)
-is_30 Fps30Drop d a b = absurd (d refl)
-is_30 Fps30 d a b = refl
+pub bits_else : (r : TimeCodeType) → (bits_of r ≡ 2 → ⊥) → (bits_of r ≡ 0 → ⊥) → (bits_of r ≡ 1 → ⊥) → bits_of r ≡ 3
+bits_else r d a b = omega (arith, bits_small r, d, a, b)
 
 pub two_fit : (r : TimeCodeType) → 2 ≤ frames_per_second r
 two_fit Fps24 = lit≤ tt
@@ -109,81 +98,76 @@ by_quotient n m x k em ex h =
 pub drop_at : (n k : ℕ) (s : TimeCodeType) → bits_of s ≡ 2 → k ≡ n % 2589408 → label_at k Fps30Drop ≡ label_at n s
 drop_at n k s e h = rw (h, is_drop s e) (label_round n Fps30Drop)
 
--- At a rate that skips none, from a count below the day.
-pub even_at : (n k : ℕ) (s r : TimeCodeType) → s ≡ r → k ≡ n % day_of r → label_at k r ≡ label_at n s
-even_at n k s r e h = rw (h, e) (label_round n r)
-
 -- ---- one number
 
--- A minute of the day and a place in it are the label's numbers.
-pub label_in_minute : (m x : ℕ) → m < 1440 → x < 1800
-    → label Fps30Drop (m / 60) (m - m / 60 * 60) (x / 30) (x - x / 30 * 30) ≡ label_at_second Fps30Drop (m * 60 + x / 30) (x % 30)
-label_in_minute m x hm hx =
-    let hours : (m * 60 + x / 30) / 3600 ≡ m / 60 = omega arith in
-    let minutes : (m * 60 + x / 30) / 60 % 60 ≡ m - m / 60 * 60 = omega arith in
-    let seconds : (m * 60 + x / 30) % 60 ≡ x / 30 = omega arith in
-    let frames : x % 30 ≡ x - x / 30 * 30 = omega arith in
-    sym (rw (hours, minutes, seconds, frames))
+-- A rate of so many frames a second, in these two bits.
+module _ (r : TimeCodeType) (f b : ℕ) (ef : f ≡ frames_per_second r) (eb : b ≡ bits_of r) where
+  positive : 0 < f
+  positive = omega (arith, ef, two_fit r)
 
--- The same as one number.
-pub in_number : (m x : ℕ) → m < 1440 → x < 1800
-    → m * 256 - m / 60 * 15359 + (x * 16777216 - x / 30 * 503250944) + 8589934592
-    ≡ label_number (label_at_second Fps30Drop (m * 60 + x / 30) (x % 30))
-unfolding label_number
-in_number m x hm hx =
-    numbers (m / 60) (m - m / 60 * 60) (x / 30) (x - x / 30 * 30) m x (omega arith) (omega arith) ∙ ap label_number (label_in_minute m x hm hx)
-  where
-    numbers : (h u s f m x : ℕ) → m ≡ h * 60 + u → x ≡ s * 30 + f
-        → m * 256 - h * 15359 + (x * 16777216 - s * 503250944) + 8589934592
-        ≡ h + u * 256 + s * 65536 + f * 16777216 + 2 * 4294967296
-    numbers h u s f m x em ex = omega arith
+  few : f ≤ 30
+  few = rw ef (fps_small r)
 
--- The sums of such a number fit.
-pub parts_fit : (a b y z : ℕ) → a ≤ 400000 → y ≤ 40000000000 → Fits w64 (a - b + (y - z))
-parts_fit a b y z ha hy = record { fits = omega arith }
+  -- A quotient by the frames below a minute's is a second of the minute.
+  second_small : (x : ℕ) → x < 60 * f → x / f < 60
+  second_small x h = lt_of_mul-lt-mul_left f (omega (arith, div-add-mod x f, mul_comm 60 f))
 
-pub label_number_fits : (a b y z k : ℕ) → a ≤ 400000 → y ≤ 40000000000 → k ≤ 20000000000 → Fits w64 (a - b + (y - z) + k)
-label_number_fits a b y z k ha hy hk = record { fits = omega arith }
+  -- A second takes its frames off and adds itself.
+  second_off : (s : ℕ) → s * (f * 16777216 - 65536) ≡ f * s * 16777216 - s * 65536
+  second_off s = mul-sub s (f * 16777216) 65536 ∙ ap (λ (n : ℕ). n - s * 65536) (sym (mul_assoc s f 16777216) ∙ ap (λ (n : ℕ). n * 16777216) (mul_comm s f))
 
--- The numbers of the labels of counts of the day at the other rates.
-pub number_24 : (n : ℕ) → n < 2073600
-    → n / 1440 * 256 - n / 1440 / 60 * 15359 + ((n - n / 1440 * 1440) * 16777216 - (n - n / 1440 * 1440) / 24 * 402587648)
-    ≡ label_number (label_at n Fps24)
-unfolding label_number
-number_24 n k =
-    numbers (n / 1440) (n - n / 1440 * 1440) (n / 1440 / 60) ((n - n / 1440 * 1440) / 24) (n / 24 / 3600) (n / 24 / 60 % 60)
-    (n / 24 % 60) (n % 24) (omega arith) (omega arith) (omega arith) (omega arith)
-    ∙ sym (ap label_number (even_label n Fps24 refl ∙ ap (λ (x : ℕ). label_at_second Fps24 (x / 24) (x % 24)) (mod-eq_of_lt k)))
-  where
-    numbers : (m x p q h u s f : ℕ) → p ≡ h → q ≡ s → m ≡ h * 60 + u → x ≡ s * 24 + f
-        → m * 256 - p * 15359 + (x * 16777216 - q * 402587648) ≡ h + u * 256 + s * 65536 + f * 16777216 + 0 * 4294967296
-    numbers m x p q h u s f ep eq em ex = omega arith
+  -- A minute of the day and a place in it as one number.
+  pub in_number : (m x : ℕ) → m < 1440 → x < 60 * f
+      → m * 256 - m / 60 * 15359 + (x * 16777216 - x / f * (f * 16777216 - 65536)) + b * 4294967296
+      ≡ label_number (label_at_second r (m * 60 + x / f) (x % f))
+  unfolding label_number
+  in_number m x hm hx =
+      let s : x / f < 60 = second_small x hx in
+      let hours : (m * 60 + x / f) / 3600 ≡ m / 60 = omega arith in
+      let minutes : (m * 60 + x / f) / 60 % 60 ≡ m - m / 60 * 60 = omega arith in
+      let seconds : (m * 60 + x / f) % 60 ≡ x / f = omega arith in
+      rw (hours, minutes, seconds, second_off (x / f), eb)
+      (numbers (m / 60) (m - m / 60 * 60) (x / f) (x % f) (f * (x / f)) m x (bits_of r * 4294967296) (omega arith) (sym (div-add-mod x f)) (omega (arith, mul-le-mul_right (x / f) positive)))
+    where
+      numbers : (h u s g y m x k : ℕ) → m ≡ h * 60 + u → x ≡ y + g → s ≤ y
+          → m * 256 - h * 15359 + (x * 16777216 - (y * 16777216 - s * 65536)) + k ≡ h + u * 256 + s * 65536 + g * 16777216 + k
+      numbers h u s g y m x k em ex hs = omega arith
 
-pub number_25 : (n : ℕ) → n < 2160000
-    → n / 1500 * 256 - n / 1500 / 60 * 15359 + ((n - n / 1500 * 1500) * 16777216 - (n - n / 1500 * 1500) / 25 * 419364864) + 4294967296
-    ≡ label_number (label_at n Fps25)
-unfolding label_number
-number_25 n k =
-    numbers (n / 1500) (n - n / 1500 * 1500) (n / 1500 / 60) ((n - n / 1500 * 1500) / 25) (n / 25 / 3600) (n / 25 / 60 % 60)
-    (n / 25 % 60) (n % 25) (omega arith) (omega arith) (omega arith) (omega arith)
-    ∙ sym (ap label_number (even_label n Fps25 refl ∙ ap (λ (x : ℕ). label_at_second Fps25 (x / 25) (x % 25)) (mod-eq_of_lt k)))
-  where
-    numbers : (m x p q h u s f : ℕ) → p ≡ h → q ≡ s → m ≡ h * 60 + u → x ≡ s * 25 + f
-        → m * 256 - p * 15359 + (x * 16777216 - q * 419364864) + 4294967296 ≡ h + u * 256 + s * 65536 + f * 16777216 + 1 * 4294967296
-    numbers m x p q h u s f ep eq em ex = omega arith
+  -- The minute of a count of the day, and the place in it.
+  module _ (n : ℕ) where
+    abbrev minute : ℕ
+    minute = n / (60 * f)
 
-pub number_30 : (n : ℕ) → n < 2592000
-    → n / 1800 * 256 - n / 1800 / 60 * 15359 + ((n - n / 1800 * 1800) * 16777216 - (n - n / 1800 * 1800) / 30 * 503250944) + 12884901888
-    ≡ label_number (label_at n Fps30)
-unfolding label_number
-number_30 n k =
-    numbers (n / 1800) (n - n / 1800 * 1800) (n / 1800 / 60) ((n - n / 1800 * 1800) / 30) (n / 30 / 3600) (n / 30 / 60 % 60)
-    (n / 30 % 60) (n % 30) (omega arith) (omega arith) (omega arith) (omega arith)
-    ∙ sym (ap label_number (even_label n Fps30 refl ∙ ap (λ (x : ℕ). label_at_second Fps30 (x / 30) (x % 30)) (mod-eq_of_lt k)))
-  where
-    numbers : (m x p q h u s f : ℕ) → p ≡ h → q ≡ s → m ≡ h * 60 + u → x ≡ s * 30 + f
-        → m * 256 - p * 15359 + (x * 16777216 - q * 503250944) + 12884901888 ≡ h + u * 256 + s * 65536 + f * 16777216 + 3 * 4294967296
-    numbers m x p q h u s f ep eq em ex = omega arith
+    abbrev place : ℕ
+    place = n - minute * (60 * f)
+
+    place_left : place ≡ n % (60 * f)
+    place_left = sym (mod-eq-sub-div-mul n (60 * f))
+
+    whole : n ≡ f * (minute * 60) + place
+    whole = omega (arith, mul-div-le n (60 * f), parts)
+      where
+        parts : minute * (60 * f) ≡ f * (minute * 60)
+        parts = sym (mul_assoc minute 60 f) ∙ mul_comm (minute * 60) f
+
+    at_second : label_at_second r (minute * 60 + place / f) (place % f) ≡ label_at_second r (n / f) (n % f)
+    at_second =
+        let q : n / f ≡ minute * 60 + place / f = ap (λ (x : ℕ). x / f) whole ∙ mul-add-div positive (minute * 60) place in
+        let x : n % f ≡ place % f = ap (λ (x : ℕ). x % f) whole ∙ mul-add-mod_self_left f (minute * 60) place in
+        rw (q, x)
+
+  -- The label of any count, by the one that is left of it in the day.
+  pub by_minute : (n k : ℕ) → is_drop_frame r ≡ false → k ≡ n % (86400 * f)
+      → label_at_second r (minute k * 60 + place k / f) (place k % f) ≡ label_at n r
+  by_minute n k d e =
+      let day : 86400 * f ≡ day_of r = rw ef (even_day r d) in
+      at_second k ∙ rw (e, day, ef) (sym (even_label n r d))
+    where
+      even_day : (r : TimeCodeType) → is_drop_frame r ≡ false → 86400 * frames_per_second r ≡ day_of r
+      even_day Fps24 d = refl
+      even_day Fps25 d = refl
+      even_day Fps30Drop d = absurd (true≢false d)
+      even_day Fps30 d = refl
 
 -- Its bytes are the counts and the rate.
 pub number_bytes : (t : MtcTime) → T (is_valid t) → (label_number t % 256 ≡ t.hours)
@@ -246,15 +230,6 @@ pub added : (t : MtcTime) (z : ℤ) (d k s : ℕ) → k ≡ frame_count t → d 
     → label_at (k + s) t.rate ≡ add_frames t z
 added t z d k s ek ed es = rw (ek, es, ed) (sym (moved_by_count t z))
 
--- The label of a move's number.
-pub moved_numbered : (t : MtcTime) (z : ℤ) (n : ℕ) (r : TimeCodeType) → n ≡ label_number (add_frames t z) → r ≡ type_of (n / 4294967296 % 256)
-    → label r (n % 256) (n / 256 % 256) (n / 65536 % 256) (n / 16777216 % 256) ≡ add_frames t z
-moved_numbered t z n r e er =
-    let b = number_bytes (add_frames t z) (moved_valid t z) in
-    let rate : r ≡ (add_frames t z).rate
-    = er ∙ ap (λ (k : ℕ). type_of (k / 4294967296 % 256)) e ∙ ap type_of b.1.1.1.1 ∙ rate_back (add_frames t z).rate in
-    rw (rate, e, b.0, b.1.0, b.1.1.0, b.1.1.1.0)
-
 -- ---- a few frames away in the same second
 
 module _ (r : TimeCodeType) (h m s f : ℕ) (hh : h ≤ 23) (hm : m ≤ 59) (hs : s ≤ 59) (low : 2 ≤ f) where
@@ -262,28 +237,19 @@ module _ (r : TimeCodeType) (h m s f : ℕ) (hh : h ≤ 23) (hm : m ≤ 59) (hs 
   same_second_valid : f < frames_per_second r → T (is_valid (label r h m s f))
   same_second_valid k = in_range_valid r h m s f hh hm hs k (λ d. inr (omega arith))
 
-  one_before : f + 1 < frames_per_second r → add_frames (label r h m s (f + 1)) (negsuc 0) ≡ label r h m s f
-  one_before k =
-      ap (λ (t : MtcTime). add_frames t (negsuc 0))
-      (frames_later r h m s f 1 hh hm hs k (in_range_valid r h m s (f + 1) hh hm hs k (λ d. inr (omega arith))))
-      ∙ moved_by_sum (label r h m s f) (pos 1) (negsuc 0)
+  frames_before : (k : ℕ) → f + suc k < frames_per_second r → add_frames (label r h m s (f + suc k)) (negsuc k) ≡ label r h m s f
+  frames_before k l =
+      ap (λ (t : MtcTime). add_frames t (negsuc k))
+      (frames_later r h m s f (suc k) hh hm hs l (in_range_valid r h m s (f + suc k) hh hm hs l (λ d. inr (omega arith))))
+      ∙ moved_by_sum (label r h m s f) (pos (suc k)) (negsuc k)
+      ∙ ap (add_frames (label r h m s f)) (+ℤ_invr (pos (suc k)))
       ∙ moved_by_none (label r h m s f) (same_second_valid (omega arith))
 
-  two_before : f + 2 < frames_per_second r → add_frames (label r h m s (f + 2)) (negsuc 1) ≡ label r h m s f
-  two_before k =
-      ap (λ (t : MtcTime). add_frames t (negsuc 1)) (two_later r h m s f hh hm hs k)
-      ∙ moved_by_sum (label r h m s f) (pos 2) (negsuc 1)
-      ∙ moved_by_none (label r h m s f) (same_second_valid (omega arith))
-
--- One frame and two frames before.
-pub one_earlier : (r : TimeCodeType) (h m s f : ℕ) → h ≤ 23 → m ≤ 59 → s ≤ 59 → 3 ≤ f → f < frames_per_second r
-    → label r h m s (f - 1) ≡ add_frames (label r h m s f) (negsuc 0)
-one_earlier r h m s f hh hm hs low k =
-    let back : f - 1 + 1 ≡ f = omega arith in
-    sym (ap (λ (n : ℕ). add_frames (label r h m s n) (negsuc 0)) (sym back) ∙ one_before r h m s (f - 1) hh hm hs (omega arith) (omega arith))
-
-pub two_earlier : (r : TimeCodeType) (h m s f : ℕ) → h ≤ 23 → m ≤ 59 → s ≤ 59 → 4 ≤ f → f < frames_per_second r
-    → label r h m s (f - 2) ≡ add_frames (label r h m s f) (negsuc 1)
-two_earlier r h m s f hh hm hs low k =
-    let back : f - 2 + 2 ≡ f = omega arith in
-    sym (ap (λ (n : ℕ). add_frames (label r h m s n) (negsuc 1)) (sym back) ∙ two_before r h m s (f - 2) hh hm hs (omega arith) (omega arith))
+-- Frames before, from the third number of a second on.
+pub frames_earlier : (r : TimeCodeType) (h m s f k : ℕ) → h ≤ 23 → m ≤ 59 → s ≤ 59 → 1 ≤ k → k + 2 ≤ f → f < frames_per_second r
+    → label r h m s (f - k) ≡ add_frames (label r h m s f) (negsuc (k - 1))
+frames_earlier r h m s f zero hh hm hs least low l = absurd (omega arith)
+frames_earlier r h m s f (suc k) hh hm hs least low l =
+    let back : f - suc k + suc k ≡ f = omega arith in
+    let one_off : suc k - 1 ≡ k = omega arith in
+    rw one_off (sym (ap (λ (n : ℕ). add_frames (label r h m s n) (negsuc k)) (sym back) ∙ frames_before r h m s (f - suc k) hh hm hs (omega arith) k (omega arith)))

@@ -1,4 +1,5 @@
 -- A label in a word, and its mark. Assumes nothing.
+use Rattle.std.specs.Prelude.{Some}
 use Prim.Native.Nat.{ℕ, ◌+◌, ◌*◌, ◌/◌, ◌%◌, ◌≤◌}
 use mathlib.Core.Bool.{true}
 use mathlib.Core.Path.{◌≡◌, refl, ap}
@@ -9,7 +10,6 @@ use Rattle.labels.specs.Time.{bits_of, rate_at, type_of}
 use Rattle.labels.specs.declared.time.MtcTime.{MtcTime}
 use Rattle.labels.specs.declared.time.TimeCodeType.{TimeCodeType}
 use Rattle.labels.specs.declared.time.TimeCodeType.TheVariants.{Fps24, Fps25, Fps30Drop, Fps30}
-use Rattle.mtc.specs.declared.reader.MaybeTime.TheVariants.{Time}
 
 module _ (h m s f : ℕ) (hh : h ≤ 255) (hm : m ≤ 255) (hs : s ≤ 255) (hf : f ≤ 255) where
   hours_back : (h + m * 256 + s * 65536 + f * 16777216) % 256 ≡ h
@@ -42,7 +42,7 @@ mark_rate Fps25 = refl
 mark_rate Fps30Drop = refl
 mark_rate Fps30 = refl
 
-pub marked : (t : MtcTime) (m w : ℕ) → m ≡ 1 + 2 * bits_of t.rate → label_in t.rate w ≡ t → time_in m w ≡ Time t
+pub marked : (t : MtcTime) (m w : ℕ) → m ≡ 1 + 2 * bits_of t.rate → label_in t.rate w ≡ t → time_in m w ≡ Some t
 unfolding time_in
 marked t m w em e = rw (em, mark_set t.rate, mark_rate t.rate, e)
 

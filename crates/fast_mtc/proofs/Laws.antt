@@ -7,7 +7,7 @@ pub use Rattle.fast_mtc.proofs.FlatBack.{time_back, number_time, generator_back}
 -- Any words stand for a sound reader.
 pub use Rattle.fast_mtc.proofs.ReceivedPieces.{sound_in}
 -- Frames earlier in the same second, from the third number on, are a difference.
-pub use Rattle.fast_mtc.proofs.LabelShortWays.{one_earlier, two_earlier}
+pub use Rattle.fast_mtc.proofs.LabelShortWays.{frames_earlier}
 -- Events and reports as numbers, and what is read off them: a report is whole in its number and the reader that it left.
 pub use Rattle.fast_mtc.proofs.Events.{report_of, none_reported, some_reported, jump_reported, report_back, reported_back, kept_back}
 

@@ -1,45 +1,59 @@
 -- The order of a reader's words: how a piece stands to those before it, by the order alone. It is finite, so the law is one computed
 -- test over every order and piece. Assumes nothing.
+use Rattle.std.specs.Prelude.{Option, Some, None}
 use Prim.Native.Nat.{ℕ, zero, suc, ◌+◌, ◌%◌, ◌≤◌, ◌<◌}
 use mathlib.Core.Bool.{Bool, true, false, cond, ◌&&◌}
 use mathlib.Core.Path.{◌≡◌, refl}
 use native.Mathlib.Omega.{arith}
-use borrow.Author.Tests.{ltb-true, ltb-false, le-ltb, eqb-true, eqb-false, ne_eqb}
+use borrow.Author.Tests.{ltb-true, ltb-false, lt-ltb, le-ltb, eqb-true, eqb-false, eq-eqb, ne_eqb}
 use lib.Dec.{T, ltb, eqb, lit≤, le→leb}
 use Rattle.mtc.specs.Reader.{Control, Standing, ordered, order_after, piece_fits}
+use Rattle.mtc.specs.Generator.{first, after, final}
+use Rattle.mtc.specs.declared.generator.Direction.{Direction}
 use Rattle.mtc.specs.declared.generator.Direction.TheVariants.{Forward, Reverse}
-use Rattle.mtc.specs.declared.generator.MaybePiece.{MaybePiece}
-use Rattle.mtc.specs.declared.generator.MaybePiece.TheVariants.{Piece}
-use Rattle.mtc.specs.declared.reader.MaybeDirection.{MaybeDirection}
-use Rattle.mtc.specs.declared.reader.MaybeDirection.TheVariants.{NoDirection, Going}
+use Rattle.fast_mtc.specs.Clauses.{order_in, order_out, order_begun, InSequence, OutOfSequence, opposite, turning, passing}
 use Rattle.fast_mtc.specs.Reader.{way_in, last_in, count_in, first_in}
 
 -- ---- how a piece stands, as the code finds it
 
-abbrev forward : ℕ → ℕ → ℕ → Standing
-forward next k p =
-    cond (eqb k next) (ordered true (Going Forward) true)
-    (cond (eqb ((k + 6) % 8) p) (ordered false (Going Reverse) false) (ordered false (Going Forward) false))
+-- In a direction, with the order of the next piece.
+abbrev pub along : Direction → ℕ → ℕ → ℕ → Standing
+along d next k p = cond (eqb k next) (ordered true (Some d) true) (ordered false (passing d k p) false)
 
-abbrev reverse : ℕ → ℕ → ℕ → Standing
-reverse next k p =
-    cond (eqb k next) (ordered true (Going Reverse) true)
-    (cond (eqb ((k + 2) % 8) p) (ordered false (Going Forward) false) (ordered false (Going Reverse) false))
+-- After the first piece of a direction alone.
+abbrev pub after_first : Direction → ℕ → Standing
+after_first d p =
+    cond (eqb p (after d (first d))) (ordered true (Some d) true)
+    (cond (eqb p (final d)) (ordered false (Some (opposite d)) true) (ordered false None false))
 
 abbrev pub standing_in : ℕ → ℕ → Standing
 standing_in k p =
-    cond (ltb k 8) (forward p k p)
-    (cond (ltb k 16) (reverse (p + 8) k p)
-    (cond (ltb k 24) (forward (16 + p) k p)
-    (cond (ltb k 32) (reverse (24 + p) k p)
+    cond (ltb k 8) (along Forward (order_in Forward p) k p)
+    (cond (ltb k 16) (along Reverse (order_in Reverse p) k p)
+    (cond (ltb k 24) (along Forward (order_out Forward p) k p)
+    (cond (ltb k 32) (along Reverse (order_out Reverse p) k p)
     (cond (ltb k 40)
-    (cond (eqb ((k + 1) % 8) p) (ordered false (Going Forward) true)
-    (cond (eqb ((k + 7) % 8) p) (ordered false (Going Reverse) true) (ordered false NoDirection false)))
-    (cond (eqb k 40)
-    (cond (eqb p 1) (ordered true (Going Forward) true)
-    (cond (eqb p 7) (ordered false (Going Reverse) true) (ordered false NoDirection false)))
-    (cond (eqb p 6) (ordered true (Going Reverse) true)
-    (cond (eqb p 0) (ordered false (Going Forward) true) (ordered false NoDirection false))))))))
+    (cond (eqb ((k + 1) % 8) p) (ordered false (Some Forward) true)
+    (cond (eqb ((k + 7) % 8) p) (ordered false (Some Reverse) true) (ordered false None false)))
+    (cond (eqb k 40) (after_first Forward p) (after_first Reverse p))))))
+
+pub stands_inside : (d : Direction) (k p : ℕ) → InSequence d k → standing_in k p ≡ along d (order_in d p) k p
+stands_inside Forward k p h = rw (lt-ltb k 8 h)
+stands_inside Reverse k p h = rw (le-ltb k 8 h.0, lt-ltb k 16 h.1)
+
+pub stands_outside : (d : Direction) (k p : ℕ) → OutOfSequence d k → standing_in k p ≡ along d (order_out d p) k p
+stands_outside Forward k p h = rw (le-ltb k 8 (omega (arith, h.0)), le-ltb k 16 h.0, lt-ltb k 24 h.1)
+stands_outside Reverse k p h = rw (le-ltb k 8 (omega (arith, h.0)), le-ltb k 16 (omega (arith, h.0)), le-ltb k 24 h.0, lt-ltb k 32 h.1)
+
+pub stands_begun : (d : Direction) (p : ℕ) → standing_in (order_begun d) p ≡ after_first d p
+stands_begun Forward p = refl
+stands_begun Reverse p = refl
+
+pub turned : (d : Direction) (k p : ℕ) → turning d k ≡ p → passing d k p ≡ Some (opposite d)
+turned d k p h = rw (eq-eqb (turning d k) p h)
+
+pub passed_on : (d : Direction) (k p : ℕ) → (turning d k ≡ p → ⊥) → passing d k p ≡ Some d
+passed_on d k p h = rw (ne_eqb (turning d k) p h)
 
 -- ---- the test
 
@@ -67,14 +81,14 @@ same_bool true b = b
 same_bool false true = false
 same_bool false false = true
 
-same_way : MaybeDirection → MaybeDirection → Bool
-same_way NoDirection NoDirection = true
-same_way NoDirection (Going d) = false
-same_way (Going Forward) (Going Forward) = true
-same_way (Going Forward) (Going Reverse) = false
-same_way (Going Reverse) (Going Forward) = false
-same_way (Going Reverse) (Going Reverse) = true
-same_way (Going d) NoDirection = false
+same_way : Option Direction → Option Direction → Bool
+same_way None None = true
+same_way None (Some d) = false
+same_way (Some Forward) (Some Forward) = true
+same_way (Some Forward) (Some Reverse) = false
+same_way (Some Reverse) (Some Forward) = false
+same_way (Some Reverse) (Some Reverse) = true
+same_way (Some d) None = false
 
 same_standing : Standing → Standing → Bool
 same_standing a b = same_bool a.next b.next && (same_way a.direction b.direction && same_bool a.keeps b.keeps)
@@ -86,16 +100,16 @@ same_is true false h = absurd h
 same_is false true h = absurd h
 same_is false false h = refl
 
-same_way_lem : (a b : MaybeDirection) → T (same_way a b) → a ≡ b
+same_way_lem : (a b : Option Direction) → T (same_way a b) → a ≡ b
 unfolding same_way
-same_way_lem NoDirection NoDirection h = refl
-same_way_lem NoDirection (Going d) h = absurd h
-same_way_lem (Going Forward) (Going Forward) h = refl
-same_way_lem (Going Forward) (Going Reverse) h = absurd h
-same_way_lem (Going Reverse) (Going Forward) h = absurd h
-same_way_lem (Going Reverse) (Going Reverse) h = refl
-same_way_lem (Going Forward) NoDirection h = absurd h
-same_way_lem (Going Reverse) NoDirection h = absurd h
+same_way_lem None None h = refl
+same_way_lem None (Some d) h = absurd h
+same_way_lem (Some Forward) (Some Forward) h = refl
+same_way_lem (Some Forward) (Some Reverse) h = absurd h
+same_way_lem (Some Reverse) (Some Forward) h = absurd h
+same_way_lem (Some Reverse) (Some Reverse) h = refl
+same_way_lem (Some Forward) None h = absurd h
+same_way_lem (Some Reverse) None h = absurd h
 
 same_standing_lem : (a b : Standing) → T (same_standing a b) → a ≡ b
 unfolding same_standing
@@ -130,6 +144,18 @@ standing_none k p kept h =
 
 -- ---- bounds
 
+pub inside_small : (d : Direction) {k : ℕ} → InSequence d k → k < 16
+inside_small Forward h = omega (arith, h)
+inside_small Reverse h = h.1
+
+pub outside_small : (d : Direction) {k : ℕ} → OutOfSequence d k → (16 ≤ k) × (k < 32)
+outside_small Forward h = (h.0, omega (arith, h.1))
+outside_small Reverse h = (omega (arith, h.0), h.1)
+
+pub order_inside : (d : Direction) (p : ℕ) → p ≤ 7 → InSequence d (order_in d p)
+order_inside Forward p h = omega arith
+order_inside Reverse p h = (omega arith, omega arith)
+
 both_at_most : {n : ℕ} (b : Bool) {x y : ℕ} → (b ≡ true → x ≤ n) → (b ≡ false → y ≤ n) → cond b x y ≤ n
 both_at_most true f g = f refl
 both_at_most false f g = g refl
@@ -148,11 +174,11 @@ order_first_small k kept =
     (λ e. both_at_most (ltb k 16) (λ d. lit≤ tt)
     (λ d. both_at_most (eqb k 40) (λ c. lit≤ tt) (λ c. both_at_most (eqb k 41) (λ b. lit≤ tt) (λ b. omega arith))))
 
-fits : (b : Bool) (x y : MaybePiece) → T (piece_fits x) → T (piece_fits y) → T (piece_fits (cond b x y))
+fits : (b : Bool) (x y : Option ℕ) → T (piece_fits x) → T (piece_fits y) → T (piece_fits (cond b x y))
 fits true x y f g = f
 fits false x y f g = g
 
-piece_fits_mod : (n : ℕ) → T (piece_fits (Piece (n % 8)))
+piece_fits_mod : (n : ℕ) → T (piece_fits (Some (n % 8)))
 piece_fits_mod n = le→leb (n % 8) 7 (omega arith)
 
 pub last_fits : (k : ℕ) → T (piece_fits (last_in k))

@@ -1,11 +1,13 @@
 -- A label that comes a sequence after the previous one, with the current one, all in one second; and the words with both labels of a
 -- report. Assumes nothing.
+use Rattle.std.specs.Prelude.{Option, Some, None}
 use Prim.Native.Nat.{ℕ, ◌+◌, ◌-◌, ◌*◌, ◌/◌, ◌%◌, ◌≤◌, ◌<◌}
-use mathlib.Core.Bool.{Bool, true, false, not}
+use mathlib.Core.Bool.{true, false}
 use mathlib.Core.List.{List}
 use mathlib.Core.Path.{◌≡◌, refl, sym, ap, ◌∙◌}
 use native.Mathlib.Omega.{arith}
 use borrow.Author.Tests.{eq-eqb, ne_eqb}
+use lib.Dec.{lit≤}
 use lib.IntN.{pos, negsuc}
 use lib.ListN.{length, get_or, set}
 use Rattle.fast_mtc.specs.Generator.{is_set}
@@ -15,7 +17,7 @@ use Rattle.fast_mtc.specs.Time.{flat_time, no_time}
 use Rattle.fast_mtc.specs.declared.time.FlatTime.{FlatTime}
 use Rattle.fast_mtc.proofs.Events.{direction_low}
 use Rattle.fast_mtc.proofs.LabelWords.{marked}
-use Rattle.fast_mtc.proofs.LabelShortWays.{two_fit, one_earlier, two_earlier}
+use Rattle.fast_mtc.proofs.LabelShortWays.{two_fit, frames_earlier}
 use Rattle.fast_mtc.proofs.SpelledLists.{by_words}
 use Rattle.labels.proofs.Laws.{fps_small, two_later}
 use Rattle.labels.specs.St12.{label, frames_per_second}
@@ -23,14 +25,9 @@ use Rattle.labels.specs.Time.{add_frames, bits_of, raw_time}
 use Rattle.labels.specs.declared.time.MtcTime.{MtcTime}
 use Rattle.mtc.proofs.Laws.{sequence_of_lem}
 use Rattle.mtc.specs.Generator.{final}
-use Rattle.mtc.specs.Reader.{raw_of, direction_of, sequence_of_label, same_time, jumps, sequence_of, event_with}
+use Rattle.mtc.specs.Reader.{raw_of, direction_of, sequence_of_label, same_time, sequence_of, event_with}
 use Rattle.mtc.specs.declared.generator.Direction.{Direction}
 use Rattle.mtc.specs.declared.generator.Direction.TheVariants.{Forward, Reverse}
-use Rattle.mtc.specs.declared.reader.MaybeDirection.{MaybeDirection}
-use Rattle.mtc.specs.declared.reader.MaybeDirection.TheVariants.{Going}
-use Rattle.mtc.specs.declared.reader.MaybeSequence.TheVariants.{Sequence}
-use Rattle.mtc.specs.declared.reader.MaybeTime.{MaybeTime}
-use Rattle.mtc.specs.declared.reader.MaybeTime.TheVariants.{NoTime, Time}
 use Rattle.mtc.specs.declared.reader.MtcSequence.{MtcSequence}
 
 same_time_self : (t : MtcTime) → same_time t t ≡ true
@@ -91,7 +88,7 @@ module _ (t : MtcTime) (w m p : ℕ) (e : label_in t.rate w ≡ t) (hh : t.hours
   steady_forward ep =
       let f : w / 16777216 % 256 ≡ t.frames = frames_in t w e in
       let back : t.frames - 2 + 2 ≡ t.frames = omega arith in
-      let before : time_in m p ≡ Time (at (t.frames - 2))
+      let before : time_in m p ≡ Some (at (t.frames - 2))
       = marked (at (t.frames - 2)) m p em (rw ep (word_at t w (w - 33554432) (t.frames - 2) e (omega arith) (omega arith))) in
       let here : add_frames (at (t.frames - 2)) (pos 2) ≡ t
       = sym (two_later t.rate t.hours t.minutes t.seconds (t.frames - 2) hh hm hs (omega arith)) ∙ rw back in
@@ -104,12 +101,12 @@ module _ (t : MtcTime) (w m p : ℕ) (e : label_in t.rate w ≡ t) (hh : t.hours
   steady_reverse ep =
       let f : w / 16777216 % 256 ≡ t.frames = frames_in t w e in
       let more : t.frames + 2 - 2 ≡ t.frames = omega arith in
-      let before : time_in m p ≡ Time (at (t.frames + 2))
+      let before : time_in m p ≡ Some (at (t.frames + 2))
       = marked (at (t.frames + 2)) m p em (rw ep (word_at t w (w + 33554432) (t.frames + 2) e (omega arith) (omega (arith, few)))) in
       let here : add_frames (at (t.frames + 2)) (negsuc 1) ≡ t
-      = sym (two_earlier t.rate t.hours t.minutes t.seconds (t.frames + 2) hh hm hs (omega arith) hf) ∙ rw more in
+      = sym (frames_earlier t.rate t.hours t.minutes t.seconds (t.frames + 2) 2 hh hm hs (lit≤ tt) (omega arith) hf) ∙ rw more in
       let next : add_frames t (negsuc 0) ≡ at (t.frames - 1)
-      = sym (one_earlier t.rate t.hours t.minutes t.seconds t.frames hh hm hs hl (omega arith)) in
+      = sym (frames_earlier t.rate t.hours t.minutes t.seconds t.frames 1 hh hm hs (lit≤ tt) hl (omega arith)) in
       rw (before, here, next, same_time_self t)
 
 -- ---- as the code finds it
@@ -138,39 +135,31 @@ module _ (ws : List ℕ) (t : MtcTime) (w k x : ℕ) (d : Direction) (e : label_
 
 -- ---- the report of words that hold eight pieces
 
-pub reports_sequence : (ws : List ℕ) (d : Direction) (raw : MtcTime) (m : MaybeTime) (s : MtcSequence) → (reader_in ws).direction ≡ Going d
+pub reports_sequence : (ws : List ℕ) (d : Direction) (raw : MtcTime) (m : Option MtcTime) (s : MtcSequence) → (reader_in ws).direction ≡ Some d
     → raw ≡ raw_of (nibbles_in ws) → m ≡ (reader_in ws).previous → s ≡ sequence_of_label raw d m → s ≡ sequence_of (reader_in ws)
 unfolding reader_in
 reports_sequence ws d raw m s ed er em es =
-    es ∙ rw (er, em) (sym (sym (sequence_of_lem (reader_in ws)) ∙ ap (λ (x : MaybeDirection). sequence_of_label (raw_of (nibbles_in ws)) (direction_of x) (reader_in ws).previous) ed))
+    es ∙ rw (er, em) (sym (sym (sequence_of_lem (reader_in ws)) ∙ ap (λ (x : Option Direction). sequence_of_label (raw_of (nibbles_in ws)) (direction_of x) (reader_in ws).previous) ed))
 
 -- The words with both labels.
-with_labels : (ws : List ℕ) (a b c d : ℕ) (t u : MtcTime) → length ws ≡ 15 → time_in a b ≡ Time t → time_in c d ≡ Time u
+with_labels : (ws : List ℕ) (a b c d : ℕ) (t u : MtcTime) → length ws ≡ 15 → time_in a b ≡ Some t → time_in c d ≡ Some u
     → reader_in (set (set (set (set (set ws 10 1) 11 a) 12 b) 13 c) 14 d)
-    ≡ record { nibbles = (reader_in ws).nibbles; count = (reader_in ws).count; first = (reader_in ws).first; last = (reader_in ws).last; direction = (reader_in ws).direction; locked = true; running = (reader_in ws).running; previous = Time t; time = Time u }
+    ≡ record { nibbles = (reader_in ws).nibbles; count = (reader_in ws).count; first = (reader_in ws).first; last = (reader_in ws).last; direction = (reader_in ws).direction; locked = true; running = (reader_in ws).running; previous = Some t; time = Some u }
 unfolding reader_in nibbles_in
 with_labels ws a b c d t u e et eu =
     by_words
-    (λ (l : List ℕ). reader_in (set (set (set (set (set l 10 1) 11 a) 12 b) 13 c) 14 d) ≡ record { nibbles = (reader_in l).nibbles; count = (reader_in l).count; first = (reader_in l).first; last = (reader_in l).last; direction = (reader_in l).direction; locked = true; running = (reader_in l).running; previous = Time t; time = Time u })
+    (λ (l : List ℕ). reader_in (set (set (set (set (set l 10 1) 11 a) 12 b) 13 c) 14 d) ≡ record { nibbles = (reader_in l).nibbles; count = (reader_in l).count; first = (reader_in l).first; last = (reader_in l).last; direction = (reader_in l).direction; locked = true; running = (reader_in l).running; previous = Some t; time = Some u })
     ws e (rw (et, eu))
 
 pub words_complete : (ws : List ℕ) (d : Direction) (s : MtcSequence) (x a b c w : ℕ) → length ws ≡ 15
     → a ≡ 1 + 2 * bits_of s.raw.rate → label_in s.raw.rate b ≡ s.raw → c ≡ 1 + 2 * bits_of s.current.rate
-    → label_in s.current.rate w ≡ s.current → x ≡ flat_event (event_with (final d) (Sequence s)) → s ≡ sequence_of (reader_in ws)
+    → label_in s.current.rate w ≡ s.current → x ≡ flat_event (event_with (final d) (Some s)) → s ≡ sequence_of (reader_in ws)
     → SequenceEnded (final d) ws x (set (set (set (set (set ws 10 1) 11 a) 12 b) 13 c) 14 w)
 words_complete ws d s x a b c w e ea eb ec ew ex es =
     record {
-      event = ex ∙ ap (λ (q : MtcSequence). flat_event (event_with (final d) (Sequence q))) es;
+      event = ex ∙ ap (λ (q : MtcSequence). flat_event (event_with (final d) (Some q))) es;
       reader = with_labels ws a b c w s.raw s.current e (marked s.raw a b ea eb) (marked s.current c w ec ew) ∙ rw es;
     }
-
--- There is a previous label, moved on by a sequence.
-module _ (m : MaybeTime) (t u raw : MtcTime) (d : Direction) (b : Bool) (em : m ≡ Time t) (eb : b ≡ same_time u raw) where
-  pub jumps_forward : d ≡ Forward → u ≡ add_frames t (pos 2) → not b ≡ jumps m d raw
-  jumps_forward ed eu = rw (em, eb, eu, ed)
-
-  pub jumps_reverse : d ≡ Reverse → u ≡ add_frames t (negsuc 1) → not b ≡ jumps m d raw
-  jumps_reverse ed eu = rw (em, eb, eu, ed)
 
 -- ---- what the words hold
 
@@ -186,11 +175,11 @@ raw_is ws = refl
 
 -- ---- a report as a record
 
-pub no_label : (m : MaybeTime) (r : FlatTime) → m ≡ NoTime → r ≡ no_time → r ≡ flat_time (label_or m)
+pub no_label : (m : Option MtcTime) (r : FlatTime) → m ≡ None → r ≡ no_time → r ≡ flat_time (label_or m)
 unfolding flat_time
 no_label m r em er = rw (em, er)
 
-pub some_label : (m : MaybeTime) (t : MtcTime) (r : FlatTime) → m ≡ Time t → r ≡ flat_time t → r ≡ flat_time (label_or m)
+pub some_label : (m : Option MtcTime) (t : MtcTime) (r : FlatTime) → m ≡ Some t → r ≡ flat_time t → r ≡ flat_time (label_or m)
 some_label m t r em er = rw (em, er)
 
 pub not_reported : (ws : List ℕ) (n : ℕ) (a b : FlatTime) → n % 2 ≡ 0 → a ≡ no_time → b ≡ no_time
@@ -198,7 +187,7 @@ pub not_reported : (ws : List ℕ) (n : ℕ) (a b : FlatTime) → n % 2 ≡ 0 �
 unfolding flat_maybe_sequence report_in
 not_reported ws n a b h ea eb = rw (ea, eb, eq-eqb (n % 2) 0 h)
 
-pub is_reported : (ws : List ℕ) (n : ℕ) (m u : MaybeTime) (a b : FlatTime) → (n % 2 ≡ 0 → ⊥) → m ≡ (reader_in ws).previous → a ≡ flat_time (label_or m)
+pub is_reported : (ws : List ℕ) (n : ℕ) (m u : Option MtcTime) (a b : FlatTime) → (n % 2 ≡ 0 → ⊥) → m ≡ (reader_in ws).previous → a ≡ flat_time (label_or m)
     → u ≡ (reader_in ws).time → b ≡ flat_time (label_or u)
     → record { present = true; sequence = record { raw = a; current = b; direction = n / 2 % 2; discontinuity = is_set (n / 4 % 2) } } ≡ flat_maybe_sequence (report_in (reader_in ws) n)
 unfolding flat_maybe_sequence flat_sequence report_in

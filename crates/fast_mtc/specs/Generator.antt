@@ -1,12 +1,10 @@
 -- Directions, pieces and generators as flat records, and back. Assumes nothing.
-use Rattle.std.specs.Prelude.{ℕ, Bool, not, cond, List, eqb, leb, get_or}
+use Rattle.std.specs.Prelude.{ℕ, Bool, not, cond, List, eqb, leb, get_or, Option, Some, None}
 use Rattle.fast_mtc.specs.Time.{time_of, time_at, flat_time}
 use Rattle.fast_mtc.specs.declared.generator.FlatGenerator.{FlatGenerator}
 use Rattle.fast_mtc.specs.declared.generator.FlatByte.{FlatByte}
 use Rattle.mtc.specs.declared.generator.Direction.{Direction}
 use Rattle.mtc.specs.declared.generator.Direction.TheVariants.{Forward, Reverse}
-use Rattle.mtc.specs.declared.generator.MaybePiece.{MaybePiece}
-use Rattle.mtc.specs.declared.generator.MaybePiece.TheVariants.{NoPiece, Piece}
 use Rattle.mtc.specs.declared.generator.MtcGenerator.{MtcGenerator}
 use Rattle.labels.specs.declared.time.MtcTime.{MtcTime}
 use Rattle.universal.specs.Refusals.{Answer, gives, refused}
@@ -20,12 +18,12 @@ flat_direction Forward = 0
 flat_direction Reverse = 1
 
 -- A number above 7 is no piece.
-unfoldable pub piece_at : ℕ → MaybePiece
-piece_at n = cond (leb n 7) (Piece n) NoPiece
+unfoldable pub piece_at : ℕ → Option ℕ
+piece_at n = cond (leb n 7) (Some n) None
 
-unfoldable pub flat_piece : MaybePiece → ℕ
-flat_piece NoPiece = 255
-flat_piece (Piece n) = n
+unfoldable pub flat_piece : Option ℕ → ℕ
+flat_piece None = 255
+flat_piece (Some n) = n
 
 unfoldable pub generator_of : FlatGenerator → MtcGenerator
 generator_of g =
@@ -60,7 +58,7 @@ moved_to g t = record { time = t; direction = g.direction; last = g.last; runnin
 
 -- Having just sent a piece.
 abbrev pub sent_by : MtcGenerator → ℕ → MtcGenerator
-sent_by g p = record { time = g.time; direction = g.direction; last = Piece p; running = g.running }
+sent_by g p = record { time = g.time; direction = g.direction; last = Some p; running = g.running }
 
 -- A byte, or a refusal and byte 0.
 unfoldable pub flat_byte : Answer ℕ → FlatByte

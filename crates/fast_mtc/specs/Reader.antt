@@ -1,5 +1,6 @@
 -- Readers as fifteen words, their events as numbers, and back. Assumes nothing.
-use Rattle.std.specs.Prelude.{ℕ, ◌+◌, ◌-◌, ◌*◌, ◌/◌, ◌%◌, Bool, true, false, cond, List, [], ◌∷◌, ltb, eqb, get_or}
+use Rattle.mtc.specs.declared.generator.Direction.{Direction}
+use Rattle.std.specs.Prelude.{ℕ, ◌+◌, ◌-◌, ◌*◌, ◌/◌, ◌%◌, Bool, true, false, cond, List, [], ◌∷◌, ltb, eqb, get_or, Option, Some, None}
 use Rattle.fast_mtc.specs.Generator.{direction_at, flat_direction, flat_piece, is_set}
 use Rattle.fast_mtc.specs.Time.{flat_time, no_time}
 use Rattle.fast_mtc.specs.declared.words.FlatMaybeTime.{FlatMaybeTime}
@@ -9,27 +10,19 @@ use Rattle.fast_mtc.specs.declared.report.FlatSequence.{FlatSequence}
 use Rattle.labels.specs.St12.{label}
 use Rattle.labels.specs.Time.{type_of}
 use Rattle.mtc.specs.declared.generator.Direction.TheVariants.{Forward, Reverse}
-use Rattle.mtc.specs.declared.generator.MaybePiece.{MaybePiece}
-use Rattle.mtc.specs.declared.generator.MaybePiece.TheVariants.{NoPiece, Piece}
-use Rattle.mtc.specs.declared.reader.MaybeDirection.{MaybeDirection}
-use Rattle.mtc.specs.declared.reader.MaybeDirection.TheVariants.{NoDirection, Going}
-use Rattle.mtc.specs.declared.reader.MaybeSequence.{MaybeSequence}
-use Rattle.mtc.specs.declared.reader.MaybeSequence.TheVariants.{NoSequence, Sequence}
-use Rattle.mtc.specs.declared.reader.MaybeTime.{MaybeTime}
-use Rattle.mtc.specs.declared.reader.MaybeTime.TheVariants.{NoTime, Time}
 use Rattle.mtc.specs.declared.reader.MtcEvent.{MtcEvent}
 use Rattle.mtc.specs.declared.reader.MtcReader.{MtcReader}
 use Rattle.mtc.specs.declared.reader.MtcSequence.{MtcSequence}
 use Rattle.labels.specs.declared.time.MtcTime.{MtcTime}
 use Rattle.labels.specs.declared.time.TimeCodeType.{TimeCodeType}
 
-unfoldable pub flat_way : MaybeDirection → ℕ
-flat_way NoDirection = 255
-flat_way (Going d) = flat_direction d
+unfoldable pub flat_way : Option Direction → ℕ
+flat_way None = 255
+flat_way (Some d) = flat_direction d
 
-unfoldable pub flat_maybe_time : MaybeTime → FlatMaybeTime
-flat_maybe_time NoTime = record { present = false; time = no_time }
-flat_maybe_time (Time t) = record { present = true; time = flat_time t }
+unfoldable pub flat_maybe_time : Option MtcTime → FlatMaybeTime
+flat_maybe_time None = record { present = false; time = no_time }
+flat_maybe_time (Some t) = record { present = true; time = flat_time t }
 
 -- A truth as a bit.
 abbrev pub bit_of : Bool → ℕ
@@ -46,21 +39,21 @@ bit_of b = cond b 1 0
 -- 42, 43     forward, in reverse, after no piece
 -- any other  no direction and no piece
 
-unfoldable pub way_in : ℕ → MaybeDirection
+unfoldable pub way_in : ℕ → Option Direction
 way_in k =
-    cond (ltb k 8) (Going Forward)
-    (cond (ltb k 16) (Going Reverse)
-    (cond (ltb k 24) (Going Forward)
-    (cond (ltb k 32) (Going Reverse) (cond (eqb k 42) (Going Forward) (cond (eqb k 43) (Going Reverse) NoDirection)))))
+    cond (ltb k 8) (Some Forward)
+    (cond (ltb k 16) (Some Reverse)
+    (cond (ltb k 24) (Some Forward)
+    (cond (ltb k 32) (Some Reverse) (cond (eqb k 42) (Some Forward) (cond (eqb k 43) (Some Reverse) None)))))
 
 -- The piece before the next one, in the direction.
-unfoldable pub last_in : ℕ → MaybePiece
+unfoldable pub last_in : ℕ → Option ℕ
 last_in k =
-    cond (ltb k 8) (Piece ((k + 7) % 8))
-    (cond (ltb k 16) (Piece ((k + 1) % 8))
-    (cond (ltb k 24) (Piece ((k + 7) % 8))
-    (cond (ltb k 32) (Piece ((k + 1) % 8))
-    (cond (ltb k 40) (Piece (k % 8)) (cond (eqb k 40) (Piece 0) (cond (eqb k 41) (Piece 7) NoPiece))))))
+    cond (ltb k 8) (Some ((k + 7) % 8))
+    (cond (ltb k 16) (Some ((k + 1) % 8))
+    (cond (ltb k 24) (Some ((k + 7) % 8))
+    (cond (ltb k 32) (Some ((k + 1) % 8))
+    (cond (ltb k 40) (Some (k % 8)) (cond (eqb k 40) (Some 0) (cond (eqb k 41) (Some 7) None))))))
 
 unfoldable pub count_in : ℕ → ℕ
 count_in k = cond (ltb k 8) k (cond (ltb k 16) (15 - k) (cond (eqb k 40) 1 (cond (eqb k 41) 1 0)))
@@ -76,8 +69,8 @@ unfoldable pub label_in : TimeCodeType → ℕ → MtcTime
 label_in rate w = label rate (w % 256) (w / 256 % 256) (w / 65536 % 256) (w / 16777216 % 256)
 
 -- A label, or none, by a mark beside its word: its lowest bit says whether there is one, the two above it the rate.
-unfoldable pub time_in : ℕ → ℕ → MaybeTime
-time_in mark w = cond (is_set (mark % 2)) (Time (label_in (type_of (mark / 2)) w)) NoTime
+unfoldable pub time_in : ℕ → ℕ → Option MtcTime
+time_in mark w = cond (is_set (mark % 2)) (Some (label_in (type_of (mark / 2)) w)) None
 
 -- The nibbles: of the first eight words the four low bits.
 unfoldable pub nibbles_in : List ℕ → List ℕ
@@ -126,29 +119,29 @@ reader_fields r =
 -- ---- events and reports as numbers
 
 -- A report: 1, and above it the direction and the discontinuity. 0 is none. Its labels stay in the reader.
-unfoldable pub flat_report : MaybeSequence → ℕ
-flat_report NoSequence = 0
-flat_report (Sequence s) = 1 + flat_direction s.direction * 2 + bit_of s.discontinuity * 4
+unfoldable pub flat_report : Option MtcSequence → ℕ
+flat_report None = 0
+flat_report (Some s) = 1 + flat_direction s.direction * 2 + bit_of s.discontinuity * 4
 
 -- An event: the piece in the lowest byte, the boundary in the bit above it, and from there on the report.
 unfoldable pub flat_event : MtcEvent → ℕ
 flat_event e = e.piece + bit_of e.boundary * 256 + flat_report e.sequence * 512
 
 -- A label, or all zeros.
-abbrev pub label_or : MaybeTime → MtcTime
-label_or NoTime = label (type_of 0) 0 0 0 0
-label_or (Time t) = t
+abbrev pub label_or : Option MtcTime → MtcTime
+label_or None = label (type_of 0) 0 0 0 0
+label_or (Some t) = t
 
 -- And back: the report of a number, with the labels of the reader that it left. It is none where its lowest bit is 0.
-unfoldable pub report_in : MtcReader → ℕ → MaybeSequence
+unfoldable pub report_in : MtcReader → ℕ → Option MtcSequence
 report_in r n =
     cond (is_set (n % 2))
-    (Sequence (record {
+    (Some (record {
       raw = label_or r.previous;
       current = label_or r.time;
       direction = direction_at (n / 2 % 2);
       discontinuity = is_set (n / 4 % 2);
-    })) NoSequence
+    })) None
 
 unfoldable pub flat_sequence : MtcSequence → FlatSequence
 flat_sequence s =
@@ -163,6 +156,6 @@ flat_sequence s =
 abbrev pub no_sequence : FlatSequence
 no_sequence = record { raw = no_time; current = no_time; direction = 0; discontinuity = false }
 
-unfoldable pub flat_maybe_sequence : MaybeSequence → FlatMaybeSequence
-flat_maybe_sequence NoSequence = record { present = false; sequence = no_sequence }
-flat_maybe_sequence (Sequence s) = record { present = true; sequence = flat_sequence s }
+unfoldable pub flat_maybe_sequence : Option MtcSequence → FlatMaybeSequence
+flat_maybe_sequence None = record { present = false; sequence = no_sequence }
+flat_maybe_sequence (Some s) = record { present = true; sequence = flat_sequence s }

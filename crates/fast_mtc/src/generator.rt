@@ -1,5 +1,5 @@
 // The quarter frame generator.
-ghost use Rattle.std.specs.Prelude.{◌≡◌, ◌≤◌, length, get_or};
+ghost use Rattle.std.specs.Prelude.{◌≡◌, ◌≤◌, get_or};
 ghost use Rattle.mtc.specs.Generator.{next_byte, after_next_byte, sequence_frames};
 ghost use Rattle.labels.specs.Time.{add_frames};
 ghost use Rattle.mtc.specs.QuarterFrame.{pieces};
@@ -7,8 +7,8 @@ ghost use Rattle.universal.specs.Refusals.{gives};
 ghost use Rattle.fast_mtc.specs.Generator.{direction_at, flat_direction, piece_at, flat_piece, generator_of, flat_generator, generator_in, moved_to, sent_by, flat_byte};
 
 use crate::label::next_time;
-use crate::time::{FlatTime, flat_time, time_of};
-use mtc::{Direction, MtcGenerator, MtcTime, QuarterFrame, TimeCodeType};
+use crate::time::{FlatTime, flat_time, time_in, time_of};
+use mtc::{Direction, MtcGenerator, QuarterFrame};
 
 // The places of a generator's record, after its label.
 const DIRECTION: usize = 5;
@@ -123,7 +123,6 @@ pub fn next_byte(g: &mut [u8; 8]) -> FlatByte
 fn move_on(g: &mut [u8; 8], direction: Direction)
     ensures { generator_in g.new ≡ moved_to (generator_in g.old) (add_frames (generator_in g.old).time (sequence_frames direction)) }
 {
-    has_eight(*g);
     let time = flat_time(next_time(time_in(g), direction));
     g[0] = time.hours;
     g[1] = time.minutes;
@@ -132,34 +131,15 @@ fn move_on(g: &mut [u8; 8], direction: Direction)
     g[4] = time.rate;
 }
 
-// One piece of the time.
+// One piece of the time. Of the record only the label is read: a read of all eight bytes would wait for the store of the last piece.
 fn send(g: &mut [u8; 8], piece: u8) -> FlatByte
     requires { piece ≤ 7 }
     ensures { (result ≡ flat_byte (gives (get_or (pieces (generator_in g.old).time) piece 0))) × (generator_in g.new ≡ sent_by (generator_in g.old) piece) }
 {
-    has_eight(*g);
     let time = time_in(g);
     g[LAST] = piece;
     FlatByte {
         refusal: 0,
         byte: QuarterFrame::piece(time, piece),
-    }
-}
-
-// For the proof alone: an array that is lent is not known by its length. It compiles to nothing.
-fn has_eight(bytes: [u8; 8])
-    ensures { length bytes ≡ 8 }
-{}
-
-// Only the label's bytes are read: a read of all eight would wait for the store of the last piece.
-fn time_in(g: &[u8; 8]) -> MtcTime
-    ensures { result ≡ (generator_in g.now).time }
-{
-    MtcTime {
-        hours: g[0],
-        minutes: g[1],
-        seconds: g[2],
-        frames: g[3],
-        rate: TimeCodeType::from_bits(g[4]),
     }
 }

@@ -1,24 +1,24 @@
 // Label arithmetic in registers: the answers of `to_frame_count`, `from_frame_count` and `add_frames` of `labels`. A number below
 // the day is not divided, each rate divides by constants, and the drop-frame minute is one quotient. A label is made as one number,
-// and a few frames away in the same second it is a sum.
-ghost use Rattle.std.specs.Prelude.{◌≡◌, true, ◌<◌, ◌≤◌, ◌+◌, ◌*◌, ◌/◌, ◌%◌, pos, negsuc};
-ghost use Rattle.labels.specs.Time.{bits_of, frame_count, label_at, add_frames, mod_z, label_at_second};
+// and a few frames away in the same second it is a sum. As calls the functions marked `inline` take more
+// instructions.
+ghost use Rattle.std.specs.Prelude.{◌≡◌, true, false, ◌-◌, ◌<◌, ◌≤◌, ◌+◌, ◌*◌, ◌/◌, ◌%◌, pos, negsuc};
+ghost use Rattle.labels.specs.St12.{is_drop_frame};
+ghost use Rattle.labels.specs.Time.{bits_of, type_of, frame_count, label_at, add_frames, mod_z, label_at_second};
 ghost use Rattle.mtc.specs.Generator.{sequence_frames};
+ghost use Rattle.fast_mtc.specs.Clauses.{RateOf};
 ghost use Rattle.fast_mtc.specs.Label.{label_number};
 
+use crate::time::{time_numbered, time_of};
 use mtc::{Direction, MtcTime, TimeCodeType};
 
-// The frames of a minute that drops two numbers.
+// The frames of a minute that drops two numbers. `labels` keeps its constants to itself.
 const DROP_MINUTE: u32 = 1_798;
 
-// The frames of 24 hours at each rate.
-const DAY_24: u32 = 86_400 * 24;
-
-const DAY_25: u32 = 86_400 * 25;
+// The seconds of 24 hours, and their frames at drop-frame.
+const DAY: u32 = 86_400;
 
 const DAY_DROP: u32 = 2_589_408;
-
-const DAY_30: u32 = 86_400 * 30;
 
 // The two bits of a rate, by which it is told.
 const BITS_24: u8 = 0;
@@ -26,6 +26,8 @@ const BITS_24: u8 = 0;
 const BITS_25: u8 = 1;
 
 const BITS_DROP: u8 = 2;
+
+const BITS_30: u8 = 3;
 
 // A number modulo a day: one below it needs no division.
 fn within(n: u32, day: u32) -> u32
@@ -74,17 +76,18 @@ fn number_of(t: MtcTime) -> u64
         + rate.into_bits() as u64 * 0x1_0000_0000
 }
 
-// The number of the label of a drop-frame minute of the day and a place in it. An hour takes 60 minutes off and adds itself, a
-// second 30 frames.
-fn number_in(minutes: u16, place: u16) -> u64
-    requires { (minutes < 1440) × (place < 1800) }
-    ensures { result ≡ label_number (label_at_second TimeCodeType.Fps30Drop (minutes * 60 + place / 30) (place % 30)) }
+// The number of the label of a minute of the day and a place in it, at the rate of two bits and its frames of a second. An hour takes
+// 60 minutes off and adds itself, a second its frames.
+#[inline(always)]
+fn number_in<const FRAMES: u32, const BITS: u8>(minutes: u32, place: u32) -> u64
+    requires { RateOf FRAMES BITS × ((minutes < 1440) × (place < 60 * FRAMES)) }
+    ensures { result ≡ label_number (label_at_second (type_of BITS) (minutes * 60 + place / FRAMES) (place % FRAMES)) }
 {
     let hours = minutes / 60;
-    let seconds = place / 30;
+    let seconds = place / FRAMES;
     let low = minutes as u64 * 0x100 - hours as u64 * (60 * 0x100 - 1);
-    let high = place as u64 * 0x100_0000 - seconds as u64 * (30 * 0x100_0000 - 0x1_0000);
-    low + high + 0x2_0000_0000
+    let high = place as u64 * 0x100_0000 - seconds as u64 * (FRAMES as u64 * 0x100_0000 - 0x1_0000);
+    low + high + BITS as u64 * 0x1_0000_0000
 }
 
 // The number of the label of a count of a drop-frame day. Ten minutes have 17,982 frames, so a quotient by their tenth is the minute,
@@ -98,62 +101,36 @@ fn drop_number(n: u32) -> u64
     if place < 2 {
         return number_of(MtcTime::from_frame_count(n, TimeCodeType::Fps30Drop));
     }
-    number_in(minutes, place as u16)
+    number_in::<30, BITS_DROP>(minutes as u32, place)
 }
 
-// The number of the label of a count of the day, likewise by its minute and the place in it.
-fn number_24(n: u32) -> u64
-    requires { n < 2073600 }
-    ensures { result ≡ label_number (label_at n TimeCodeType.Fps24) }
+// The number of the label of a count at a rate that skips none, by its frames of a second and its bits: likewise by the minute and the
+// place in it.
+#[inline(always)]
+fn even_number_at<const FRAMES: u32, const BITS: u8>(count: u32) -> u64
+    requires { RateOf FRAMES BITS × (is_drop_frame (type_of BITS) ≡ false) }
+    ensures { result ≡ label_number (label_at count (type_of BITS)) }
 {
-    let minutes = n / 1_440;
-    let place = n - minutes * 1_440;
-    let hours = minutes / 60;
-    let seconds = place / 24;
-    let low = minutes as u64 * 0x100 - hours as u64 * (60 * 0x100 - 1);
-    let high = place as u64 * 0x100_0000 - seconds as u64 * (24 * 0x100_0000 - 0x1_0000);
-    low + high
+    let n = within(count, DAY * FRAMES);
+    let minutes = n / (60 * FRAMES);
+    let place = n - minutes * (60 * FRAMES);
+    number_in::<FRAMES, BITS>(minutes, place)
 }
 
-fn number_25(n: u32) -> u64
-    requires { n < 2160000 }
-    ensures { result ≡ label_number (label_at n TimeCodeType.Fps25) }
-{
-    let minutes = n / 1_500;
-    let place = n - minutes * 1_500;
-    let hours = minutes / 60;
-    let seconds = place / 25;
-    let low = minutes as u64 * 0x100 - hours as u64 * (60 * 0x100 - 1);
-    let high = place as u64 * 0x100_0000 - seconds as u64 * (25 * 0x100_0000 - 0x1_0000);
-    low + high + 0x1_0000_0000
-}
-
-fn number_30(n: u32) -> u64
-    requires { n < 2592000 }
-    ensures { result ≡ label_number (label_at n TimeCodeType.Fps30) }
-{
-    let minutes = n / 1_800;
-    let place = n - minutes * 1_800;
-    let hours = minutes / 60;
-    let seconds = place / 30;
-    let low = minutes as u64 * 0x100 - hours as u64 * (60 * 0x100 - 1);
-    let high = place as u64 * 0x100_0000 - seconds as u64 * (30 * 0x100_0000 - 0x1_0000);
-    low + high + 0x3_0000_0000
-}
-
-// The number of the label of a count at a rate that skips none.
+// The same by the rate.
+#[inline(always)]
 fn even_number(count: u32, rate: TimeCodeType) -> u64
     requires { bits_of rate ≡ 2 → ⊥ }
     ensures { result ≡ label_number (label_at count rate) }
 {
     let bits = rate.into_bits();
     if bits == BITS_24 {
-        return number_24(within(count, DAY_24));
+        return even_number_at::<24, BITS_24>(count);
     }
     if bits == BITS_25 {
-        return number_25(within(count, DAY_25));
+        return even_number_at::<25, BITS_25>(count);
     }
-    number_30(within(count, DAY_30))
+    even_number_at::<30, BITS_30>(count)
 }
 
 // `MtcTime::to_frame_count`.
@@ -200,14 +177,7 @@ pub fn number_after(t: MtcTime, delta: i32) -> u64
 pub fn add_frames(t: MtcTime, delta: i32) -> MtcTime
     ensures { result ≡ add_frames t delta }
 {
-    let n = number_after(t, delta);
-    MtcTime {
-        hours: (n % 256) as u8,
-        minutes: (n / 0x100 % 256) as u8,
-        seconds: (n / 0x1_0000 % 256) as u8,
-        frames: (n / 0x100_0000 % 256) as u8,
-        rate: TimeCodeType::from_bits((n / 0x1_0000_0000 % 256) as u8),
-    }
+    time_of(time_numbered(number_after(t, delta)))
 }
 
 // True only where hours, minutes and seconds are in their ranges.
@@ -239,50 +209,33 @@ pub fn two_later(t: MtcTime) -> MtcTime
     u
 }
 
-// `add_frames(-2)`, most often in the same second. Below frame 4 it might end on a number that drop-frame skips.
-pub fn two_earlier(t: MtcTime) -> MtcTime
-    ensures { result ≡ add_frames t (negsuc 1) }
+// `add_frames` of a few frames back, likewise. Below frame 2 it might end on a number that drop-frame skips.
+pub fn earlier<const FRAMES: u8>(t: MtcTime) -> MtcTime
+    requires { (1 ≤ FRAMES) × (FRAMES ≤ 253) }
+    ensures { result ≡ add_frames t (negsuc (FRAMES - 1)) }
 {
     let rate = t.rate;
-    if t.frames < 4 {
-        return add_frames(t, -2);
+    if t.frames < FRAMES + 2 {
+        return add_frames(t, -(FRAMES as i32));
     }
     if t.frames >= rate.frames_per_second() {
-        return add_frames(t, -2);
+        return add_frames(t, -(FRAMES as i32));
     }
     if !is_in_day(t) {
-        return add_frames(t, -2);
+        return add_frames(t, -(FRAMES as i32));
     }
     let mut u = t;
-    u.frames = t.frames - 2;
-    u
-}
-
-// `add_frames(-1)`, likewise from frame 3 on.
-pub fn one_earlier(t: MtcTime) -> MtcTime
-    ensures { result ≡ add_frames t (negsuc 0) }
-{
-    let rate = t.rate;
-    if t.frames < 3 {
-        return add_frames(t, -1);
-    }
-    if t.frames >= rate.frames_per_second() {
-        return add_frames(t, -1);
-    }
-    if !is_in_day(t) {
-        return add_frames(t, -1);
-    }
-    let mut u = t;
-    u.frames = t.frames - 1;
+    u.frames = t.frames - FRAMES;
     u
 }
 
 // `Direction::next_time`: the time of the sequence after that of `t`.
+#[inline(always)]
 pub fn next_time(t: MtcTime, direction: Direction) -> MtcTime
     ensures { result ≡ add_frames t (sequence_frames direction) }
 {
     match direction {
         Direction::Forward => two_later(t),
-        Direction::Reverse => two_earlier(t),
+        Direction::Reverse => earlier::<2>(t),
     }
 }

@@ -1,13 +1,15 @@
 // A data byte received by the words. The order tells at once whether a piece is the next one of a sequence.
-ghost use Rattle.std.specs.Prelude.{◌≡◌, ◌+◌, ◌≤◌, ◌<◌, length, get_or, Some, None};
+ghost use Rattle.std.specs.Prelude.{◌≡◌, ◌+◌, ◌≤◌, ◌<◌, get_or, None};
 ghost use Rattle.mtc.specs.QuarterFrame.{piece_of, value_of};
 ghost use Rattle.mtc.specs.Reader.{after_byte, event_of};
+ghost use Rattle.mtc.specs.Generator.{after, final};
+ghost use Rattle.mtc.specs.declared.generator.Direction.{Direction};
 ghost use Rattle.mtc.specs.declared.generator.Direction.TheVariants.{Forward, Reverse};
 ghost use Rattle.fast_mtc.specs.Reader.{reader_in, flat_event};
-ghost use Rattle.fast_mtc.specs.Clauses.{Received, FirstKept, PassedPiece};
+ghost use Rattle.fast_mtc.specs.Clauses.{Received, FirstKept, PassedPiece, InSequence, OutOfSequence, order_in, order_out, order_begun, opposite, turning, passing};
 
 use crate::report::{complete, quiet};
-use crate::words::{FIRST, LOCKED, ORDER, has_words};
+use crate::words::{FIRST, LOCKED, ORDER};
 use mtc::Direction;
 
 // In a sequence forward the order is below this one, in reverse below the next.
@@ -30,6 +32,66 @@ const STOPPED_FORWARD: u32 = 42;
 
 const STOPPED_REVERSE: u32 = 43;
 
+// ---- the two directions
+
+// A direction as a type: what goes alike in both is one function, compiled for each.
+trait Way {
+    ghost WAY: { Direction };
+
+    const WAY: Direction;
+}
+
+struct Forward;
+
+impl Way for Forward {
+    ghost WAY = { Forward };
+
+    const WAY: Direction = Direction::Forward;
+}
+
+struct Reverse;
+
+impl Way for Reverse {
+    ghost WAY = { Reverse };
+
+    const WAY: Direction = Direction::Reverse;
+}
+
+// The order in a sequence, by the next piece.
+fn order_in(way: Direction, next: u32) -> u32
+    requires { next ≤ 7 }
+    ensures { result ≡ order_in way next }
+{
+    match way {
+        Direction::Forward => next,
+        Direction::Reverse => next + IN_REVERSE,
+    }
+}
+
+// The order in no sequence.
+fn order_out(way: Direction, next: u32) -> u32
+    requires { next ≤ 7 }
+    ensures { result ≡ order_out way next }
+{
+    match way {
+        Direction::Forward => OUT_FORWARD + next,
+        Direction::Reverse => OUT_REVERSE + next,
+    }
+}
+
+// The piece before the last one, which turns the direction.
+fn turning(way: Direction, order: u32) -> u32
+    requires { order < 32 }
+    ensures { result ≡ turning way order }
+{
+    match way {
+        Direction::Forward => (order + 6) % 8,
+        Direction::Reverse => (order + 2) % 8,
+    }
+}
+
+// ---- a data byte
+
 // `MtcReader::receive` on the words.
 pub fn receive(r: &mut [u32; 15], byte: u8) -> u64
     ensures { (result ≡ flat_event (event_of (reader_in r.old) byte)) × (reader_in r.new ≡ after_byte (reader_in r.old) byte) }
@@ -40,73 +102,56 @@ pub fn receive(r: &mut [u32; 15], byte: u8) -> u64
         return outside(r, byte);
     }
     if order == p {
-        return next_forward(r, p, byte);
+        return next::<Forward>(r, p, byte);
     }
     if order == p + IN_REVERSE {
-        return next_reverse(r, p, byte);
+        return next::<Reverse>(r, p, byte);
     }
     dropped(r, byte)
 }
 
-// The next piece of a sequence forward.
-fn next_forward(r: &mut [u32; 15], p: u32, byte: u8) -> u64
-    requires { (p ≡ piece_of byte) × (get_or r.old 8 0 ≡ p) }
+// The next piece of a sequence.
+fn next<W: Way>(r: &mut [u32; 15], p: u32, byte: u8) -> u64
+    requires { (p ≡ piece_of byte) × (get_or r.old 8 0 ≡ order_in W.WAY p) }
     ensures { Received r.old byte result r.new }
 {
-    has_words(*r);
     r[p as usize] = byte as u32;
-    r[ORDER] = (p + 1) % 8;
-    if p == 7 {
-        return complete(r, Direction::Forward);
-    }
-    quiet(p)
-}
-
-// The next piece of a sequence in reverse.
-fn next_reverse(r: &mut [u32; 15], p: u32, byte: u8) -> u64
-    requires { (p ≡ piece_of byte) × (get_or r.old 8 0 ≡ p + 8) }
-    ensures { Received r.old byte result r.new }
-{
-    has_words(*r);
-    r[p as usize] = byte as u32;
-    r[ORDER] = IN_REVERSE + (p + 7) % 8;
-    if p == 0 {
-        return complete(r, Direction::Reverse);
+    r[ORDER] = order_in(W::WAY, W::WAY.after(p as u8) as u32);
+    if p == W::WAY.last() as u32 {
+        return complete(r, W::WAY);
     }
     quiet(p)
 }
 
 // ---- a piece that is not the next one of a sequence, in the direction that it leaves
 
-// Forward only piece 0 begins a sequence.
-fn go_forward(r: &mut [u32; 15], p: u32, byte: u8) -> u64
+// In a direction only its first piece begins a sequence.
+fn go<W: Way>(r: &mut [u32; 15], p: u32, byte: u8) -> u64
     requires { (p ≤ 7) × FirstKept r.old }
-    ensures { PassedPiece (Some Forward) r.old p (value_of byte) result r.new }
+    ensures { PassedPiece (Going W.WAY) r.old p (value_of byte) result r.new }
 {
-    if p != 0 {
-        r[ORDER] = OUT_FORWARD + (p + 1) % 8;
+    let next = W::WAY.after(p as u8) as u32;
+    if p != W::WAY.first() as u32 {
+        r[ORDER] = order_out(W::WAY, next);
         return quiet(p);
     }
-    r[0] = byte as u32;
-    r[ORDER] = 1;
-    quiet(0)
+    r[p as usize] = byte as u32;
+    r[ORDER] = order_in(W::WAY, next);
+    quiet(p)
 }
 
-// In reverse only piece 7 does.
-fn go_reverse(r: &mut [u32; 15], p: u32, byte: u8) -> u64
+// The other direction than before.
+fn turn<W: Way>(r: &mut [u32; 15], p: u32, byte: u8) -> u64
     requires { (p ≤ 7) × FirstKept r.old }
-    ensures { PassedPiece (Some Reverse) r.old p (value_of byte) result r.new }
+    ensures { PassedPiece (Going (opposite W.WAY)) r.old p (value_of byte) result r.new }
 {
-    if p != 7 {
-        r[ORDER] = OUT_REVERSE + (p + 7) % 8;
-        return quiet(p);
+    match W::WAY {
+        Direction::Forward => go::<Reverse>(r, p, byte),
+        Direction::Reverse => go::<Forward>(r, p, byte),
     }
-    r[7] = byte as u32;
-    r[ORDER] = IN_REVERSE + 6;
-    quiet(7)
 }
 
-// Without a direction either does.
+// Without a direction the first piece of either does.
 fn go_nowhere(r: &mut [u32; 15], p: u32, byte: u8) -> u64
     requires { (p ≤ 7) × FirstKept r.old }
     ensures { PassedPiece None r.old p (value_of byte) result r.new }
@@ -125,28 +170,37 @@ fn go_nowhere(r: &mut [u32; 15], p: u32, byte: u8) -> u64
     quiet(p)
 }
 
+// A piece that does not follow the last one, after an order of a direction.
+fn pass<W: Way>(r: &mut [u32; 15], order: u32, p: u32, byte: u8) -> u64
+    requires { (order < 32) × ((p ≤ 7) × FirstKept r.old) }
+    ensures { PassedPiece (passing W.WAY order p) r.old p (value_of byte) result r.new }
+{
+    if turning(W::WAY, order) == p {
+        return turn::<W>(r, p, byte);
+    }
+    go::<W>(r, p, byte)
+}
+
 // A piece that breaks a sequence off.
 fn dropped(r: &mut [u32; 15], byte: u8) -> u64
     requires { (get_or r.old 8 0 < 16) × ((get_or r.old 8 0 ≡ piece_of byte → ⊥) × (get_or r.old 8 0 ≡ piece_of byte + 8 → ⊥)) }
     ensures { Received r.old byte result r.new }
 {
-    has_words(*r);
+    if r[ORDER] < IN_REVERSE {
+        return broken::<Forward>(r, byte);
+    }
+    broken::<Reverse>(r, byte)
+}
+
+fn broken<W: Way>(r: &mut [u32; 15], byte: u8) -> u64
+    requires { InSequence W.WAY (get_or r.old 8 0) × (get_or r.old 8 0 ≡ order_in W.WAY (piece_of byte) → ⊥) }
+    ensures { Received r.old byte result r.new }
+{
     let p = byte as u32 / 16 % 8;
     let order = r[ORDER];
-    if order < IN_REVERSE {
-        r[FIRST] = 0;
-        r[LOCKED] = 0;
-        if (order + 6) % 8 == p {
-            return go_reverse(r, p, byte);
-        }
-        return go_forward(r, p, byte);
-    }
-    r[FIRST] = 7;
+    r[FIRST] = W::WAY.first() as u32;
     r[LOCKED] = 0;
-    if (order + 2) % 8 == p {
-        return go_forward(r, p, byte);
-    }
-    go_reverse(r, p, byte)
+    pass::<W>(r, order, p, byte)
 }
 
 // A piece in no sequence.
@@ -156,10 +210,10 @@ fn outside(r: &mut [u32; 15], byte: u8) -> u64
 {
     let order = r[ORDER];
     if order < OUT_REVERSE {
-        return outside_forward(r, byte);
+        return directed::<Forward>(r, byte);
     }
     if order < OUT_UNDIRECTED {
-        return outside_reverse(r, byte);
+        return directed::<Reverse>(r, byte);
     }
     if order >= STOPPED_FORWARD {
         return after_none(r, byte);
@@ -167,38 +221,18 @@ fn outside(r: &mut [u32; 15], byte: u8) -> u64
     undirected(r, byte)
 }
 
-fn outside_forward(r: &mut [u32; 15], byte: u8) -> u64
-    requires { (16 ≤ get_or r.old 8 0) × (get_or r.old 8 0 < 24) }
+// In a direction.
+fn directed<W: Way>(r: &mut [u32; 15], byte: u8) -> u64
+    requires { OutOfSequence W.WAY (get_or r.old 8 0) }
     ensures { Received r.old byte result r.new }
 {
-    has_words(*r);
     let p = byte as u32 / 16 % 8;
     let order = r[ORDER];
-    if order == OUT_FORWARD + p {
-        return go_forward(r, p, byte);
+    if order == order_out(W::WAY, p) {
+        return go::<W>(r, p, byte);
     }
     r[LOCKED] = 0;
-    if (order + 6) % 8 == p {
-        return go_reverse(r, p, byte);
-    }
-    go_forward(r, p, byte)
-}
-
-fn outside_reverse(r: &mut [u32; 15], byte: u8) -> u64
-    requires { (24 ≤ get_or r.old 8 0) × (get_or r.old 8 0 < 32) }
-    ensures { Received r.old byte result r.new }
-{
-    has_words(*r);
-    let p = byte as u32 / 16 % 8;
-    let order = r[ORDER];
-    if order == OUT_REVERSE + p {
-        return go_reverse(r, p, byte);
-    }
-    r[LOCKED] = 0;
-    if (order + 2) % 8 == p {
-        return go_forward(r, p, byte);
-    }
-    go_reverse(r, p, byte)
+    pass::<W>(r, order, p, byte)
 }
 
 // The first piece of all, or after a full message.
@@ -206,14 +240,13 @@ fn after_none(r: &mut [u32; 15], byte: u8) -> u64
     requires { 42 ≤ get_or r.old 8 0 }
     ensures { Received r.old byte result r.new }
 {
-    has_words(*r);
     let p = byte as u32 / 16 % 8;
     let order = r[ORDER];
     if order == STOPPED_FORWARD {
-        return go_forward(r, p, byte);
+        return go::<Forward>(r, p, byte);
     }
     if order == STOPPED_REVERSE {
-        return go_reverse(r, p, byte);
+        return go::<Reverse>(r, p, byte);
     }
     go_nowhere(r, p, byte)
 }
@@ -223,60 +256,39 @@ fn undirected(r: &mut [u32; 15], byte: u8) -> u64
     requires { (32 ≤ get_or r.old 8 0) × (get_or r.old 8 0 < 42) }
     ensures { Received r.old byte result r.new }
 {
-    has_words(*r);
     let p = byte as u32 / 16 % 8;
     let order = r[ORDER];
     if order == BEGUN_AT_0 {
-        return after_0(r, byte);
+        return begun::<Forward>(r, byte);
     }
     if order == BEGUN_AT_7 {
-        return after_7(r, byte);
+        return begun::<Reverse>(r, byte);
     }
     if (order + 1) % 8 == p {
-        return go_forward(r, p, byte);
+        return go::<Forward>(r, p, byte);
     }
     if (order + 7) % 8 == p {
-        return go_reverse(r, p, byte);
+        return go::<Reverse>(r, p, byte);
     }
     r[LOCKED] = 0;
     go_nowhere(r, p, byte)
 }
 
-// After piece 0 alone, piece 1 goes on forward.
-fn after_0(r: &mut [u32; 15], byte: u8) -> u64
-    requires { get_or r.old 8 0 ≡ 40 }
+// After the first piece of a direction alone, the second one goes on in it.
+fn begun<W: Way>(r: &mut [u32; 15], byte: u8) -> u64
+    requires { get_or r.old 8 0 ≡ order_begun W.WAY }
     ensures { Received r.old byte result r.new }
 {
-    has_words(*r);
     let p = byte as u32 / 16 % 8;
-    if p == 1 {
-        r[1] = byte as u32;
-        r[ORDER] = 2;
-        return quiet(1);
+    let first = W::WAY.first();
+    if p == W::WAY.after(first) as u32 {
+        r[p as usize] = byte as u32;
+        r[ORDER] = order_in(W::WAY, W::WAY.after(p as u8) as u32);
+        return quiet(p);
     }
-    r[FIRST] = 0;
-    if p == 7 {
-        return go_reverse(r, p, byte);
-    }
-    r[LOCKED] = 0;
-    go_nowhere(r, p, byte)
-}
-
-// After piece 7 alone, piece 6 goes on in reverse.
-fn after_7(r: &mut [u32; 15], byte: u8) -> u64
-    requires { get_or r.old 8 0 ≡ 41 }
-    ensures { Received r.old byte result r.new }
-{
-    has_words(*r);
-    let p = byte as u32 / 16 % 8;
-    if p == 6 {
-        r[6] = byte as u32;
-        r[ORDER] = IN_REVERSE + 5;
-        return quiet(6);
-    }
-    r[FIRST] = 7;
-    if p == 0 {
-        return go_forward(r, p, byte);
+    r[FIRST] = first as u32;
+    if p == W::WAY.last() as u32 {
+        return turn::<W>(r, p, byte);
     }
     r[LOCKED] = 0;
     go_nowhere(r, p, byte)

@@ -4,15 +4,14 @@ ghost use Rattle.labels.specs.Time.{add_frames};
 ghost use Rattle.mtc.specs.Generator.{final};
 ghost use Rattle.mtc.specs.Reader.{raw_of, offset, jumps, sequence_of, event_with};
 ghost use Rattle.fast_mtc.specs.Time.{flat_time};
-ghost use Rattle.fast_mtc.specs.Reader.{bit_of, nibbles_in, reader_in, flat_report, flat_event, label_or, report_in, flat_maybe_sequence};
+ghost use Rattle.fast_mtc.specs.Reader.{nibbles_in, reader_in, flat_report, flat_event, label_or, report_in, flat_maybe_sequence};
 ghost use Rattle.fast_mtc.specs.Clauses.{SequenceEnded, SteadyLabel, steady};
 
 use crate::generator::flat_direction;
 use crate::label;
 use crate::time::{FlatTime, flat_time, no_time};
 use crate::words::{
-    LOCKED, PREVIOUS, PREVIOUS_MARK, TIME, TIME_MARK, has_words, label_word, previous, rate_mark,
-    time,
+    LOCKED, PREVIOUS, PREVIOUS_MARK, TIME, TIME_MARK, label_word, previous, rate_mark, time,
 };
 use mtc::{Direction, MtcEvent, MtcSequence, MtcTime, event, same};
 
@@ -37,24 +36,18 @@ pub struct FlatMaybeSequence {
 
 // ---- events as numbers
 
-fn bit_of(set: bool) -> u64
-    ensures { (result ≡ bit_of set) × (result ≤ 1) }
-{
-    if set { 1 } else { 0 }
-}
-
 fn flat_report(s: MtcSequence) -> u64
     ensures { (result ≡ flat_report (Sequence s)) × (result ≤ 7) }
 {
     let direction = s.direction;
-    1 + flat_direction(direction) as u64 * 2 + bit_of(s.discontinuity) * 4
+    1 + flat_direction(direction) as u64 * 2 + s.discontinuity as u64 * 4
 }
 
 fn flat_event(e: MtcEvent) -> u64
     ensures { result ≡ flat_event e }
 {
     let sequence = e.sequence;
-    let start = e.piece as u64 + bit_of(e.boundary) * 256;
+    let start = e.piece as u64 + e.boundary as u64 * 256;
     match sequence {
         None => start,
         Some(s) => start + flat_report(s) * 512,
@@ -128,7 +121,8 @@ pub(crate) fn complete(r: &mut [u32; 15], direction: Direction) -> u64
     if is_steady(*r, raw, direction) {
         return keep(r, steady(raw, direction), direction);
     }
-    // Two calls, so that it stays a function of its own and a steady label saves no registers for it.
+    // Two calls, so that it stays a function of its own and a steady label saves no registers for it. One call and `inline(never)`
+    // take more instructions.
     match direction {
         Direction::Forward => complete_any(r, raw, Direction::Forward),
         Direction::Reverse => complete_any(r, raw, Direction::Reverse),
@@ -154,7 +148,6 @@ fn complete_any(r: &mut [u32; 15], raw: MtcTime, direction: Direction) -> u64
 fn keep(r: &mut [u32; 15], s: MtcSequence, direction: Direction) -> u64
     ensures { s ≡ sequence_of (reader_in r.old) → SequenceEnded (final direction) r.old result r.new }
 {
-    has_words(*r);
     let raw = s.raw;
     let current = s.current;
     let rate = raw.rate;
@@ -173,7 +166,7 @@ fn current(raw: MtcTime, direction: Direction) -> MtcTime
 {
     match direction {
         Direction::Forward => label::two_later(raw),
-        Direction::Reverse => label::one_earlier(raw),
+        Direction::Reverse => label::earlier::<1>(raw),
     }
 }
 
@@ -184,10 +177,7 @@ fn jumps(previous: Option<MtcTime>, direction: Direction, raw: MtcTime) -> bool
     let Some(t) = previous else {
         return false;
     };
-    match direction {
-        Direction::Forward => !same(label::two_later(t), raw),
-        Direction::Reverse => !same(label::two_earlier(t), raw),
-    }
+    !same(label::next_time(t, direction), raw)
 }
 
 // ---- a steady label: a sequence after the previous one, with the current one, all in one second and past the skipped numbers

@@ -1,6 +1,6 @@
 // Labels, and the quarter frames of a label.
 ghost use Rattle.universal.specs.Refusals.{answer_of};
-ghost use Rattle.std.specs.Prelude.{◌≡◌};
+ghost use Rattle.std.specs.Prelude.{◌≡◌, ◌≤◌};
 ghost use Rattle.fast_mtc.specs.Refusal.{refusal_in};
 ghost use Rattle.fast_mtc.specs.Time.{time_of, time_at, time_numbered, flat_time, no_time, frame_of, flat_frame};
 
@@ -44,8 +44,9 @@ pub fn time_of(t: FlatTime) -> MtcTime
     }
 }
 
-// The label in five bytes.
-pub fn time_in(bytes: &[u8; 5]) -> MtcTime
+// The label in the first five bytes. No other is read.
+pub fn time_in<const N: usize>(bytes: &[u8; N]) -> MtcTime
+    requires { 5 ≤ N }
     ensures { result ≡ time_at bytes.now 0 }
 {
     MtcTime {

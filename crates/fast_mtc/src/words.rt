@@ -1,5 +1,5 @@
 // The reader's record: fifteen words, any of which stand for a reader in its ranges.
-ghost use Rattle.std.specs.Prelude.{◌≡◌, ◌+◌, ◌*◌, ◌≤◌, length};
+ghost use Rattle.std.specs.Prelude.{◌≡◌, ◌+◌, ◌*◌, ◌≤◌};
 ghost use Rattle.labels.specs.Time.{bits_of};
 ghost use Rattle.mtc.specs.Reader.{fresh, after_full_message};
 ghost use Rattle.fast_mtc.specs.Reader.{way_in, last_in, count_in, first_in, flat_way, flat_maybe_time, nibbles_in, label_in, time_in, reader_in, reader_fields};
@@ -55,11 +55,6 @@ pub(crate) const PREVIOUS: usize = 12;
 pub(crate) const TIME_MARK: usize = 13;
 
 pub(crate) const TIME: usize = 14;
-
-// For the proof alone: an array that is lent is not known by its length. It compiles to nothing.
-pub(crate) fn has_words(words: [u32; 15])
-    ensures { length words ≡ 15 }
-{}
 
 // ---- the order
 
@@ -324,7 +319,6 @@ fn stopped(order: u32) -> u32
 pub fn full_message(r: &mut [u32; 15], time: MtcTime)
     ensures { reader_in r.new ≡ after_full_message (reader_in r.old) time }
 {
-    has_words(*r);
     let order = r[ORDER];
     let rate = time.rate;
     r[ORDER] = stopped(order);

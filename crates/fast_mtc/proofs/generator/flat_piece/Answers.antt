@@ -2,10 +2,10 @@
 use Rattle.fast_mtc.specs.Generator.{flat_piece}
 use Rattle.fast_mtc.proofs.generator.flat_piece.Goals as goal
 
-pub returns-in-NoPiece : goal.returns-in-NoPiece
+pub returns-in-None : goal.returns-in-None
 unfolding flat_piece
-returns-in-NoPiece c = cc
+returns-in-None c = cc
 
-pub returns-in-Piece : goal.returns-in-Piece
+pub returns-in-Some : goal.returns-in-Some
 unfolding flat_piece
-returns-in-Piece c = cc
+returns-in-Some c = cc

@@ -3,34 +3,34 @@ use Rattle.fast_mtc.proofs.PassedPieces.{below_40, kept_undirected, kept_unlocke
 use borrow.Author.Rules.{rules}
 use Rattle.fast_mtc.proofs.receive.undirected.Goals as goal
 
-pub after_0-requires : goal.after_0-requires
-after_0-requires c = c.if-order-eq-BEGUN_AT_0.true
+pub begun-requires : goal.begun-requires
+begun-requires c = c.if-order-eq-BEGUN_AT_0.true
 
 pub returns-then-order-eq-BEGUN_AT_0 : goal.returns-then-order-eq-BEGUN_AT_0
-returns-then-order-eq-BEGUN_AT_0 c = c.after_0.ensures
+returns-then-order-eq-BEGUN_AT_0 c = c.begun.ensures
 
-pub after_7-requires : goal.after_7-requires
-after_7-requires c = c.if-order-eq-BEGUN_AT_7.true
+pub begun-requires-then-order-eq-BEGUN_AT_7 : goal.begun-requires-then-order-eq-BEGUN_AT_7
+begun-requires-then-order-eq-BEGUN_AT_7 c = c.if-order-eq-BEGUN_AT_7.true
 
 pub returns-then-order-eq-BEGUN_AT_7 : goal.returns-then-order-eq-BEGUN_AT_7
-returns-then-order-eq-BEGUN_AT_7 c = c.after_7.ensures
+returns-then-order-eq-BEGUN_AT_7 c = c.begun-then-order-eq-BEGUN_AT_7.ensures
 
-pub go_forward-requires : goal.go_forward-requires
-go_forward-requires c = (search rules, (kept_undirected c.args.r.now c.has_words.ensures c.requires.0 (below_40 _ c.requires.1 c.if-order-eq-BEGUN_AT_0.false c.if-order-eq-BEGUN_AT_7.false)))
+pub go-requires : goal.go-requires
+go-requires c = (search rules, (kept_undirected c.args.r.now c.told-r c.requires.0 (below_40 _ c.requires.1 c.if-order-eq-BEGUN_AT_0.false c.if-order-eq-BEGUN_AT_7.false)))
 
 pub returns-then-order-p : goal.returns-then-order-p
 returns-then-order-p c =
-    second_forward _ _ _ _ c.has_words.ensures c.requires.0 (below_40 _ c.requires.1 c.if-order-eq-BEGUN_AT_0.false c.if-order-eq-BEGUN_AT_7.false) c.if-order-p.true c.go_forward.ensures
+    second_forward _ _ _ _ c.told-r c.requires.0 (below_40 _ c.requires.1 c.if-order-eq-BEGUN_AT_0.false c.if-order-eq-BEGUN_AT_7.false) c.if-order-p.true c.go.ensures
 
-pub go_reverse-requires : goal.go_reverse-requires
-go_reverse-requires c = (search rules, (kept_undirected c.args.r.now c.has_words.ensures c.requires.0 (below_40 _ c.requires.1 c.if-order-eq-BEGUN_AT_0.false c.if-order-eq-BEGUN_AT_7.false)))
+pub go-requires-then-order-p-2 : goal.go-requires-then-order-p-2
+go-requires-then-order-p-2 c = (search rules, (kept_undirected c.args.r.now c.told-r c.requires.0 (below_40 _ c.requires.1 c.if-order-eq-BEGUN_AT_0.false c.if-order-eq-BEGUN_AT_7.false)))
 
 pub returns-then-order-p-2 : goal.returns-then-order-p-2
 returns-then-order-p-2 c =
-    second_reverse _ _ _ _ c.has_words.ensures c.requires.0 (below_40 _ c.requires.1 c.if-order-eq-BEGUN_AT_0.false c.if-order-eq-BEGUN_AT_7.false) c.if-order-p.false c.if-order-p-2.true c.go_reverse.ensures
+    second_reverse _ _ _ _ c.told-r c.requires.0 (below_40 _ c.requires.1 c.if-order-eq-BEGUN_AT_0.false c.if-order-eq-BEGUN_AT_7.false) c.if-order-p.false c.if-order-p-2.true c.go-then-order-p-2.ensures
 
 pub go_nowhere-requires : goal.go_nowhere-requires
-go_nowhere-requires c = (search rules, kept_unlocked c.args.r.now c.has_words.ensures (kept_undirected c.args.r.now c.has_words.ensures c.requires.0 (below_40 _ c.requires.1 c.if-order-eq-BEGUN_AT_0.false c.if-order-eq-BEGUN_AT_7.false)))
+go_nowhere-requires c = (search rules, kept_unlocked c.args.r.now c.told-r (kept_undirected c.args.r.now c.told-r c.requires.0 (below_40 _ c.requires.1 c.if-order-eq-BEGUN_AT_0.false c.if-order-eq-BEGUN_AT_7.false)))
 
 pub returns : goal.returns
-returns c = second_apart _ _ _ _ c.has_words.ensures c.requires.0 (below_40 _ c.requires.1 c.if-order-eq-BEGUN_AT_0.false c.if-order-eq-BEGUN_AT_7.false) c.if-order-p.false c.if-order-p-2.false c.go_nowhere.ensures
+returns c = second_apart _ _ _ _ c.told-r c.requires.0 (below_40 _ c.requires.1 c.if-order-eq-BEGUN_AT_0.false c.if-order-eq-BEGUN_AT_7.false) c.if-order-p.false c.if-order-p-2.false c.go_nowhere.ensures

@@ -1,6 +1,6 @@
 -- `fast_mtc::report::complete` meets its contract. Assumes nothing.
+use Rattle.std.specs.Prelude.{Some}
 use mathlib.Core.Path.{sym, ap, ◌∙◌}
-use Rattle.mtc.specs.declared.reader.MaybeDirection.TheVariants.{Going}
 use Rattle.fast_mtc.proofs.SteadyLabels.{reports_sequence, previous_at}
 use Rattle.fast_mtc.proofs.report.complete.Goals as goal
 
@@ -13,11 +13,11 @@ returns-then-is_steady c =
 
 pub complete_any-requires : goal.complete_any-requires
 complete_any-requires c =
-    (c.requires ∙ ap Going c.in-Forward.is, c.raw_in-raw.ensures)
+    (c.requires ∙ ap Some c.in-Forward.is, c.raw_in-raw.ensures)
 
 pub complete_any-requires-in-Reverse : goal.complete_any-requires-in-Reverse
 complete_any-requires-in-Reverse c =
-    (c.requires ∙ ap Going c.in-Reverse.is, c.raw_in-raw.ensures)
+    (c.requires ∙ ap Some c.in-Reverse.is, c.raw_in-raw.ensures)
 
 pub returns-in-Forward : goal.returns-in-Forward
 returns-in-Forward c = rw c.in-Forward.is c.complete_any.ensures

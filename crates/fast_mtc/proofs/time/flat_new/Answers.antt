@@ -2,10 +2,10 @@
 use Rattle.fast_mtc.specs.Refusal.{refusal_in}
 use Rattle.fast_mtc.proofs.time.flat_new.Goals as goal
 
-pub returns-in-Valid : goal.returns-in-Valid
+pub returns-in-Ok : goal.returns-in-Ok
 unfolding refusal_in
-returns-in-Valid c = cc
+returns-in-Ok c = cc
 
-pub returns-in-Refused : goal.returns-in-Refused
+pub returns-in-Err : goal.returns-in-Err
 unfolding refusal_in
-returns-in-Refused c = cc
+returns-in-Err c = cc

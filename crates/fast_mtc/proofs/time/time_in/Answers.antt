@@ -4,5 +4,5 @@ use Rattle.fast_mtc.proofs.time.time_in.Goals as goal
 
 pub returns : goal.returns
 unfolding time_at
-returns c =
+returns g c =
     rw c.from_bits.ensures

@@ -2,10 +2,10 @@
 use Rattle.fast_mtc.specs.Reader.{flat_way}
 use Rattle.fast_mtc.proofs.words.flat_way.Goals as goal
 
-pub returns-in-NoDirection : goal.returns-in-NoDirection
+pub returns-in-None : goal.returns-in-None
 unfolding flat_way
-returns-in-NoDirection c = cc
+returns-in-None c = cc
 
-pub returns-in-Going : goal.returns-in-Going
+pub returns-in-Some : goal.returns-in-Some
 unfolding flat_way
-returns-in-Going c = cc
+returns-in-Some c = cc
