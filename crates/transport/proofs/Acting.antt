@@ -1,7 +1,7 @@
 -- What a target resolves to and what a command does, by cases, for the calls' proofs. Assumes nothing.
 use Rattle.std.specs.Prelude.{Option, Some, None}
 use Prim.Native.Nat.{ℕ, ◌≤◌, ◌<◌}
-use mathlib.Core.Path.{◌≡◌, refl, sym, ap, ◌∙◌}
+use mathlib.Core.Path.{◌≡◌, refl, sym}
 use mathlib.Core.Bool.{Bool, true, false, cond, ◌&&◌}
 use lib.Dec.{T, leb}
 use borrow.Author.Tests.{le-leb, lt-leb}
@@ -17,7 +17,7 @@ use Rattle.labels.proofs.Laws.{next_valid_valid, next_valid_least}
 use Rattle.universal.proofs.Tests.{holds_true}
 use Rattle.universal.specs.Message.{is_addressed}
 use Rattle.universal.specs.Refusals.{gives}
-use Rattle.transport.specs.Transport.{resolved, Outcome, not_mine, unchanged, locate_outcome, acted, applied}
+use Rattle.transport.specs.Transport.{resolved, NotMine, unchanged, locate_outcome, acted, applied}
 
 -- ---- a target
 
@@ -51,16 +51,6 @@ skipped_moved c b k h m =
 
 -- ---- a command
 
--- A command that is known as another.
-pub acted_as : (g : MtcGenerator) (c d : MmcCommand) (o : Outcome) → c ≡ d → o ≡ acted g d → o ≡ acted g c
-acted_as g c d o e h = h ∙ ap (acted g) (sym e)
-
--- Locate to a target that is known to resolve so.
-pub locate_so : (g : MtcGenerator) (c : StandardTimeCode) (t : Option MtcTime) (o : Outcome) → resolved c ≡ t → o ≡ locate_outcome g t
-    → o ≡ acted g (LocateTarget c)
-unfolding acted
-locate_so g c t o e h = h ∙ ap (locate_outcome g) (sym e)
-
 -- ---- a call
 
 -- A device above 127, as the message's or as its own.
@@ -74,7 +64,7 @@ own_above g device own c h k = rw (le-leb device 127 h, lt-leb own 127 k)
 
 -- A message for another device.
 pub not_mine_lem : (g : MtcGenerator) (device own : ℕ) (c : MmcCommand) → device ≤ 127 → own ≤ 127 → is_addressed device own ≡ false
-    → record { generator = g; answer = gives not_mine } ≡ applied g device own c
+    → record { generator = g; answer = gives NotMine } ≡ applied g device own c
 unfolding applied
 not_mine_lem g device own c h k a = rw (le-leb device 127 h, le-leb own 127 k, a)
 
@@ -114,7 +104,7 @@ unfolding applied
 applied_fits g device own c h = go (leb device 127 && leb own 127) (is_addressed device own)
   where
     go : (b a : Bool)
-        → T (piece_fits (cond b (cond a (acted g c) (record { generator = g; answer = gives not_mine })) (unchanged g 5)).generator.last)
+        → T (piece_fits (cond b (cond a (acted g c) (record { generator = g; answer = gives NotMine })) (unchanged g 5)).generator.last)
     go true true = acted_fits g c h
     go true false = h
     go false a = h

@@ -22,7 +22,7 @@ use Rattle.mtc.specs.declared.generator.MtcGenerator.{MtcGenerator}
 use Rattle.labels.specs.declared.time.MtcTime.{MtcTime}
 use Rattle.universal.specs.Message.{is_addressed}
 use Rattle.universal.specs.Refusals.{Refusal, refusal, Answer, gives, refused}
-use Rattle.transport.specs.Transport.{not_mine, Outcome, resolved, unchanged, locate_outcome, acted, applied}
+use Rattle.transport.specs.Transport.{NotMine, Outcome, resolved, unchanged, locate_outcome, acted, applied}
 use Rattle.transport.specs.Demand3.{Run, answered, on_read, obey_from, applied_all, answers_to, applied_walk, ReadActs, CutActs, RefusedPasses}
 use Rattle.transport.proofs.Acting.{mine}
 
@@ -113,8 +113,8 @@ unfolding applied
 refused_unchanged g device own c r = go (leb device 127 && leb own 127) (is_addressed device own)
   where
     go : (b a : Bool)
-        → (cond b (cond a (acted g c) (record { generator = g; answer = gives not_mine })) (unchanged g 5)).answer ≡ refused r
-        → (cond b (cond a (acted g c) (record { generator = g; answer = gives not_mine })) (unchanged g 5)).generator ≡ g
+        → (cond b (cond a (acted g c) (record { generator = g; answer = gives NotMine })) (unchanged g 5)).answer ≡ refused r
+        → (cond b (cond a (acted g c) (record { generator = g; answer = gives NotMine })) (unchanged g 5)).generator ≡ g
     go true true h = refused_acted g c r h
     go true false h = refl
     go false a h = refl

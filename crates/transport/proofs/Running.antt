@@ -1,4 +1,7 @@
 -- A string's commands, read and applied one by one: a turn, by what is read, and the loop over all of them. Assumes nothing.
+use Rattle.std.specs.Prelude.{Result, Ok, Err}
+use Rattle.transport.specs.Transport.{Reply}
+use Rattle.universal.specs.Refusals.{answer_of}
 use Prim.Native.Nat.{ℕ, suc, ◌+◌, ◌-◌, ◌≤◌, ◌<◌}
 use mathlib.Core.Path.{◌≡◌, refl, sym, ap, ap₂, subst, ◌∙◌}
 use mathlib.Core.List.{List, ◌∷◌}
@@ -8,37 +11,14 @@ use Rattle.mmc.proofs.StringLaws.{read_goes_on}
 use Rattle.mmc.specs.declared.command.MmcCommand.{MmcCommand}
 use Rattle.mmc.specs.declared.length.Kind.TheVariants.{Commands}
 use Rattle.mmc.specs.Command.{next_command}
-use Rattle.mmc.specs.Split.{Next, next_item_of}
 use Rattle.mtc.specs.declared.generator.MtcGenerator.{MtcGenerator}
 use Rattle.transport.specs.declared.run.Turn.{Turn}
-use Rattle.transport.specs.declared.transport.Applied.{Applied}
 use Rattle.transport.specs.Demand3.{Run, over, answered, on_read, obey_from, obey}
 use Rattle.transport.specs.Obey.{CommandReply, TurnOutcome, turn_by, obey_next, command_reply_of, turn_of, one_refused, refused_in, Summary, summed_up, summary_after}
-use Rattle.transport.specs.Transport.{Outcome, applied, applied_of, answer_of}
+use Rattle.transport.specs.Transport.{Outcome, applied}
 use Rattle.transport.proofs.Obeying.{obey_more}
 use Rattle.universal.specs.Refusals.{Refusal, Answer, gives, refused, refusal_of}
 use Rattle.universal.specs.declared.error.SysexError.{SysexError}
-
--- ---- one turn
-
-module _ (body : List ℕ) (device own place : ℕ) (g : MtcGenerator) (n : NextCommand) (h : next_item_of n ≡ next_command body place) where
-  -- A command that is read is applied.
-  pub turn_read : (c : MmcCommand) (b : Applied) → n.answer ≡ C.Command c → applied_of b ≡ applied g device own c
-      → record { generator = b.generator; told = gives (record { command = c; reply = answer_of b.answer }); place = n.place }
-      ≡ obey_next body device own place g
-  unfolding obey_next
-  turn_read c b a e =
-      ap (λ (o : Outcome). record { generator = o.generator; told = gives (record { command = c; reply = o.answer }); place = n.place }) e
-      ∙ ap (λ (x : Answer MmcCommand). turn_by x n.place (applied g device own) g) (sym (ap answer_of a))
-      ∙ ap (λ (x : Next MmcCommand). turn_by x.answer x.place (applied g device own) g) h
-
-  -- A refused read leaves the generator.
-  pub turn_ended : (e : SysexError) → n.answer ≡ C.Refused e
-      → record { generator = g; told = refused (refusal_of e); place = n.place } ≡ obey_next body device own place g
-  unfolding obey_next
-  turn_ended e a =
-      ap (λ (x : Answer MmcCommand). turn_by x n.place (applied g device own) g) (sym (ap answer_of a))
-      ∙ ap (λ (x : Next MmcCommand). turn_by x.answer x.place (applied g device own) g) h
 
 -- ---- what a turn tells
 
@@ -97,7 +77,7 @@ begins body device own g =
     ap (λ (n : ℕ). summary_after 0 0 (obey_from (suc n) body device own 0 g)) m
 
 module _ (body : List ℕ) (device own place : ℕ) (g : MtcGenerator) (t : Turn) (h : turn_of t ≡ obey_next body device own place g) where
-  gives_told : (c : MmcCommand) (r : TransportAnswer) → t.answer ≡ A.Command c r
+  gives_told : (c : MmcCommand) (r : Result Reply SysexError) → t.answer ≡ Ok (record { command = c; reply = r })
       → Gave (next_command body place).answer (applied g device own) (obey_next body device own place g) (record { command = c; reply = answer_of r })
   unfolding obey_next
   gives_told c r a =
@@ -115,7 +95,7 @@ module _ (body : List ℕ) (device own place : ℕ) (g : MtcGenerator) (t : Turn
       go (refused r) = refl
 
   -- A turn that gave a command goes on past its place.
-  pub on_turn : (c : MmcCommand) (r : TransportAnswer) → t.answer ≡ A.Command c r → (place < t.place) × (t.place ≤ length body)
+  pub on_turn : (c : MmcCommand) (r : Result Reply SysexError) → t.answer ≡ Ok (record { command = c; reply = r }) → (place < t.place) × (t.place ≤ length body)
   on_turn c r a =
       subst (λ (k : ℕ). (place < k) × (k ≤ length body)) (sym after_place)
       (read_goes_on Commands body place c (gives_told c r a).read)
@@ -128,7 +108,7 @@ module _ (body : List ℕ) (device own place : ℕ) (g : MtcGenerator) (t : Turn
         (obey_from (length body - commands) body device own (next_command body place).place (applied g device own c).generator)
 
     -- The read was refused.
-    pub last_turn : (e : SysexError) → t.answer ≡ A.Ended e → summed_up g commands refusals (refusal_of e) ≡ whole
+    pub last_turn : (e : SysexError) → t.answer ≡ Err e → summed_up g commands refusals (refusal_of e) ≡ whole
     unfolding obey_next rest
     last_turn e a =
         let b : (next_command body place).answer ≡ refused (refusal_of e) =
@@ -139,7 +119,7 @@ module _ (body : List ℕ) (device own place : ℕ) (g : MtcGenerator) (t : Turn
         ∙ ends_with commands refusals g (refusal_of e))
 
     -- A command was read and applied: what is left.
-    pub next_turn : (c : MmcCommand) (r : TransportAnswer) (k : ℕ) → t.answer ≡ A.Command c r → commands < length body
+    pub next_turn : (c : MmcCommand) (r : Result Reply SysexError) (k : ℕ) → t.answer ≡ Ok (record { command = c; reply = r }) → commands < length body
         → k ≡ one_refused (answer_of r)
         → whole
         ≡ summary_after (commands + 1) (refusals + k) (obey_from (suc (length body - (commands + 1))) body device own t.place t.generator)

@@ -1,14 +1,16 @@
 -- What `obey_next` and `obey` answer: one command read and applied, and what became of all of a message's data, by the run that
 -- demand 3 defines. Assumes nothing.
-use Rattle.std.specs.Prelude.{ℕ, ◌+◌, List, [], ◌∷◌, length}
+use Rattle.std.specs.Prelude.{ℕ, ◌+◌, List, [], ◌∷◌, length, Result, Ok, Err}
 use Rattle.transport.specs.declared.run.Obeyed.{Obeyed}
 use Rattle.transport.specs.declared.run.Turn.{Turn}
+use Rattle.transport.specs.declared.run.TurnReply.{TurnReply}
+use Rattle.universal.specs.declared.error.SysexError.{SysexError}
 use Rattle.transport.specs.Demand3.{Run}
-use Rattle.transport.specs.Transport.{Reply, Outcome, applied, answer_of}
+use Rattle.transport.specs.Transport.{Reply, Outcome, applied}
 use Rattle.mmc.specs.declared.command.MmcCommand.{MmcCommand}
 use Rattle.mmc.specs.Command.{next_command}
 use Rattle.mtc.specs.declared.generator.MtcGenerator.{MtcGenerator}
-use Rattle.universal.specs.Refusals.{Refusal, Answer, gives, refused, refusal_of}
+use Rattle.universal.specs.Refusals.{Refusal, Answer, gives, refused, refusal_of, answer_of}
 
 -- ---- one command
 
@@ -35,9 +37,9 @@ obey_next body device own place g =
     turn_by (next_command body place).answer (next_command body place).place (λ c. applied g device own c) g
 
 -- The answer, in the paper's numbers.
-abbrev pub command_reply_of : TurnAnswer → Answer CommandReply
-command_reply_of (A.Command c reply) = gives (record { command = c; reply = answer_of reply })
-command_reply_of (A.Ended e) = refused (refusal_of e)
+abbrev pub command_reply_of : Result TurnReply SysexError → Answer CommandReply
+command_reply_of (Ok t) = gives (record { command = t.command; reply = answer_of t.reply })
+command_reply_of (Err e) = refused (refusal_of e)
 
 abbrev pub turn_of : Turn → TurnOutcome
 turn_of t = record { generator = t.generator; told = command_reply_of t.answer; place = t.place }

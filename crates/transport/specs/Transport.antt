@@ -2,6 +2,9 @@
 -- command does to a generator, and what one call answers. Assumes nothing.
 use Rattle.std.specs.Prelude.{ℕ, true, false, cond, ◌&&◌, leb, Option, Some, None}
 use Rattle.transport.specs.declared.transport.Applied.{Applied}
+-- What became of a command that was not refused: done, or it is for another device.
+pub use Rattle.transport.specs.declared.transport.Reply.{Reply}
+pub use Rattle.transport.specs.declared.transport.Reply.TheVariants.{Done, NotMine}
 use Rattle.mmc.specs.declared.command.MmcCommand.{MmcCommand}
 use Rattle.mmc.specs.declared.command.MmcCommand.TheVariants.{Stop, Play, DeferredPlay, FastForward, Rewind, RecordStrobe, RecordExit, Pause, Reset, Write, LocateField, LocateTarget, Move, Other}
 use Rattle.codes.specs.declared.time_code.StandardTimeCode.{StandardTimeCode}
@@ -12,7 +15,7 @@ use Rattle.mtc.specs.declared.generator.Direction.TheVariants.{Forward}
 use Rattle.mtc.specs.declared.generator.MtcGenerator.{MtcGenerator}
 use Rattle.labels.specs.declared.time.MtcTime.{MtcTime}
 use Rattle.universal.specs.Message.{is_addressed}
-use Rattle.universal.specs.Refusals.{Answer, gives, refused, refusal, refusal_of, answer_of}
+use Rattle.universal.specs.Refusals.{Answer, gives, refused, refusal, answer_of}
 
 -- ---- a Locate target
 
@@ -25,34 +28,20 @@ if_valid t = cond (is_valid t) (Some t) None
 unfoldable pub resolved : StandardTimeCode → Option MtcTime
 resolved c = cond c.blank None (if_valid (next_valid c.time))
 
--- The code's own form of it.
-abbrev pub target_of : Target → Option MtcTime
-target_of (At t) = Some t
-target_of Nowhere = None
-
 -- ---- what a call answers
-
--- A command is done, or it is for another device.
-pub data Reply : Type 0 where
-  done not_mine : Reply
 
 -- The answer to a command, and the generator that comes back.
 pub record Outcome : Type 0 where
   pub generator : MtcGenerator
   pub answer : Answer Reply
 
--- The answer, in the paper's numbers.
-abbrev pub answer_of : TransportAnswer → Answer Reply
-answer_of A.Done = gives done
-answer_of A.NotMine = gives not_mine
-answer_of (A.Refused e) = refused (refusal_of e)
-
+-- So in the paper's numbers.
 abbrev pub applied_of : Applied → Outcome
 applied_of a = record { generator = a.generator; answer = answer_of a.answer }
 
 -- Done, with this generator.
 abbrev pub finished : MtcGenerator → Outcome
-finished g = record { generator = g; answer = gives done }
+finished g = record { generator = g; answer = gives Done }
 
 -- Refused by a number: the generator is unchanged.
 abbrev pub unchanged : MtcGenerator → ℕ → Outcome
@@ -95,5 +84,5 @@ acted g (Other n d) = finished g
 unfoldable pub applied : MtcGenerator → ℕ → ℕ → MmcCommand → Outcome
 applied g device own c =
     cond (leb device 127 && leb own 127)
-    (cond (is_addressed device own) (acted g c) (record { generator = g; answer = gives not_mine }))
+    (cond (is_addressed device own) (acted g c) (record { generator = g; answer = gives NotMine }))
     (unchanged g 5)

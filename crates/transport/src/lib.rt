@@ -4,5 +4,5 @@
 mod run;
 mod transport;
 
-pub use run::{Obeyed, Turn, obey, obey_next};
-pub use transport::{Applied, apply};
+pub use run::{Obeyed, Turn, TurnReply, obey, obey_next};
+pub use transport::{Applied, Reply, apply};

@@ -4,12 +4,20 @@ ghost use Rattle.std.specs.Prelude.{◌≡◌, ◌≤◌};
 ghost use Rattle.transport.specs.Demand3.{obey};
 ghost use Rattle.transport.specs.Obey.{turn_of, obey_next, one_refused, obeyed_of, summary};
 
-use crate::transport::{apply};
+use crate::transport::{Reply, apply};
 use mmc::{MmcCommand, next_command};
 use mtc::MtcGenerator;
 use universal::SysexError;
 
-// It, with the generator that came back and the place to read on from.
+// A command that was read, and the transport's answer to it.
+#[derive(Clone, Copy)]
+pub struct TurnReply {
+    pub command: MmcCommand,
+    pub reply: Result<Reply, SysexError>,
+}
+
+// What one read gives, a command with its answer or the refusal that ends the reading, with the generator that came back and the place
+// to read on from.
 #[derive(Clone, Copy)]
 pub struct Turn {
     pub generator: MtcGenerator,
@@ -18,27 +26,27 @@ pub struct Turn {
 }
 
 // Reads the command at a place and applies it.
+#[tactic(auto, unfolding(crate::specs::Obey::obey_next))]
 pub fn obey_next(generator: MtcGenerator, device_id: u8, own: u8, body: &[u8], place: usize) -> Turn
     ensures { turn_of result ≡ obey_next body.now device_id own place generator }
 {
     let next = next_command(body, place);
-    let read = next.answer;
-    let after = next.place;
-    match read {
+    match next.answer {
         Ok(command) => {
             let applied = apply(generator, device_id, own, command);
-            let left = applied.generator;
-            let reply = applied.answer;
             Turn {
-                generator: left,
-                answer: Ok(TurnReply { command, reply }),
-                place: after,
+                generator: applied.generator,
+                answer: Ok(TurnReply {
+                    command,
+                    reply: applied.answer,
+                }),
+                place: next.place,
             }
         }
         Err(e) => Turn {
             generator,
             answer: Err(e),
-            place: after,
+            place: next.place,
         },
     }
 }
@@ -54,14 +62,11 @@ pub struct Obeyed {
 }
 
 // 1 for a refusal.
+#[tactic(auto, unfolding(crate::specs::Obey::one_refused))]
 fn one_refused(answer: Result<Reply, SysexError>) -> usize
     ensures { (result ≡ one_refused (answer_of answer)) × (result ≤ 1) }
 {
-    match answer {
-        Ok(Reply::Done) => 0,
-        Ok(Reply::NotMine) => 0,
-        Err(_) => 1,
-    }
+    usize::from(answer.is_err())
 }
 
 // Reads and applies every command of a message's data, until a read is refused.
@@ -74,21 +79,20 @@ pub fn obey(start: MtcGenerator, device_id: u8, own: u8, body: &[u8]) -> Obeyed
     let mut refused = 0;
     loop {
         let turn = obey_next(generator, device_id, own, body, place);
-        let answer = turn.answer;
-        let reply = match answer {
-            Ok(TurnReply { command: _, reply }) => reply,
-            Err(e) => {
+        let told = match turn.answer {
+            Ok(told) => told,
+            Err(stop) => {
                 return Obeyed {
                     generator,
                     commands,
                     refused,
-                    stop: e,
+                    stop,
                 };
             }
         };
         generator = turn.generator;
         place = turn.place;
         commands += 1;
-        refused += one_refused(reply);
+        refused += one_refused(told.reply);
     }
 }

@@ -1,11 +1,19 @@
 // The transport: one command of a message, applied to the generator of the device that the message is for. Commands take effect
 // one by one, and a refused one leaves the generator as it was.
 ghost use Rattle.std.specs.Prelude.{◌≡◌};
+ghost use Rattle.universal.specs.Refusals.{refusal_of, refused};
 ghost use Rattle.transport.specs.Transport.{resolved, applied_of, finished, acted, applied};
 
 use mmc::{MmcCommand, StandardTimeCode};
 use mtc::{Direction, MtcGenerator, MtcTime};
 use universal::{SysexError, addressed};
+
+// What became of a command that was not refused: done, or it is for another device.
+#[derive(Clone, Copy, PartialEq, Eq)]
+pub enum Reply {
+    Done,
+    NotMine,
+}
 
 // The answer of `apply`, with the generator that comes back.
 #[derive(Clone, Copy)]
@@ -14,26 +22,21 @@ pub struct Applied {
     pub answer: Result<Reply, SysexError>,
 }
 
-// The label that a Locate target resolves to, or none.
-#[derive(Clone, Copy)]
-enum Target {
-    At(MtcTime),
-    Nowhere,
-}
-
-// A skipped label is moved by `next_valid`. A blank target, and one still invalid, is none; subframes and sign are unread.
-fn resolve(code: StandardTimeCode) -> Target
+// The label that a Locate target resolves to: a skipped one is moved by `next_valid`. A blank target, and one still invalid, is none;
+// subframes and sign are unread.
+#[tactic(auto, unfolding(crate::specs::Transport::resolved))]
+fn resolve(code: StandardTimeCode) -> Option<MtcTime>
     ensures { result ≡ resolved code }
 {
     if code.blank {
-        return Target::Nowhere;
+        return None;
     }
     let label = code.time;
     let moved = label.next_valid();
     if !moved.is_valid() {
-        return Target::Nowhere;
+        return None;
     }
-    Target::At(moved)
+    Some(moved)
 }
 
 // The command was done, and left this generator.
@@ -46,23 +49,32 @@ fn done(generator: MtcGenerator) -> Applied
     }
 }
 
+// The command was refused, and the generator stays.
+fn unchanged(generator: MtcGenerator, error: SysexError) -> Applied
+    ensures { applied_of result ≡ record { generator = generator; answer = refused (refusal_of error) } }
+{
+    Applied {
+        generator,
+        answer: Err(error),
+    }
+}
+
 // Located at the target and stopped, or 7.
+#[tactic(auto, unfolding(crate::specs::Transport::acted))]
 fn locate(generator: MtcGenerator, code: StandardTimeCode) -> Applied
     ensures { applied_of result ≡ acted generator (MmcCommand.LocateTarget code) }
 {
     match resolve(code) {
-        Target::At(time) => {
+        Some(time) => {
             let there = generator.locate(time);
             done(there.set_running(false))
         }
-        Target::Nowhere => Applied {
-            generator,
-            answer: Err(SysexError::Target),
-        },
+        None => unchanged(generator, SysexError::Target),
     }
 }
 
 // Running forward.
+#[tactic(auto, unfolding(crate::specs::Transport::acted))]
 fn play(generator: MtcGenerator) -> Applied
     ensures { applied_of result ≡ acted generator MmcCommand.Play }
 {
@@ -71,46 +83,27 @@ fn play(generator: MtcGenerator) -> Applied
 }
 
 // What a command does to the generator.
+#[tactic(auto, unfolding(crate::specs::Transport::acted))]
 fn act(generator: MtcGenerator, command: MmcCommand) -> Applied
     ensures { applied_of result ≡ acted generator command }
 {
     match command {
-        MmcCommand::Stop => done(generator.set_running(false)),
-        MmcCommand::Play => play(generator),
-        MmcCommand::DeferredPlay => play(generator),
-        MmcCommand::FastForward => done(generator),
-        MmcCommand::Rewind => done(generator),
-        MmcCommand::RecordStrobe => done(generator),
-        MmcCommand::RecordExit => done(generator),
-        MmcCommand::Pause => done(generator.set_running(false)),
-        MmcCommand::Reset => done(generator),
-        MmcCommand::Write(_) => done(generator),
-        MmcCommand::LocateField { register: _ } => done(generator),
+        MmcCommand::Stop | MmcCommand::Pause => done(generator.set_running(false)),
+        MmcCommand::Play | MmcCommand::DeferredPlay => play(generator),
         MmcCommand::LocateTarget(code) => locate(generator, code),
-        MmcCommand::Move {
-            destination: _,
-            source: _,
-        } => done(generator),
-        MmcCommand::Other { name: _, data: _ } => done(generator),
+        _ => done(generator),
     }
 }
 
 // Applies one command of a message for `device_id` to the generator of the device `own`: 5 for a device above 127, "not mine" for
-// another device's message, else what the command does. Only a command that is done may change the generator.
+// another device's message, else what the command does. Only a command that is done may change the generator. The two devices stay two
+// numbers here and in run.rt: each is named at its call, and a pair of them would only be taken apart again.
+#[tactic(auto, unfolding(crate::specs::Transport::applied))]
 pub fn apply(generator: MtcGenerator, device_id: u8, own: u8, command: MmcCommand) -> Applied
     ensures { applied_of result ≡ applied generator device_id own command }
 {
-    if device_id > 127 {
-        return Applied {
-            generator,
-            answer: Err(SysexError::Device),
-        };
-    }
-    if own > 127 {
-        return Applied {
-            generator,
-            answer: Err(SysexError::Device),
-        };
+    if device_id > 127 || own > 127 {
+        return unchanged(generator, SysexError::Device);
     }
     if !addressed(device_id, own) {
         return Applied {

@@ -7,13 +7,13 @@ use Rattle.transport.specs.Demand3.{obey, obey_from}
 use Rattle.transport.specs.Obey.{summary_after}
 use Rattle.transport.proofs.run.obey.Given as goal
 
-abbrev pub invariant-loop-reply : goal.invariant-loop-reply
-invariant-loop-reply l =
+abbrev pub invariant-loop-told : goal.invariant-loop-told
+invariant-loop-told l =
     (l.commands ≤ l.place)
     × ((l.refused ≤ l.commands)
     × ((l.place ≤ length l.body)
     × (summary_after 0 0 (obey l.body l.device_id l.own l.initial.generator)
     ≡ summary_after l.commands l.refused (obey_from (suc (length l.body - l.commands)) l.body l.device_id l.own l.place l.generator))))
 
-abbrev pub decreases-loop-reply : goal.decreases-loop-reply
-decreases-loop-reply l = length l.body - l.place
+abbrev pub decreases-loop-told : goal.decreases-loop-told
+decreases-loop-told l = length l.body - l.place
