@@ -1,369 +1,286 @@
 // The commands of a message: each in words, what the transport does with it, and where that leaves the generator.
-use crate::fields::{read_write, say_cut, say_parts, say_place};
+use crate::body::{Body, Parts};
+use crate::fields::read_write;
 use crate::frames::say_frames;
-use crate::names::{say_command_name, say_field_name};
-use crate::refusals::say_refusal;
-use crate::say::{say, say_byte, say_count, say_entry};
-use crate::times::{say_code, say_label, say_time};
-use crate::writing;
-use crate::writing::{FIRST, Writing, begin_commands, end_message};
+use crate::names::{FieldName, command_name};
+use crate::refusals::Refusal;
+use crate::say::{Byte, Count, say};
+use crate::times::{Code, Label, Time};
+use crate::writing::Writing;
 use mmc::command::{
     DEFERRED_PLAY, FAST_FORWARD, LOCATE, MMC_RESET, MOVE, PAUSE, PLAY, RECORD_EXIT, RECORD_STROBE,
     REWIND, STOP, WRITE,
 };
-use mmc::{MmcCommand, Part, StandardTimeCode};
+use mmc::{MmcCommand, StandardTimeCode};
 use mtc::{Direction, MtcGenerator, MtcTime, TimeCodeType};
-use transport::{obey_next};
+use std::fmt;
+use std::fmt::Display;
+use transport::{Reply, TurnReply, obey_next};
 use universal::SysexError;
 
-// What a command that is done does to the generator.
-const NOTHING: u8 = 0;
-
-const STOPS: u8 = 1;
-
-const STARTS: u8 = 2;
-
-const LOCATES: u8 = 3;
-
-// A reading: its place, whether it has ended, whether it was split to its end, whether nothing was refused, the generator with
-// what was done to it, and what the desk's writer makes of it.
-#[derive(Clone, Copy)]
-struct Run {
-    place: usize,
-    ended: bool,
-    whole: bool,
-    good: bool,
-    generator: MtcGenerator,
-    moved: bool,
-    located: bool,
-    writing: Writing,
+// What the commands that were done did to the generator: nothing, stopped or started it, or located it too.
+#[derive(Clone, Copy, PartialEq, Eq, PartialOrd, Ord)]
+enum Moved {
+    Not,
+    Run,
+    Located,
 }
 
-fn effect_of(command: MmcCommand) -> u8 {
-    match command {
-        MmcCommand::Stop => STOPS,
-        MmcCommand::Pause => STOPS,
-        MmcCommand::Play => STARTS,
-        MmcCommand::DeferredPlay => STARTS,
-        MmcCommand::LocateTarget(_) => LOCATES,
-        _ => NOTHING,
+// What a command that is done does to the generator.
+#[derive(Clone, Copy)]
+enum Effect {
+    Nothing,
+    Stops,
+    Starts,
+    Locates(StandardTimeCode),
+}
+
+impl Effect {
+    fn of(command: MmcCommand) -> Effect {
+        match command {
+            MmcCommand::Stop | MmcCommand::Pause => Effect::Stops,
+            MmcCommand::Play | MmcCommand::DeferredPlay => Effect::Starts,
+            MmcCommand::LocateTarget(target) => Effect::Locates(target),
+            _ => Effect::Nothing,
+        }
+    }
+
+    fn moved(self) -> Moved {
+        match self {
+            Effect::Nothing => Moved::Not,
+            Effect::Stops | Effect::Starts => Moved::Run,
+            Effect::Locates(_) => Moved::Located,
+        }
+    }
+
+    // With the generator that the command left; a target that drop-frame skips was moved.
+    fn say(self, rt: &impl Print, generator: MtcGenerator) {
+        match self {
+            Effect::Nothing => say!(rt; "The transport is unchanged.\n"),
+            Effect::Stops => say!(rt; "Stopped.\n"),
+            Effect::Starts => say!(rt; "Running forward.\n"),
+            Effect::Locates(target) => say_located(rt, target.time, generator.time()),
+        }
     }
 }
 
-// The name of one byte that a command is written with; 0 where it has its own bytes.
-fn name_of(command: MmcCommand) -> u8 {
+fn say_located(rt: &impl Print, target: MtcTime, time: MtcTime) {
+    say!(rt; "Located at {}", Label(time));
+    if !target.is_valid() {
+        say!(rt; ", since drop-frame skips {}", Label(target));
+    }
+    say!(rt; ", and stopped.\n");
+}
+
+// A command in words: its name, and what it carries. The parts of another one lie in the body.
+#[derive(Clone, Copy)]
+struct InWords<'a> {
+    command: MmcCommand,
+    body: &'a [u8],
+}
+
+impl Display for InWords<'_> {
+    fn fmt<W: fmt::Write>(&self, f: &mut fmt::Formatter<W>) -> fmt::Result {
+        if let Some(name) = name_of(self.command) {
+            f.write_str(command_name(name))?;
+        }
+        match self.command {
+            MmcCommand::Write(data) => { write!(f, ", {} of fields", Count(data.len, "byte")) }
+            MmcCommand::LocateField { register } => write!(f, " to {}", FieldName(register)),
+            MmcCommand::LocateTarget(code) => write!(f, " {}", Code(code)),
+            MmcCommand::Move {
+                destination,
+                source,
+            } => write!(
+                f,
+                " to {} from {}",
+                FieldName(destination),
+                FieldName(source)
+            ),
+            MmcCommand::Other { name, data } => {
+                let name = name.of(self.body);
+                let data = data.of(self.body);
+                write!(f, "{}", Other(Parts { name, data }))
+            }
+            _ => Ok(()),
+        }
+    }
+}
+
+// The name of one byte that a command is written with; none where it has its own bytes.
+fn name_of(command: MmcCommand) -> Option<u8> {
     match command {
-        MmcCommand::Stop => STOP,
-        MmcCommand::Play => PLAY,
-        MmcCommand::DeferredPlay => DEFERRED_PLAY,
-        MmcCommand::FastForward => FAST_FORWARD,
-        MmcCommand::Rewind => REWIND,
-        MmcCommand::RecordStrobe => RECORD_STROBE,
-        MmcCommand::RecordExit => RECORD_EXIT,
-        MmcCommand::Pause => PAUSE,
-        MmcCommand::Reset => MMC_RESET,
-        MmcCommand::Write(_) => WRITE,
-        MmcCommand::LocateField { register: _ } => LOCATE,
-        MmcCommand::LocateTarget(_) => LOCATE,
+        MmcCommand::Stop => Some(STOP),
+        MmcCommand::Play => Some(PLAY),
+        MmcCommand::DeferredPlay => Some(DEFERRED_PLAY),
+        MmcCommand::FastForward => Some(FAST_FORWARD),
+        MmcCommand::Rewind => Some(REWIND),
+        MmcCommand::RecordStrobe => Some(RECORD_STROBE),
+        MmcCommand::RecordExit => Some(RECORD_EXIT),
+        MmcCommand::Pause => Some(PAUSE),
+        MmcCommand::Reset => Some(MMC_RESET),
+        MmcCommand::Write(_) => Some(WRITE),
+        MmcCommand::LocateField { register: _ } | MmcCommand::LocateTarget(_) => Some(LOCATE),
         MmcCommand::Move {
             destination: _,
             source: _,
-        } => MOVE,
-        MmcCommand::Other { name: _, data: _ } => 0,
+        } => Some(MOVE),
+        MmcCommand::Other { name: _, data: _ } => None,
     }
 }
 
-fn say_other(rt: &impl Print, name: &[u8], data: &[u8]) {
-    if name.len() == 1 {
-        let byte = name[0];
-        say_command_name(rt, byte);
-        say(rt, b" (");
-        say_byte(rt, byte);
-        say(rt, b"), not read further");
-    } else {
-        say(rt, b"Command of an extended set");
-    }
-    say_parts(rt, name, data);
-}
-
-fn say_size(rt: &impl Print, data: Part) {
-    say(rt, b", ");
-    say_count(rt, data.len as u64, b"byte");
-    say(rt, b" of fields");
-}
-
-fn say_register(rt: &impl Print, register: u8) {
-    say(rt, b" to ");
-    say_field_name(rt, register);
-}
-
-fn say_target(rt: &impl Print, code: StandardTimeCode) {
-    say(rt, b" ");
-    say_code(rt, code);
-}
-
-fn say_move(rt: &impl Print, destination: u8, source: u8) {
-    say_register(rt, destination);
-    say(rt, b" from ");
-    say_field_name(rt, source);
-}
-
-// What a command carries.
-fn say_values(rt: &impl Print, body: &[u8], command: MmcCommand) {
-    match command {
-        MmcCommand::Write(data) => say_size(rt, data),
-        MmcCommand::LocateField { register } => say_register(rt, register),
-        MmcCommand::LocateTarget(code) => say_target(rt, code),
-        MmcCommand::Move {
-            destination,
-            source,
-        } => say_move(rt, destination, source),
-        MmcCommand::Other { name, data } => say_other(rt, name.of(body), data.of(body)),
-        _ => {}
-    }
-}
-
-fn say_command(rt: &impl Print, body: &[u8], command: MmcCommand) {
-    let name = name_of(command);
-    if name > 0 {
-        say_command_name(rt, name);
-    }
-    say_values(rt, body, command);
-    say(rt, b". ");
-}
-
-// Where the generator was located; a target that drop-frame skips was moved.
-fn say_located(rt: &impl Print, command: MmcCommand, generator: MtcGenerator) {
-    let MmcCommand::LocateTarget(code) = command else {
-        return;
-    };
-    let target = code.time;
-    say_label(rt, generator.time());
-    if !target.is_valid() {
-        say(rt, b", since drop-frame skips ");
-        say_label(rt, target);
-    }
-    say(rt, b", and stopped");
-}
-
-fn say_effect(rt: &impl Print, effect: u8) {
-    say_entry(
-        rt,
-        b"The transport is unchanged;Stopped;Running forward;Located at ;",
-        effect,
-    );
-}
-
-fn say_done(rt: &impl Print, command: MmcCommand, generator: MtcGenerator) {
-    say_effect(rt, effect_of(command));
-    say_located(rt, command, generator);
-    say(rt, b".\n");
-}
-
-// What the transport answered. True where the command was done.
-fn say_answer(
-    rt: &impl Print,
-    answer: Result<Reply, SysexError>,
-    command: MmcCommand,
-    generator: MtcGenerator,
-) -> bool {
-    match answer {
-        Ok(Reply::Done) => {
-            say_done(rt, command, generator);
-            true
-        }
-        Ok(Reply::NotMine) => {
-            say(rt, b"Not mine.\n");
-            false
-        }
-        Err(e) => {
-            say_refusal(rt, e);
-            say(rt, b". The transport is unchanged.\n");
-            false
-        }
-    }
-}
-
-fn is_refused(answer: Result<Reply, SysexError>) -> bool {
-    match answer {
-        Err(_) => true,
-        _ => false,
-    }
-}
-
-// The fields of a Write, on lines of their own. True where all is well, also for another command.
-fn fields_are_good(rt: &impl Print, body: &[u8], command: MmcCommand) -> bool {
-    match command {
-        MmcCommand::Write(data) => {
-            let first = std::num::wrapping_add_usize(FIRST, data.start);
-            read_write(rt, first, data.of(body))
-        }
-        _ => true,
-    }
-}
-
-// The string is cut short: what was read before it has acted.
-fn say_cut_at(rt: &impl Print, place: usize, error: SysexError) {
-    say_cut(rt, b"  ", FIRST, place, error);
-    if place == 0 {
-        say(rt, b"  Nothing is done.\n");
-    } else {
-        say(rt, b"  What stands before it is done.\n");
-    }
-}
-
-// The reading has ended: at the end of the string, or cut short.
-fn ended(rt: &impl Print, run: Run, error: SysexError) -> Run {
-    let mut r = run;
-    r.ended = true;
-    r.whole = match error {
-        SysexError::End => true,
-        _ => false,
-    };
-    if !r.whole {
-        say_cut_at(rt, run.place, error);
-    }
-    r
-}
-
-// What became of a command: the generator, whether it was done, and whether nothing was refused.
+// A command that is not read further, by its name and data.
 #[derive(Clone, Copy)]
-struct Obeyed {
+struct Other<'a>(Parts<'a>);
+
+impl Display for Other<'_> {
+    fn fmt<W: fmt::Write>(&self, f: &mut fmt::Formatter<W>) -> fmt::Result {
+        match self.0.name {
+            [name] => write!(
+                f,
+                "{} ({}), not read further{}",
+                command_name(*name),
+                Byte(*name),
+                self.0
+            ),
+            _ => write!(f, "Command of an extended set{}", self.0),
+        }
+    }
+}
+
+// A message of commands that is read on the device `own`: the generator with what was done to it, whether nothing was refused, and
+// what the desk's writer makes of it.
+#[derive(Clone, Copy)]
+struct Run<'a> {
+    body: Body<'a>,
+    device_id: u8,
+    own: u8,
     generator: MtcGenerator,
-    done: bool,
+    moved: Moved,
     good: bool,
+    writing: Writing<'a>,
 }
 
-// One command, what the transport answered to it, and the generator that it left.
-fn say_obeyed(
-    rt: &impl Print,
-    command: MmcCommand,
-    answer: Result<Reply, SysexError>,
-    generator: MtcGenerator,
-    body: &[u8],
-) -> Obeyed {
-    say_command(rt, body, command);
-    let done = say_answer(rt, answer, command, generator);
-    let fields = fields_are_good(rt, body, command);
-    Obeyed {
-        generator,
-        done,
-        good: fields && !is_refused(answer),
-    }
-}
-
-// The reading after a command.
-fn after(run: Run, o: Obeyed, effect: u8, writing: Writing, next: usize) -> Run {
-    let generator = o.generator;
-    let located = o.done && effect == LOCATES;
-    let moved = o.done && effect != NOTHING;
-    Run {
-        place: next,
-        ended: false,
-        whole: false,
-        good: run.good && o.good,
-        generator,
-        moved: run.moved || moved,
-        located: run.located || located,
-        writing,
-    }
-}
-
-fn with_command(run: Run, command: MmcCommand, obeyed: Obeyed, next: usize, body: &[u8]) -> Run {
-    let place = run.place;
-    let writing = run.writing;
-    let written = writing::with_command(writing, body, command, place);
-    after(run, obeyed, effect_of(command), written, next)
-}
-
-fn one(rt: &impl Print, run: Run, device_id: u8, own: u8, body: &[u8]) -> Run {
-    let place = run.place;
-    let before = run.generator;
-    let turn = obey_next(before, device_id, own, body, place);
-    let left = turn.generator;
-    let next = turn.place;
-    let answer = turn.answer;
-    match answer {
-        Err(e) => ended(rt, run, e),
-        Ok(TurnReply { command, reply }) => {
-            say_place(rt, b"  ", FIRST, place);
-            let obeyed = say_obeyed(rt, command, reply, left, body);
-            with_command(run, command, obeyed, next, body)
+impl<'a> Run<'a> {
+    // The generator is stopped at midnight: what becomes of a message is said from there.
+    fn new(body: Body<'a>, device_id: u8, own: u8) -> Run<'a> {
+        let midnight = MtcTime {
+            hours: 0,
+            minutes: 0,
+            seconds: 0,
+            frames: 0,
+            rate: TimeCodeType::Fps25,
+        };
+        Run {
+            body,
+            device_id,
+            own,
+            generator: MtcGenerator::new(midnight, Direction::Forward).set_running(false),
+            moved: Moved::Not,
+            good: true,
+            writing: Writing::of_commands(body, device_id),
         }
     }
-}
 
-// A generator that is stopped at midnight: what becomes of a message is said from there.
-fn idle() -> MtcGenerator {
-    let midnight = MtcTime {
-        hours: 0,
-        minutes: 0,
-        seconds: 0,
-        frames: 0,
-        rate: TimeCodeType::Fps25,
-    };
-    MtcGenerator::new(midnight, Direction::Forward).set_running(false)
-}
-
-// All commands of a string. Each takes a byte at least, so no string uses up the turns.
-fn all(rt: &impl Print, device_id: u8, own: u8, body: &[u8]) -> Run {
-    let mut run = Run {
-        place: 0,
-        ended: false,
-        whole: false,
-        good: true,
-        generator: idle(),
-        moved: false,
-        located: false,
-        writing: begin_commands(device_id),
-    };
-    for _ in 0..u64::MAX {
-        if run.ended {
-            break;
+    // What the transport answered to a command.
+    fn answered(&mut self, command: MmcCommand, reply: Result<Reply, SysexError>) {
+        let rt = self.body.rt;
+        match reply {
+            Ok(Reply::Done) => {
+                let effect = Effect::of(command);
+                effect.say(rt, self.generator);
+                self.moved = self.moved.max(effect.moved());
+            }
+            Ok(Reply::NotMine) => say!(rt; "Not mine.\n"),
+            Err(error) => {
+                say!(rt; "{}. The transport is unchanged.\n", Refusal(error));
+                self.good = false;
+            }
         }
-        run = one(rt, run, device_id, own, body);
     }
-    run
-}
 
-// The time of a generator that was located, after a word.
-fn say_located_at(rt: &impl Print, word: &[u8], generator: MtcGenerator, located: bool) {
-    if located {
-        say(rt, word);
-        say_time(rt, generator.time());
+    // The command at a place, with the transport's answer to it; the fields of a Write get lines of their own.
+    fn take(&mut self, place: usize, command: MmcCommand, reply: Result<Reply, SysexError>) {
+        let body = self.body;
+        let words = InWords {
+            command,
+            body: body.bytes,
+        };
+        body.say_place(place);
+        say!(body.rt; "{words}. ");
+        self.answered(command, reply);
+        if let MmcCommand::Write(data) = command {
+            self.good &= read_write(body.of_write(data));
+        }
+        self.writing.put_command(command, place);
     }
-}
 
-fn say_state(rt: &impl Print, generator: MtcGenerator, located: bool) {
-    if generator.running {
-        say(rt, b"running forward");
-        say_located_at(rt, b" from ", generator, located);
-    } else {
-        say(rt, b"stopped");
-        say_located_at(rt, b" at ", generator, located);
+    // The string is cut short: what was read before it has acted.
+    fn say_cut(&self, place: usize, error: SysexError) {
+        let end = match place {
+            0 => "Nothing is done.",
+            _ => "What stands before it is done.",
+        };
+        self.body.say_cut(place, error);
+        say!(self.body.rt; "  {end}\n");
     }
-    say(rt, b".\n");
-}
 
-fn say_end(rt: &impl Print, run: Run) {
-    let generator = run.generator;
-    if !run.moved {
-        return;
+    // All commands. True where the string is split to its end.
+    // Each command takes a byte at least, so no string uses up the turns; a `loop` would only add a proof of that.
+    fn read(&mut self) -> bool {
+        let mut place = 0;
+        for _ in 0..u64::MAX {
+            let turn = obey_next(
+                self.generator,
+                self.device_id,
+                self.own,
+                self.body.bytes,
+                place,
+            );
+            match turn.answer {
+                Err(SysexError::End) => return true,
+                Err(error) => {
+                    self.say_cut(place, error);
+                    return false;
+                }
+                Ok(TurnReply { command, reply }) => {
+                    self.generator = turn.generator;
+                    self.take(place, command, reply);
+                }
+            }
+            place = turn.place;
+        }
+        false
     }
-    say(rt, b"  In the end: ");
-    say_state(rt, generator, run.located);
-    if generator.running && run.located {
-        say_frames(rt, generator);
+
+    // The generator as the last command left it.
+    fn say_end(&self) {
+        let rt = self.body.rt;
+        let is_located = match self.moved {
+            Moved::Not => return,
+            Moved::Run => false,
+            Moved::Located => true,
+        };
+        let (state, link) = if self.generator.running {
+            ("running forward", "from")
+        } else {
+            ("stopped", "at")
+        };
+        say!(rt; "  In the end: {state}");
+        if is_located {
+            say!(rt; " {link} {}", Time(self.generator.time()));
+        }
+        say!(rt; ".\n");
+        if is_located && self.generator.running {
+            say_frames(rt, self.generator);
+        }
     }
 }
 
 // A message of commands. True where nothing is refused.
-pub(crate) fn read_commands(rt: &impl Print, device_id: u8, own: u8, body: &[u8]) -> bool {
-    let run = all(rt, device_id, own, body);
-    say_end(rt, run);
-    if !run.whole {
-        return false;
-    }
-    let writing = run.writing;
-    end_message(rt, writing, body) && run.good
+pub(crate) fn read_commands(body: Body<'_>, device_id: u8, own: u8) -> bool {
+    let mut run = Run::new(body, device_id, own);
+    let whole = run.read();
+    run.say_end();
+    whole && run.writing.close_message() && run.good
 }

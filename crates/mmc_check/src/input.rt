@@ -1,191 +1,141 @@
 // An input read to its end: hexadecimal text, or the bytes themselves.
-use crate::say::{say, say_count, say_failed, say_number};
-use crate::stream::{Place, Stream, end, fresh, take};
-use crate::text;
-use crate::text::{Reading, end_text, take_text};
+use crate::say::{say, say_failed};
+use crate::stream::{Place, Stream};
+use crate::text::Text;
 use std::io::Read;
 
-// The form of an input: not yet known, text, or bytes.
-pub(crate) const UNKNOWN: u8 = 0;
+// The form of an input.
+#[derive(Clone, Copy, PartialEq, Eq)]
+pub(crate) enum Form {
+    Text,
+    Bytes,
+}
 
-pub(crate) const TEXT: u8 = 1;
+// The bytes with which some editors begin a text.
+const MARK: &[u8] = b"\xEF\xBB\xBF";
 
-pub(crate) const BYTES: u8 = 2;
+// True for a line that has a control byte before its comment.
+fn has_control(line: &[u8]) -> bool {
+    let mut text = line.iter().take_while(|byte| **byte != b'#');
+    text.any(|byte| matches!(*byte, 0..=8 | 14..=31 | 0x7F))
+}
 
-// The form, the reading, the bytes read so far, and whether the input has ended.
-#[derive(Clone, Copy)]
-struct Input {
-    form: u8,
-    reading: Reading,
+impl Form {
+    // A text has no control bytes outside its comments, and does not begin with a byte above 7FH but for a mark of its encoding.
+    fn of(chunk: &[u8]) -> Form {
+        if matches!(chunk, [0x80..=0xEE | 0xF0..=0xFF, ..]) {
+            return Form::Bytes;
+        }
+        let mut lines = chunk.split(|byte| *byte == b'\n');
+        if lines.any(has_control) {
+            return Form::Bytes;
+        }
+        Form::Text
+    }
+}
+
+// An input of bytes: their stream, and how many came so far.
+#[derive(Drop)]
+struct Bytes<'s, 'a> {
+    stream: &'s mut Stream<'a>,
     count: u64,
-    ended: bool,
 }
 
-// A byte that no text has outside a comment.
-fn is_control(byte: u8) -> bool {
-    if byte == 0x7F {
-        return true;
+impl Bytes<'_, '_> {
+    fn take(&mut self, byte: u8) {
+        self.count = self.count.saturating_add(1);
+        self.stream.take(byte, Place::Byte(self.count));
     }
-    byte < 9 || byte > 13 && byte < 32
+
+    fn end(&mut self) {
+        self.stream.end();
+    }
 }
 
-// A text has no control bytes outside its comments, and does not begin with a byte above 7FH but for a mark of its encoding.
-fn form_of(chunk: &[u8]) -> u8 {
-    if chunk.len() > 0 && chunk[0] > 0x7F && chunk[0] != 0xEF {
-        return BYTES;
-    }
-    let mut comment = false;
-    let mut i: usize = 0;
-    while i < chunk.len() {
-        let byte = chunk[i];
-        if byte == b'\n' {
-            comment = false;
+// How an input is read.
+#[derive(Drop)]
+enum Reading<'s, 'a> {
+    Text(Text<'s, 'a>),
+    Bytes(Bytes<'s, 'a>),
+}
+
+impl<'s, 'a> Reading<'s, 'a> {
+    fn new(form: Form, stream: &'s mut Stream<'a>) -> Reading<'s, 'a> {
+        match form {
+            Form::Text => Reading::Text(Text::new(stream)),
+            Form::Bytes => Reading::Bytes(Bytes { stream, count: 0 }),
         }
-        if byte == b'#' {
-            comment = true;
+    }
+
+    fn take(&mut self, byte: u8) {
+        match self {
+            Reading::Text(text) => text.take(byte),
+            Reading::Bytes(bytes) => bytes.take(byte),
         }
-        if !comment && is_control(byte) {
-            return BYTES;
+    }
+
+    fn end(&mut self) {
+        match self {
+            Reading::Text(text) => text.end_line(),
+            Reading::Bytes(bytes) => bytes.end(),
         }
-        i += 1;
-    }
-    TEXT
-}
-
-// The three bytes with which some editors begin a text.
-fn has_mark(chunk: &[u8]) -> bool {
-    if chunk.len() < 3 {
-        return false;
-    }
-    chunk[0] == 0xEF && chunk[1] == 0xBB && chunk[2] == 0xBF
-}
-
-fn take_bytes(
-    rt: &impl Print,
-    s: Stream,
-    chunk: &[u8],
-    count: u64,
-    message: &mut [u8; 65536],
-) -> Stream {
-    let mut stream = s;
-    let mut at = count;
-    for byte in chunk {
-        at = std::num::wrapping_add_u64(at, 1);
-        stream = take(rt, stream, *byte, Place { line: 0, at }, message);
-    }
-    stream
-}
-
-fn take_chunk(
-    rt: &impl Print,
-    input: Input,
-    form: u8,
-    chunk: &[u8],
-    message: &mut [u8; 65536],
-) -> Input {
-    let from = input.reading;
-    let text = from.text;
-    let stream = from.stream;
-    let count = std::num::wrapping_add_u64(input.count, chunk.len() as u64);
-    let reading = if form == TEXT {
-        take_text(rt, from, chunk, message)
-    } else {
-        Reading {
-            text,
-            stream: take_bytes(rt, stream, chunk, input.count, message),
-        }
-    };
-    Input {
-        form,
-        reading,
-        count,
-        ended: false,
     }
 }
 
-// The first chunk tells the form, unless that was given.
-fn take_first(rt: &impl Print, input: Input, chunk: &[u8], message: &mut [u8; 65536]) -> Input {
-    let form = form_of(chunk);
-    if chunk.len() >= 3 && form == TEXT && has_mark(chunk) {
-        return take_chunk(rt, input, form, &chunk[3..], message);
-    }
-    take_chunk(rt, input, form, chunk, message)
-}
-
-fn ended(rt: &impl Print, input: Input, message: &mut [u8; 65536]) -> Input {
-    let from = input.reading;
-    let text = from.text;
-    let stream = from.stream;
-    let last = if input.form == TEXT {
-        end_text(rt, from, message)
-    } else {
-        end(rt, stream)
-    };
-    Input {
-        form: input.form,
-        reading: Reading { text, stream: last },
-        count: input.count,
-        ended: true,
+// The form of an input by its first chunk. A mark of a text's encoding is passed over.
+fn with_form(first: &[u8]) -> (Form, &[u8]) {
+    let form = Form::of(first);
+    match (form, first.strip_prefix(MARK)) {
+        (Form::Text, Some(rest)) => (form, rest),
+        _ => (form, first),
     }
 }
 
-// One read. One that fails ends the input.
-fn read_some<R: Read>(
+// One read; none at the end of the input. A read that fails ends it.
+fn read_some<'b, R: Read>(
     rt: &HostRuntime,
     from: &mut R,
-    input: Input,
-    message: &mut [u8; 65536],
-) -> Input {
-    let mut chunk = [0u8; 65536];
-    match from.read(&mut chunk) {
-        Ok(0) => ended(rt, input, message),
-        Ok(n) => {
-            if input.form == UNKNOWN {
-                return take_first(rt, input, &chunk[..n], message);
-            }
-            take_chunk(rt, input, input.form, &chunk[..n], message)
-        }
+    chunk: &'b mut [u8; 65536],
+) -> Option<&'b [u8]> {
+    match from.read(chunk) {
+        Ok(0) => None,
+        Ok(n) => Some(&chunk[..n]),
         Err(error) => {
             say_failed(&rt.stderr(), b"mmc_check: reading", error);
-            say(rt, b"The input could not be read to its end.\n");
-            ended(rt, input, message)
+            say!(rt; "The input could not be read to its end.\n");
+            None
         }
     }
 }
 
-// No input takes so many reads.
-fn read_all<R: Read>(rt: &HostRuntime, from: &mut R, form: u8, own: u8) -> Stream {
-    let mut message = [0u8; 65536];
-    let mut input = Input {
-        form,
-        reading: Reading {
-            text: text::fresh(),
-            stream: fresh(own),
-        },
-        count: 0,
-        ended: false,
+// Reads an input to its end. No input takes so many reads.
+fn read_all<R: Read>(rt: &HostRuntime, from: &mut R, form: Option<Form>, stream: &mut Stream<'_>) {
+    let mut chunk = [0u8; 65536];
+    let Some(first) = read_some(rt, from, &mut chunk) else {
+        return;
     };
-    for _ in 0..u64::MAX {
-        if input.ended {
-            break;
-        }
-        input = read_some(rt, from, input, &mut message);
+    let (form, first) = match form {
+        Some(form) => (form, first),
+        None => with_form(first),
+    };
+    let mut reading = Reading::new(form, stream);
+    for byte in first {
+        reading.take(*byte);
     }
-    let last = input.reading;
-    last.stream
+    for _ in 0..u64::MAX {
+        let Some(next) = read_some(rt, from, &mut chunk) else {
+            break;
+        };
+        for byte in next {
+            reading.take(*byte);
+        }
+    }
+    reading.end();
 }
 
-// Reads an input to its end, and says last how many messages it has.
-pub(crate) fn check<R: Read>(rt: &HostRuntime, from: &mut R, form: u8, own: u8) {
-    let stream = read_all(rt, from, form, own);
-    say_count(rt, stream.messages, b"message");
-    say(rt, b", ");
-    say_number(rt, stream.faulty);
-    say(rt, b" faulty");
-    if stream.outside > 0 {
-        say(rt, b"; ");
-        say_count(rt, stream.outside, b"place");
-        say(rt, b" without a message");
-    }
-    say(rt, b".\n");
+// Says what becomes of an input, and last how many messages it has.
+pub(crate) fn check<R: Read>(rt: &HostRuntime, from: &mut R, form: Option<Form>, own: u8) {
+    let mut stream = Stream::new(rt, own);
+    read_all(rt, from, form, &mut stream);
+    say!(rt; "{}.\n", stream.counts());
 }

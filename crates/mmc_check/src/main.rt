@@ -1,6 +1,7 @@
 // Says in plain words what becomes of machine control strings: who each is for, what it asks, and where it is refused.
 #![tactic(auto)]
 
+mod body;
 mod commands;
 mod fields;
 mod frames;

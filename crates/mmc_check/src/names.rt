@@ -1,53 +1,80 @@
 // The names that the Machine Control practice gives to commands and time code fields (RP-013).
-use crate::say::{say, say_byte, say_entry};
-
-// 01H to 0DH.
-fn say_plain(rt: &impl Print, name: u8) {
-    say_entry(
-        rt,
-        b";Stop;Play;Deferred Play;Fast Forward;Rewind;Record Strobe;Record Exit;Record Pause;Pause;\
-        Eject;Chase;Command Error Reset;MMC Reset;",
-        name,
-    );
-}
-
-// 40H to 55H, counted from 40H.
-fn say_counted(rt: &impl Print, n: u8) {
-    say_entry(
-        rt,
-        b"Write;Masked Write;Read;Update;Locate;Variable Play;Search;Shuttle;Step;\
-        Assign System Master;Generator Command;MIDI Time Code Command;Move;Add;Subtract;\
-        Drop Frame Adjust;Procedure;Event;Group;Command Segment;Deferred Variable Play;\
-        Record Strobe Variable;",
-        n,
-    );
-}
+use crate::say::Byte;
+use std::fmt;
+use std::fmt::Display;
 
 // A command, by its name of one byte.
-pub(crate) fn say_command_name(rt: &impl Print, name: u8) {
+pub(crate) fn command_name(name: u8) -> &'static str {
     match name {
-        0x01..=0x0D => say_plain(rt, name),
-        0x40..=0x55 => say_counted(rt, name - 0x40),
-        0x7C => say(rt, b"Wait"),
-        0x7F => say(rt, b"Resume"),
-        _ => say(rt, b"Unknown command"),
+        0x01 => "Stop",
+        0x02 => "Play",
+        0x03 => "Deferred Play",
+        0x04 => "Fast Forward",
+        0x05 => "Rewind",
+        0x06 => "Record Strobe",
+        0x07 => "Record Exit",
+        0x08 => "Record Pause",
+        0x09 => "Pause",
+        0x0A => "Eject",
+        0x0B => "Chase",
+        0x0C => "Command Error Reset",
+        0x0D => "MMC Reset",
+        0x40 => "Write",
+        0x41 => "Masked Write",
+        0x42 => "Read",
+        0x43 => "Update",
+        0x44 => "Locate",
+        0x45 => "Variable Play",
+        0x46 => "Search",
+        0x47 => "Shuttle",
+        0x48 => "Step",
+        0x49 => "Assign System Master",
+        0x4A => "Generator Command",
+        0x4B => "MIDI Time Code Command",
+        0x4C => "Move",
+        0x4D => "Add",
+        0x4E => "Subtract",
+        0x4F => "Drop Frame Adjust",
+        0x50 => "Procedure",
+        0x51 => "Event",
+        0x52 => "Group",
+        0x53 => "Command Segment",
+        0x54 => "Deferred Variable Play",
+        0x55 => "Record Strobe Variable",
+        0x7C => "Wait",
+        0x7F => "Resume",
+        _ => "Unknown command",
     }
 }
 
-// 01H to 0FH, in brackets; nothing for another field.
-fn say_time_field(rt: &impl Print, name: u8) {
-    say_entry(
-        rt,
-        b"; (Selected Time Code); (Selected Master Code); (Requested Offset); (Actual Offset);\
-        \x20(Lock Deviation); (Generator Time Code); (MIDI Time Code Input); (GP0); (GP1); (GP2);\
-        \x20(GP3); (GP4); (GP5); (GP6); (GP7);",
-        name,
-    );
+// A time code field in brackets; nothing for another field.
+fn time_field(name: u8) -> &'static str {
+    match name {
+        0x01 => " (Selected Time Code)",
+        0x02 => " (Selected Master Code)",
+        0x03 => " (Requested Offset)",
+        0x04 => " (Actual Offset)",
+        0x05 => " (Lock Deviation)",
+        0x06 => " (Generator Time Code)",
+        0x07 => " (MIDI Time Code Input)",
+        0x08 => " (GP0)",
+        0x09 => " (GP1)",
+        0x0A => " (GP2)",
+        0x0B => " (GP3)",
+        0x0C => " (GP4)",
+        0x0D => " (GP5)",
+        0x0E => " (GP6)",
+        0x0F => " (GP7)",
+        _ => "",
+    }
 }
 
 // "field 08H (GP0)".
-pub(crate) fn say_field_name(rt: &impl Print, name: u8) {
-    say(rt, b"field ");
-    say_byte(rt, name);
-    say_time_field(rt, name);
+#[derive(Clone, Copy)]
+pub(crate) struct FieldName(pub(crate) u8);
+
+impl Display for FieldName {
+    fn fmt<W: fmt::Write>(&self, f: &mut fmt::Formatter<W>) -> fmt::Result {
+        write!(f, "field {}{}", Byte(self.0), time_field(self.0))
+    }
 }

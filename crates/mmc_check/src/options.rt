@@ -1,244 +1,217 @@
 // The words of the command line: options first, then each file in its order.
-ghost use Rattle.std.specs.Prelude.{◌≤◌, IfSome};
+ghost use Rattle.std.specs.Prelude.{◌≤◌};
 
-use crate::input::{BYTES, TEXT, UNKNOWN, check};
-use crate::say::{say, say_failed};
-use mmc::Part;
+use crate::input::{Form, check};
+use crate::say::{say, say_failed, say_raw};
 use std::env::{Env, FillError};
 use std::fs::File;
 use std::io;
 use universal::ALL_DEVICES;
 
-// The own device, the form of the inputs, whether a file is named, whether the next word is a device, and whether to go on.
+// What --help prints.
+const PAGE: &str = "mmc_check [--device N] [--text | --bytes] [FILE ..]\n\
+    \n\
+    Says what becomes of MIDI Machine Control strings: who each is for, what it\n\
+    asks, what a transport does with it, and which refusal it gets at which byte.\n\
+    Reads the files in their order; - or no file is standard input.\n\
+    \n\
+    --device N   the own device: 5, 0x05 or 05H. 7FH, as without this option,\n\
+    \x20            hears every message.\n\
+    --text       the input is hexadecimal text: F0 7F 7F 06 02 F7, with spaces,\n\
+    \x20            commas, 0x before or H after, comments after #, a message to a line.\n\
+    --bytes      the input is the bytes themselves, as in a .syx file.\n\
+    \x20            Without either, control bytes outside comments tell.\n\
+    --help       this page.\n\
+    \n\
+    Lines, columns and bytes are counted from 1; F0H is byte 1 of its message.\n\
+    Each message is judged by itself, on a transport that is stopped.\n\
+    docs/HANDBOOK.md has every command, and what becomes of it when it is written\n\
+    badly.\n";
+
+// A word of the command line.
 #[derive(Clone, Copy)]
-struct Options {
-    own: u8,
-    form: u8,
-    named: bool,
+enum Word<'a> {
+    Device,
+    // The word behind --device.
+    Number(&'a [u8]),
+    Form(Form),
+    Help,
+    // No option, though it looks like one.
+    Wrong(&'a [u8]),
+    File(&'a [u8]),
+}
+
+impl<'a> Word<'a> {
+    fn of(bytes: &'a [u8]) -> Word<'a> {
+        match bytes {
+            b"--device" => Word::Device,
+            b"--text" => Word::Form(Form::Text),
+            b"--bytes" => Word::Form(Form::Bytes),
+            b"--help" | b"-h" => Word::Help,
+            [b'-', _, ..] => Word::Wrong(bytes),
+            _ => Word::File(bytes),
+        }
+    }
+}
+
+// All words but the program's own name: the number of the next one, whether it stands behind --device, and its bytes.
+#[derive(Drop)]
+struct Words<'a> {
+    rt: &'a HostRuntime,
+    next: usize,
     waits: bool,
-    good: bool,
+    bytes: [u8; 4096],
 }
 
-// What no number of a device is.
-const NO_NUMBER: u64 = 256;
-
-// What a word is.
-const FILE: u8 = 0;
-
-const DEVICE: u8 = 1;
-
-const AS_TEXT: u8 = 2;
-
-const AS_BYTES: u8 = 3;
-
-const HELP: u8 = 4;
-
-const WRONG: u8 = 5;
-
-fn same(a: &[u8], b: &[u8]) -> bool {
-    if a.len() != b.len() {
-        return false;
-    }
-    let mut i: usize = 0;
-    while i < a.len() && i < b.len() {
-        if a[i] != b[i] {
-            return false;
+impl<'a> Words<'a> {
+    fn new(rt: &'a HostRuntime) -> Words<'a> {
+        Words {
+            rt,
+            next: 1,
+            waits: false,
+            bytes: [0; 4096],
         }
-        i += 1;
     }
-    true
+
+    // The next word; an empty one where it is too long, and none after the last. It borrows the buffer, so this is no `Iterator`.
+    fn next(&mut self) -> Option<Word<'_>> {
+        let length = match self.rt.arg(self.next, &mut self.bytes) {
+            Ok(length) => length,
+            Err(FillError::TooLong) => 0,
+            Err(FillError::NotPresent) => return None,
+        };
+        let bytes = &self.bytes[..length];
+        let word = if self.waits {
+            Word::Number(bytes)
+        } else {
+            Word::of(bytes)
+        };
+        self.next = self.next.saturating_add(1);
+        self.waits = matches!(word, Word::Device);
+        Some(word)
+    }
 }
 
-fn kind_of(word: &[u8]) -> u8 {
-    if same(word, b"--device") {
-        return DEVICE;
-    }
-    if same(word, b"--text") {
-        return AS_TEXT;
-    }
-    if same(word, b"--bytes") {
-        return AS_BYTES;
-    }
-    if same(word, b"--help") || same(word, b"-h") {
-        return HELP;
-    }
-    if word.len() > 1 && word[0] == b'-' {
-        return WRONG;
-    }
-    FILE
+// Why no input is read.
+#[derive(Clone, Copy)]
+enum Stop<'a> {
+    Help,
+    NoDevice(&'a [u8]),
+    NoNumber,
+    NoOption(&'a [u8]),
 }
 
-fn digit(c: u8) -> u64 {
-    if c >= b'0' && c <= b'9' {
-        return (c - b'0') as u64;
-    }
-    if c >= b'A' && c <= b'F' {
-        return (c - b'A') as u64 + 10;
-    }
-    if c >= b'a' && c <= b'f' {
-        return (c - b'a') as u64 + 10;
-    }
-    NO_NUMBER
-}
-
-// The digits so far and one more, in base 16 or 10.
-fn with_digit(n: u64, d: u64, hexadecimal: bool) -> u64 {
-    if hexadecimal {
-        return n % 256 * 16 + d % 16;
-    }
-    n % 256 * 10 + d % 10
-}
-
-fn is_digit(d: u64, hexadecimal: bool) -> bool {
-    d < 10 || hexadecimal && d < 16
-}
-
-// The number of digits, at most 255, or `NO_NUMBER`.
-fn number(digits: &[u8], hexadecimal: bool) -> u64 {
-    let mut n: u64 = 0;
-    let mut i: usize = 0;
-    if digits.len() == 0 {
-        return NO_NUMBER;
-    }
-    while i < digits.len() {
-        let d = digit(digits[i]);
-        if !is_digit(d, hexadecimal) {
-            return NO_NUMBER;
+impl Stop<'_> {
+    fn say(self, rt: &HostRuntime) {
+        match self {
+            Stop::Help => say!(rt; "{PAGE}"),
+            Stop::NoDevice(word) => complain(rt, word, "no device; write 5, 0x05 or 05H"),
+            Stop::NoNumber => complain(rt, b"--device", "the number is missing"),
+            Stop::NoOption(word) => complain(rt, word, "no such option; --help lists them"),
         }
-        n = with_digit(n, d, hexadecimal);
-        if n > 255 {
-            return NO_NUMBER;
-        }
-        i += 1;
     }
-    n
 }
 
-fn is_h(c: u8) -> bool {
-    c == b'H' || c == b'h'
+fn complain(rt: &HostRuntime, word: &[u8], what: &str) {
+    let stderr = rt.stderr();
+    say!(stderr; "mmc_check: ");
+    say_raw(&stderr, word);
+    say!(stderr; ": {what}\n");
 }
 
-fn is_x(c: u8) -> bool {
-    c == b'X' || c == b'x'
+// Digits of a number of at most 255. No sign stands before them.
+fn number(digits: &[u8], radix: u32) -> Option<u8>
+    requires lower_bound { 2 ≤ radix }
+    requires upper_bound { radix ≤ 36 }
+{
+    if digits.starts_with(b"+") {
+        return None;
+    }
+    let digits = str::from_utf8(digits).ok()?;
+    u8::from_str_radix(digits, radix).ok()
 }
 
 // A device: 5, 0x05 or 05H.
-fn device(word: &[u8]) -> u64 {
-    if word.len() > 2 && word[0] == b'0' && is_x(word[1]) {
-        return number(&word[2..], true);
+fn device(word: &[u8]) -> Option<u8> {
+    match word {
+        [b'0', b'X' | b'x', _, ..] => number(&word[2..], 16),
+        [digits @ .., b'H' | b'h'] if !digits.is_empty() => number(digits, 16),
+        _ => number(word, 10),
     }
-    if word.len() > 1 {
-        let last = word.len() - 1;
-        if is_h(word[last]) {
-            let digits = Part {
-                start: 0,
-                len: last,
-            };
-            return number(digits.of(word), true);
+}
+
+// The own device, the form of the inputs where it is given, and whether a file is named.
+#[derive(Clone, Copy)]
+struct Options {
+    own: u8,
+    form: Option<Form>,
+    named: bool,
+}
+
+impl Options {
+    fn take<'a>(&mut self, word: Word<'a>) -> Result<(), Stop<'a>> {
+        match word {
+            Word::Device => {}
+            Word::Number(digits) => self.own = device(digits).ok_or(Stop::NoDevice(digits))?,
+            Word::Form(form) => self.form = Some(form),
+            Word::Help => return Err(Stop::Help),
+            Word::Wrong(word) => return Err(Stop::NoOption(word)),
+            Word::File(_) => self.named = true,
         }
+        Ok(())
     }
-    number(word, false)
-}
 
-fn help(rt: &impl Print) {
-    say(
-        rt,
-        b"mmc_check [--device N] [--text | --bytes] [FILE ..]\n\
-        \n\
-        Says what becomes of MIDI Machine Control strings: who each is for, what it\n\
-        asks, what a transport does with it, and which refusal it gets at which byte.\n\
-        Reads the files in their order; - or no file is standard input.\n\
-        \n\
-        --device N   the own device: 5, 0x05 or 05H. 7FH, as without this option,\n\
-        \x20            hears every message.\n\
-        --text       the input is hexadecimal text: F0 7F 7F 06 02 F7, with spaces,\n\
-        \x20            commas, 0x before or H after, comments after #, a message to a line.\n\
-        --bytes      the input is the bytes themselves, as in a .syx file.\n\
-        \x20            Without either, control bytes outside comments tell.\n\
-        --help       this page.\n\
-        \n\
-        Lines, columns and bytes are counted from 1; F0H is byte 1 of its message.\n\
-        Each message is judged by itself, on a transport that is stopped.\n\
-        docs/HANDBOOK.md has every command, and what becomes of it when it is written\n\
-        badly.\n",
-    );
-}
-
-fn complain(rt: &HostRuntime, word: &[u8], what: &[u8]) {
-    let stderr = rt.stderr();
-    say(&stderr, b"mmc_check: ");
-    say(&stderr, word);
-    say(&stderr, what);
-}
-
-// The word after --device.
-fn with_device(rt: &HostRuntime, o: Options, word: &[u8]) -> Options {
-    let mut p = o;
-    let n = device(word);
-    p.waits = false;
-    if n > 255 {
-        complain(rt, word, b": no device; write 5, 0x05 or 05H\n");
-        p.good = false;
-        return p;
-    }
-    p.own = n as u8;
-    p
-}
-
-// One word.
-fn with_word(rt: &HostRuntime, o: Options, word: &[u8]) -> Options {
-    let mut p = o;
-    if o.waits {
-        return with_device(rt, o, word);
-    }
-    match kind_of(word) {
-        FILE => p.named = true,
-        DEVICE => p.waits = true,
-        AS_TEXT => p.form = TEXT,
-        AS_BYTES => p.form = BYTES,
-        HELP => {
-            help(rt);
-            p.good = false;
-        }
-        _ => {
-            complain(rt, word, b": no such option; --help lists them\n");
-            p.good = false;
-        }
-    }
-    p
-}
-
-// A word by its number, at the start of a buffer, and its length: 0 where the buffer is too short. None after the last word.
-fn word_at(rt: &impl Env, number: usize, word: &mut [u8; 4096]) -> Option<usize>
-    ensures { IfSome result (λ n. n ≤ 4096) }
-{
-    match rt.arg(number, word) {
-        Ok(n) => Some(n),
-        Err(FillError::TooLong) => Some(0),
-        Err(FillError::NotPresent) => None,
-    }
-}
-
-// All words but the program's own name, to the first that ends it.
-fn read_options(rt: &HostRuntime) -> Options {
-    let mut o = Options {
-        own: ALL_DEVICES,
-        form: UNKNOWN,
-        named: false,
-        waits: false,
-        good: true,
-    };
-    for i in 1..usize::MAX {
-        if !o.good {
-            break;
-        }
-        let mut word = [0u8; 4096];
-        let Some(n) = word_at(rt, i, &mut word) else {
-            break;
+    // All words, to the first that says why no input is read.
+    fn read(rt: &HostRuntime) -> Option<Options> {
+        let mut options = Options {
+            own: ALL_DEVICES,
+            form: None,
+            named: false,
         };
-        o = with_word(rt, o, &word[..n]);
+        let mut words = Words::new(rt);
+        for _ in 0..usize::MAX {
+            let Some(word) = words.next() else {
+                break;
+            };
+            if let Err(stop) = options.take(word) {
+                stop.say(rt);
+                return None;
+            }
+        }
+        if words.waits {
+            Stop::NoNumber.say(rt);
+            return None;
+        }
+        Some(options)
     }
-    o
+
+    fn check_file(self, rt: &HostRuntime, path: &[u8]) {
+        if matches!(path, b"-") {
+            check(rt, &mut rt.reader(), self.form, self.own);
+            return;
+        }
+        say_raw(rt, path);
+        say!(rt; ":\n");
+        match open_file(rt, path) {
+            Ok(mut file) => check(rt, &mut file, self.form, self.own),
+            Err(error) => {
+                say_failed(&rt.stderr(), path, error);
+                say!(rt; "It cannot be read.\n");
+            }
+        }
+    }
+
+    fn check_files(self, rt: &HostRuntime) {
+        let mut words = Words::new(rt);
+        for _ in 0..usize::MAX {
+            let Some(word) = words.next() else {
+                break;
+            };
+            if let Word::File(path) = word {
+                self.check_file(rt, path);
+            }
+        }
+    }
 }
 
 // Opens a file by its name, which must be text.
@@ -249,58 +222,11 @@ fn open_file(rt: &HostRuntime, path: &[u8]) -> io::Result<File> {
     }
 }
 
-fn check_file(rt: &HostRuntime, o: Options, path: &[u8]) {
-    if same(path, b"-") {
-        check(rt, &mut rt.reader(), o.form, o.own);
-        return;
-    }
-    say(rt, path);
-    say(rt, b":\n");
-    match open_file(rt, path) {
-        Ok(mut file) => check(rt, &mut file, o.form, o.own),
-        Err(error) => {
-            say_failed(&rt.stderr(), path, error);
-            say(rt, b"It cannot be read.\n");
-        }
-    }
-}
-
-// One word again: a file is read, and the word after --device passed over. Answers whether the next one is such a word.
-fn with_file(rt: &HostRuntime, o: Options, word: &[u8], waits: bool) -> bool {
-    if waits {
-        return false;
-    }
-    let kind = kind_of(word);
-    if kind == FILE {
-        check_file(rt, o, word);
-    }
-    kind == DEVICE
-}
-
-fn check_files(rt: &HostRuntime, o: Options) {
-    let mut waits = false;
-    for i in 1..usize::MAX {
-        let mut word = [0u8; 4096];
-        let Some(n) = word_at(rt, i, &mut word) else {
-            break;
-        };
-        waits = with_file(rt, o, &word[..n], waits);
-    }
-}
-
 // Does what the command line asks.
 pub(crate) fn run(rt: &HostRuntime) {
-    let o = read_options(rt);
-    if !o.good {
-        return;
+    match Options::read(rt) {
+        None => {}
+        Some(options) if options.named => options.check_files(rt),
+        Some(options) => check(rt, &mut rt.reader(), options.form, options.own),
     }
-    if o.waits {
-        complain(rt, b"--device", b": the number is missing\n");
-        return;
-    }
-    if o.named {
-        check_files(rt, o);
-        return;
-    }
-    check(rt, &mut rt.reader(), o.form, o.own);
 }

@@ -1,24 +1,29 @@
 // The refusals of the library, by number and in words.
-use crate::say::{say, say_entry, say_number};
+use std::fmt;
+use std::fmt::Display;
 use universal::SysexError;
 
-fn say_words(rt: &impl Print, number: u8) {
-    say_entry(
-        rt,
-        b";a byte above 7FH in a name or data;a length that the format does not allow;\
-        a value outside its field;the buffer is too small;a device above 127;\
-        a part that is not inside the source;\
-        a Locate target that is blank or not a valid time;the generator is stopped;\
-        the string has ended;more than 256 items;",
-        number,
-    );
+fn words(error: SysexError) -> &'static str {
+    match error {
+        SysexError::DataByte => "a byte above 7FH in a name or data",
+        SysexError::Length => "a length that the format does not allow",
+        SysexError::OutOfRange => "a value outside its field",
+        SysexError::BufferTooSmall { needed: _ } => "the buffer is too small",
+        SysexError::Device => "a device above 127",
+        SysexError::Source => "a part that is not inside the source",
+        SysexError::Target => "a Locate target that is blank or not a valid time",
+        SysexError::Stopped => "the generator is stopped",
+        SysexError::End => "the string has ended",
+        SysexError::ItemLimit => "more than 256 items",
+    }
 }
 
 // "Refused, 2: ..", without an end.
-pub(crate) fn say_refusal(rt: &impl Print, error: SysexError) {
-    let n = error.number();
-    say(rt, b"Refused, ");
-    say_number(rt, n as u64);
-    say(rt, b": ");
-    say_words(rt, n);
+#[derive(Clone, Copy)]
+pub(crate) struct Refusal(pub(crate) SysexError);
+
+impl Display for Refusal {
+    fn fmt<W: fmt::Write>(&self, f: &mut fmt::Formatter<W>) -> fmt::Result {
+        write!(f, "Refused, {}: {}", self.0.number(), words(self.0))
+    }
 }

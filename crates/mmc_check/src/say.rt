@@ -1,88 +1,73 @@
-// Standard output: words, numbers and bytes. A write that fails is passed over: no later one could tell of it.
-use mmc::Part;
+// What is printed of numbers and bytes, and the words of a failure.
+use std::fmt;
+use std::fmt::Display;
 use std::io::{Cursor, Error, Write};
 
-pub(crate) fn say(rt: &impl Print, text: &[u8]) {
-    let _ = rt.write_all(text);
+// Prints a format. A write that fails is passed over: no later one could tell of it.
+macro_rules! say {
+    ($rt:expr; $($format:tt)+) => {{
+        let _ = $rt.print(format_args!($($format)+));
+    }};
 }
 
-pub(crate) fn say_number(rt: &impl Print, n: u64) {
-    let _ = rt.print(n);
+pub(crate) use say;
+
+// Bytes that need not be text, as the name of a file.
+pub(crate) fn say_raw(rt: &impl Print, bytes: &[u8]) {
+    let _ = rt.write_all(bytes);
 }
 
 // A number of things: 1 byte, 2 bytes.
-pub(crate) fn say_count(rt: &impl Print, n: u64, thing: &[u8]) {
-    say_number(rt, n);
-    say(rt, b" ");
-    say(rt, thing);
-    if n != 1 {
-        say(rt, b"s");
+#[derive(Clone, Copy)]
+pub(crate) struct Count(pub(crate) usize, pub(crate) &'static str);
+
+impl Display for Count {
+    fn fmt<W: fmt::Write>(&self, f: &mut fmt::Formatter<W>) -> fmt::Result {
+        let Count(n, thing) = *self;
+        let end = if n == 1 { "" } else { "s" };
+        write!(f, "{n} {thing}{end}")
     }
 }
 
-// A hexadecimal digit, as machine control is written.
-pub(crate) fn digit(value: u8) -> u8 {
-    let n = value % 16;
-    if n < 10 {
-        return b'0' + n;
-    }
-    b'A' + (n - 10)
-}
+// A byte as machine control is written: 7FH.
+#[derive(Clone, Copy)]
+pub(crate) struct Byte(pub(crate) u8);
 
-// A byte with its H: 7FH.
-pub(crate) fn say_byte(rt: &impl Print, byte: u8) {
-    let text = [digit(byte / 16), digit(byte), b'H'];
-    say(rt, &text);
+impl Display for Byte {
+    fn fmt<W: fmt::Write>(&self, f: &mut fmt::Formatter<W>) -> fmt::Result {
+        write!(f, "{:02X}H", self.0)
+    }
 }
 
 // Bytes as a string has them, each after a space.
-pub(crate) fn say_bytes(rt: &impl Print, bytes: &[u8]) {
-    for byte in bytes {
-        let text = [b' ', digit(*byte / 16), digit(*byte)];
-        say(rt, &text);
-    }
-}
+#[derive(Clone, Copy)]
+pub(crate) struct Bytes<'a>(pub(crate) &'a [u8]);
 
-// The n-th entry of a table, counted from 0; a semicolon ends each. Nothing where there are fewer.
-pub(crate) fn say_entry(rt: &impl Print, table: &[u8], n: u8) {
-    let mut left = n;
-    let mut start: usize = 0;
-    for i in 0..table.len() {
-        if table[i] == b';' {
-            if left == 0 {
-                let entry = Part {
-                    start,
-                    len: std::num::wrapping_sub_usize(i, start),
-                };
-                say(rt, entry.of(table));
-                return;
-            }
-            left -= 1;
-            start = i + 1;
+impl Display for Bytes<'_> {
+    fn fmt<W: fmt::Write>(&self, f: &mut fmt::Formatter<W>) -> fmt::Result {
+        for byte in self.0 {
+            write!(f, " {byte:02X}")?;
         }
+        Ok(())
     }
 }
 
 // What the system says of an error ends before its number: "Is a directory (os error 21)".
-fn without_number(text: &[u8]) -> &[u8] {
-    for i in 0..text.len() {
-        if text[i..].starts_with(b" (os error ") {
-            return &text[..i];
-        }
-    }
-    text
+fn without_number(text: &str) -> &str {
+    text.split_once(" (os error ")
+        .map_or(text, |(words, _)| words)
 }
 
 // The words of an error, as the system has them, after what failed.
 pub(crate) fn say_failed(rt: &impl Print, what: &[u8], error: Error) {
     let mut text = Cursor::new([0u8; 128]);
     let _ = write!(text, "{error}");
-    let length = text.position();
+    let length = text.position() as usize;
     let bytes = text.into_inner();
-    say(rt, what);
-    say(rt, b": ");
-    if length <= 128 {
-        say(rt, without_number(&bytes[..length as usize]));
-    }
-    say(rt, b"\n");
+    let words = bytes
+        .get(..length)
+        .and_then(|words| str::from_utf8(words).ok())
+        .unwrap_or("");
+    say_raw(rt, what);
+    say!(rt; ": {}\n", without_number(words));
 }

@@ -1,8 +1,11 @@
 // A stream of bytes cut into messages, F0H to F7H. What stands outside a message, and a message that is not whole, gets a line
 // with its place, and the reading goes on.
 use crate::message::read_message;
-use crate::say::{say, say_byte, say_count, say_number};
-use mmc::Part;
+use crate::refusals::Refusal;
+use crate::say::{Byte, Count, say};
+use std::fmt;
+use std::fmt::Display;
+use universal::SysexError;
 
 const SOX: u8 = 0xF0;
 
@@ -11,222 +14,240 @@ const EOX: u8 = 0xF7;
 // The longest message that is read.
 const MOST: usize = 65_536;
 
-// Where a byte stands: in a text by line and column, else by its number; all are counted from 1.
+// Where a byte stands: by its number, or in a text by line and column; all are counted from 1.
 #[derive(Clone, Copy)]
-pub(crate) struct Place {
-    pub(crate) line: u64,
-    pub(crate) at: u64,
+pub(crate) enum Place {
+    Byte(u64),
+    Character { line: u64, column: u64 },
 }
 
-// The own device; the bytes of the open message that were kept, 0 where none is open, and those that were not; the bytes
-// outside a message, and the first of them; where these or the message begin; and the counts.
-#[derive(Clone, Copy)]
-pub(crate) struct Stream {
-    pub(crate) own: u8,
-    pub(crate) length: usize,
-    pub(crate) over: u64,
-    pub(crate) stray: u64,
-    pub(crate) first: u8,
-    pub(crate) start: Place,
-    pub(crate) messages: u64,
-    pub(crate) faulty: u64,
-    pub(crate) outside: u64,
-}
-
-// A stream that has not begun.
-pub(crate) fn fresh(own: u8) -> Stream {
-    Stream {
-        own,
-        length: 0,
-        over: 0,
-        stray: 0,
-        first: 0,
-        start: Place { line: 0, at: 0 },
-        messages: 0,
-        faulty: 0,
-        outside: 0,
-    }
-}
-
-// A line of a text, or a byte of another input; the column only where it is not the first.
-pub(crate) fn say_where(rt: &impl Print, place: Place) {
-    if place.line == 0 {
-        say(rt, b"Byte ");
-        say_number(rt, place.at);
-    } else {
-        say(rt, b"Line ");
-        say_number(rt, place.line);
-        if place.at > 1 {
-            say(rt, b", column ");
-            say_number(rt, place.at);
+// The column only where it is not the first.
+impl Display for Place {
+    fn fmt<W: fmt::Write>(&self, f: &mut fmt::Formatter<W>) -> fmt::Result {
+        match *self {
+            Place::Byte(number) => write!(f, "Byte {number}"),
+            Place::Character {
+                line,
+                column: 0 | 1,
+            } => write!(f, "Line {line}"),
+            Place::Character { line, column } => write!(f, "Line {line}, column {column}"),
         }
     }
-    say(rt, b": ");
 }
 
-// Bytes outside a message get one line together.
-fn without_stray(rt: &impl Print, s: Stream) -> Stream {
-    let mut t = s;
-    let start = s.start;
-    if s.stray == 0 {
-        return t;
+// The messages of a stream, those that are faulty, and the places without a message.
+#[derive(Clone, Copy, Default)]
+pub(crate) struct Counts {
+    messages: usize,
+    faulty: usize,
+    outside: usize,
+}
+
+impl Display for Counts {
+    fn fmt<W: fmt::Write>(&self, f: &mut fmt::Formatter<W>) -> fmt::Result {
+        write!(
+            f,
+            "{}, {} faulty",
+            Count(self.messages, "message"),
+            self.faulty
+        )?;
+        if self.outside > 0 {
+            write!(f, "; {} without a message", Count(self.outside, "place"))?;
+        }
+        Ok(())
     }
-    say_where(rt, start);
-    say_count(rt, s.stray, b"byte");
-    say(rt, b" outside a message, from ");
-    say_byte(rt, s.first);
-    say(rt, b" on. Passed over.\n");
-    t.stray = 0;
-    t.outside = std::num::wrapping_add_u64(s.outside, 1);
-    t
 }
 
-fn with_stray(s: Stream, byte: u8, place: Place) -> Stream {
-    let mut t = s;
-    if s.stray == 0 {
-        t.first = byte;
-        t.start = place;
+// The bytes of the open message. They lie in an array, and those past the longest message are only counted, since the program has
+// fixed memory.
+#[derive(Drop)]
+struct OpenMessage {
+    bytes: [u8; MOST],
+    length: usize,
+}
+
+impl OpenMessage {
+    fn put(&mut self, byte: u8) {
+        if let Some(place) = self.bytes.get_mut(self.length) {
+            *place = byte;
+        }
+        self.length = self.length.saturating_add(1);
     }
-    t.stray = std::num::wrapping_add_u64(s.stray, 1);
-    t
-}
 
-fn begun(rt: &impl Print, s: Stream, place: Place, message: &mut [u8; 65536]) -> Stream {
-    let mut t = without_stray(rt, s);
-    t.over = 0;
-    t.start = place;
-    with_byte(t, SOX, message)
-}
-
-// One byte more of the open message; past the longest one it is only counted.
-fn with_byte(s: Stream, byte: u8, message: &mut [u8; 65536]) -> Stream {
-    let mut t = s;
-    let length = s.length;
-    if length < MOST {
-        message[length] = byte;
-        t.length = length + 1;
-        return t;
+    // All of them, or none where it is too long.
+    fn bytes(&self) -> Option<&[u8]> {
+        self.bytes.get(..self.length)
     }
-    t.over = std::num::wrapping_add_u64(s.over, 1);
-    t
 }
 
-// The open message is done with.
-fn counted(s: Stream, good: bool) -> Stream {
-    let mut t = s;
-    t.length = 0;
-    t.messages = std::num::wrapping_add_u64(s.messages, 1);
-    if !good {
-        t.faulty = std::num::wrapping_add_u64(s.faulty, 1);
-    }
-    t
+// Where a stream stands: between messages, after bytes outside one, of which the first is kept, or in a message.
+#[derive(Clone, Copy)]
+enum State {
+    Between,
+    Outside {
+        start: Place,
+        first: u8,
+        count: usize,
+    },
+    Inside {
+        start: Place,
+    },
 }
 
-fn say_too_long(rt: &impl Print, s: Stream) {
-    say(rt, b"a message of ");
-    say_count(
-        rt,
-        std::num::wrapping_add_u64(s.length as u64, s.over),
-        b"byte",
-    );
-    say(rt, b". At most 65536 are read; it is passed over.\n");
+// A stream: where it is said what becomes of it, the own device, its state, the open message, and the counts.
+#[derive(Drop)]
+pub(crate) struct Stream<'a> {
+    rt: &'a HostRuntime,
+    own: u8,
+    state: State,
+    message: OpenMessage,
+    counts: Counts,
 }
 
-// The open message has its F7H.
-fn finished(rt: &impl Print, s: Stream, message: &[u8]) -> Stream {
-    let length = s.length;
-    let start = s.start;
-    say_where(rt, start);
-    if s.over > 0 {
-        say_too_long(rt, s);
-        return counted(s, false);
+impl<'a> Stream<'a> {
+    // A stream that has not begun.
+    pub(crate) fn new(rt: &'a HostRuntime, own: u8) -> Stream<'a> {
+        Stream {
+            rt,
+            own,
+            state: State::Between,
+            message: OpenMessage {
+                bytes: [0; MOST],
+                length: 0,
+            },
+            counts: Counts::default(),
+        }
     }
-    let whole = Part {
-        start: 0,
-        len: length,
-    };
-    counted(s, read_message(rt, whole.of(message), s.own))
-}
 
-// A byte above 7FH that is not F7H stands in the open message.
-fn cut(rt: &impl Print, s: Stream, byte: u8) -> Stream {
-    let start = s.start;
-    let read = std::num::wrapping_add_u64(s.length as u64, s.over);
-    say_where(rt, start);
-    say(rt, b"a message that is not whole: its byte ");
-    say_number(rt, std::num::wrapping_add_u64(read, 1));
-    say(rt, b" is ");
-    say_byte(rt, byte);
-    say(
-        rt,
-        b". Refused, 1: a byte above 7FH in a name or data. Nothing of it is done.\n",
-    );
-    counted(s, false)
-}
+    pub(crate) fn rt(&self) -> &'a HostRuntime {
+        self.rt
+    }
 
-// A real time byte may stand anywhere and belongs to no message.
-fn passed(rt: &impl Print, s: Stream, byte: u8, place: Place) -> Stream {
-    say_where(rt, place);
-    say(rt, b"the real time byte ");
-    say_byte(rt, byte);
-    say(
-        rt,
-        b" stands inside a message. Passed over; the message goes on.\n",
-    );
-    s
-}
+    pub(crate) fn counts(&self) -> Counts {
+        self.counts
+    }
 
-// A byte while no message is open.
-fn outside(
-    rt: &impl Print,
-    s: Stream,
-    byte: u8,
-    place: Place,
-    message: &mut [u8; 65536],
-) -> Stream {
-    if byte == SOX {
-        return begun(rt, s, place, message);
+    // Something that stands outside a message.
+    pub(crate) fn count_outside(&mut self) {
+        self.counts.outside = self.counts.outside.saturating_add(1);
     }
-    with_stray(s, byte, place)
-}
 
-// The next byte of the stream.
-pub(crate) fn take(
-    rt: &impl Print,
-    s: Stream,
-    byte: u8,
-    place: Place,
-    message: &mut [u8; 65536],
-) -> Stream {
-    if s.length == 0 {
-        return outside(rt, s, byte, place, message);
+    // The open message is done with.
+    fn finish(&mut self, good: bool) {
+        self.state = State::Between;
+        self.counts.messages = self.counts.messages.saturating_add(1);
+        if !good {
+            self.counts.faulty = self.counts.faulty.saturating_add(1);
+        }
     }
-    if byte < 0x80 {
-        return with_byte(s, byte, message);
-    }
-    if byte == EOX {
-        let t = with_byte(s, byte, message);
-        return finished(rt, t, message);
-    }
-    if byte > EOX {
-        return passed(rt, s, byte, place);
-    }
-    outside(rt, cut(rt, s, byte), byte, place, message)
-}
 
-// The stream ends here, or the line: a message does not go on past it.
-pub(crate) fn end(rt: &impl Print, s: Stream) -> Stream {
-    let start = s.start;
-    if s.length == 0 {
-        return without_stray(rt, s);
+    // The open message has its F7H.
+    fn close(&mut self, start: Place) {
+        say!(self.rt; "{start}: ");
+        let good = match self.message.bytes() {
+            Some(bytes) => read_message(self.rt, bytes, self.own),
+            None => {
+                let length = Count(self.message.length, "byte");
+                say!(self.rt; "a message of {length}. At most {MOST} are read; it is passed over.\n");
+                false
+            }
+        };
+        self.finish(good);
     }
-    say_where(rt, start);
-    say(rt, b"a message that is not whole: it ends after ");
-    say_count(
-        rt,
-        std::num::wrapping_add_u64(s.length as u64, s.over),
-        b"byte",
-    );
-    say(rt, b" without F7H. Nothing of it is done.\n");
-    counted(s, false)
+
+    // A byte above 7FH that is not F7H stands in the open message.
+    fn cut(&mut self, start: Place, byte: u8) {
+        let number = self.message.length.saturating_add(1);
+        let byte = Byte(byte);
+        let refusal = Refusal(SysexError::DataByte);
+        say!(self.rt; "{start}: a message that is not whole: its byte {number} is {byte}. {refusal}. Nothing of it is done.\n");
+        self.finish(false);
+    }
+
+    // Bytes outside a message get one line together.
+    fn end_outside(&mut self, start: Place, first: u8, count: usize) {
+        let count = Count(count, "byte");
+        let first = Byte(first);
+        say!(self.rt; "{start}: {count} outside a message, from {first} on. Passed over.\n");
+        self.count_outside();
+        self.state = State::Between;
+    }
+
+    // The message ends where its input does, or its line.
+    fn end_inside(&mut self, start: Place) {
+        let length = Count(self.message.length, "byte");
+        say!(self.rt; "{start}: a message that is not whole: it ends after {length} without F7H. Nothing of it is done.\n");
+        self.finish(false);
+    }
+
+    fn begin(&mut self, start: Place) {
+        self.end();
+        self.message.length = 0;
+        self.message.put(SOX);
+        self.state = State::Inside { start };
+    }
+
+    // A byte while no message is open.
+    fn take_outside(&mut self, byte: u8, place: Place) {
+        if byte == SOX {
+            self.begin(place);
+            return;
+        }
+        self.state = match self.state {
+            State::Outside {
+                start,
+                first,
+                count,
+            } => State::Outside {
+                start,
+                first,
+                count: count.saturating_add(1),
+            },
+            _ => State::Outside {
+                start: place,
+                first: byte,
+                count: 1,
+            },
+        };
+    }
+
+    // A byte of the open message. One of real time may stand anywhere and belongs to no message.
+    fn take_inside(&mut self, start: Place, byte: u8, place: Place) {
+        match byte {
+            0..=0x7F => self.message.put(byte),
+            EOX => {
+                self.message.put(byte);
+                self.close(start);
+            }
+            0xF8..=0xFF => {
+                let byte = Byte(byte);
+                say!(self.rt; "{place}: the real time byte {byte} stands inside a message. Passed over; the message goes on.\n");
+            }
+            _ => {
+                self.cut(start, byte);
+                self.take_outside(byte, place);
+            }
+        }
+    }
+
+    // The next byte of the stream.
+    pub(crate) fn take(&mut self, byte: u8, place: Place) {
+        match self.state {
+            State::Inside { start } => self.take_inside(start, byte, place),
+            _ => self.take_outside(byte, place),
+        }
+    }
+
+    // The stream ends here, or the line: a message does not go on past it.
+    pub(crate) fn end(&mut self) {
+        match self.state {
+            State::Between => {}
+            State::Outside {
+                start,
+                first,
+                count,
+            } => self.end_outside(start, first, count),
+            State::Inside { start } => self.end_inside(start),
+        }
+    }
 }

@@ -1,100 +1,115 @@
 // Labels and time codes in print.
-use crate::say::{say, say_entry, say_number};
 use mmc::{FinalByte, ShortTimeCode, StandardTimeCode, TimeCodeStatus};
 use mtc::{MtcTime, TimeCodeType};
+use std::fmt;
+use std::fmt::Display;
 
-fn tens(n: u8) -> u8 {
-    b'0' + n / 10 % 10
-}
+// 01:37:52:16, and 00:10:00;00 at drop-frame: two digits of each number, whatever it is.
+#[derive(Clone, Copy)]
+pub(crate) struct Label(pub(crate) MtcTime);
 
-fn ones(n: u8) -> u8 {
-    b'0' + n % 10
-}
-
-// The mark before the frames: a semicolon at drop-frame.
-fn mark(rate: TimeCodeType) -> u8 {
-    match rate {
-        TimeCodeType::Fps30Drop => b';',
-        TimeCodeType::Fps24 => b':',
-        TimeCodeType::Fps25 => b':',
-        TimeCodeType::Fps30 => b':',
+impl Display for Label {
+    fn fmt<W: fmt::Write>(&self, f: &mut fmt::Formatter<W>) -> fmt::Result {
+        let time = self.0;
+        let mark = match time.rate {
+            TimeCodeType::Fps30Drop => ';',
+            TimeCodeType::Fps24 | TimeCodeType::Fps25 | TimeCodeType::Fps30 => ':',
+        };
+        write!(
+            f,
+            "{:02}:{:02}:{:02}{mark}{:02}",
+            time.hours % 100,
+            time.minutes % 100,
+            time.seconds % 100,
+            time.frames % 100,
+        )
     }
 }
 
-// 01:37:52:16, and 00:10:00;00 at drop-frame.
-pub(crate) fn say_label(rt: &impl Print, t: MtcTime) {
-    let rate = t.rate;
-    let text = [
-        tens(t.hours),
-        ones(t.hours),
-        b':',
-        tens(t.minutes),
-        ones(t.minutes),
-        b':',
-        tens(t.seconds),
-        ones(t.seconds),
-        mark(rate),
-        tens(t.frames),
-        ones(t.frames),
-    ];
-    say(rt, &text);
-}
-
-fn say_rate(rt: &impl Print, rate: TimeCodeType) {
-    say_entry(
-        rt,
-        b" at 24 frames; at 25 frames; at 30 frames drop-frame; at 30 frames;",
-        rate.into_bits(),
-    );
+fn rate_words(rate: TimeCodeType) -> &'static str {
+    match rate {
+        TimeCodeType::Fps24 => "24 frames",
+        TimeCodeType::Fps25 => "25 frames",
+        TimeCodeType::Fps30Drop => "30 frames drop-frame",
+        TimeCodeType::Fps30 => "30 frames",
+    }
 }
 
 // A label with its rate.
-pub(crate) fn say_time(rt: &impl Print, t: MtcTime) {
-    let rate = t.rate;
-    say_label(rt, t);
-    say_rate(rt, rate);
-}
+#[derive(Clone, Copy)]
+pub(crate) struct Time(pub(crate) MtcTime);
 
-fn say_flag(rt: &impl Print, set: bool, words: &[u8]) {
-    if set {
-        say(rt, words);
+impl Display for Time {
+    fn fmt<W: fmt::Write>(&self, f: &mut fmt::Formatter<W>) -> fmt::Result {
+        write!(f, "{} at {}", Label(self.0), rate_words(self.0.rate))
     }
 }
 
-fn say_status(rt: &impl Print, status: TimeCodeStatus) {
-    say(rt, b", with status");
-    say_flag(rt, status.estimated, b" estimated");
-    say_flag(rt, status.invalid, b" invalid");
-    say_flag(rt, status.video_field1, b" field-1");
-    say_flag(rt, status.no_time_code, b" no-time-code");
+// The words of a flag that is set.
+fn flag(is_set: bool, words: &'static str) -> &'static str {
+    if is_set { words } else { "" }
 }
 
-fn say_final(rt: &impl Print, last: FinalByte) {
-    match last {
-        FinalByte::Subframes(n) => {
-            say(rt, b", subframes ");
-            say_number(rt, n as u64);
+#[derive(Clone, Copy)]
+struct Status(TimeCodeStatus);
+
+impl Display for Status {
+    fn fmt<W: fmt::Write>(&self, f: &mut fmt::Formatter<W>) -> fmt::Result {
+        write!(
+            f,
+            "status{}{}{}{}",
+            flag(self.0.estimated, " estimated"),
+            flag(self.0.invalid, " invalid"),
+            flag(self.0.video_field1, " field-1"),
+            flag(self.0.no_time_code, " no-time-code"),
+        )
+    }
+}
+
+#[derive(Clone, Copy)]
+struct Final(FinalByte);
+
+impl Display for Final {
+    fn fmt<W: fmt::Write>(&self, f: &mut fmt::Formatter<W>) -> fmt::Result {
+        match self.0 {
+            FinalByte::Subframes(n) => write!(f, "subframes {n}"),
+            FinalByte::Status(status) => write!(f, "with {}", Status(status)),
         }
-        FinalByte::Status(status) => say_status(rt, status),
     }
 }
 
 // The five bytes of a time code: the time, the last byte, and the flags that are set.
-pub(crate) fn say_code(rt: &impl Print, code: StandardTimeCode) {
-    let time = code.time;
-    let last = code.final_byte;
-    say_time(rt, time);
-    say_final(rt, last);
-    say_flag(rt, code.color_frame, b", colour frame");
-    say_flag(rt, code.blank, b", blank");
-    say_flag(rt, code.negative, b", negative");
+#[derive(Clone, Copy)]
+pub(crate) struct Code(pub(crate) StandardTimeCode);
+
+impl Display for Code {
+    fn fmt<W: fmt::Write>(&self, f: &mut fmt::Formatter<W>) -> fmt::Result {
+        let code = self.0;
+        write!(
+            f,
+            "{}, {}{}{}{}",
+            Time(code.time),
+            Final(code.final_byte),
+            flag(code.color_frame, ", colour frame"),
+            flag(code.blank, ", blank"),
+            flag(code.negative, ", negative"),
+        )
+    }
 }
 
 // The two bytes of a short one.
-pub(crate) fn say_short(rt: &impl Print, code: ShortTimeCode) {
-    let last = code.final_byte;
-    say(rt, b"frames ");
-    say_number(rt, code.frames as u64);
-    say_final(rt, last);
-    say_flag(rt, code.negative, b", negative");
+#[derive(Clone, Copy)]
+pub(crate) struct Short(pub(crate) ShortTimeCode);
+
+impl Display for Short {
+    fn fmt<W: fmt::Write>(&self, f: &mut fmt::Formatter<W>) -> fmt::Result {
+        let code = self.0;
+        write!(
+            f,
+            "frames {}, {}{}",
+            code.frames,
+            Final(code.final_byte),
+            flag(code.negative, ", negative"),
+        )
+    }
 }
