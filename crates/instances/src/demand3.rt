@@ -1,26 +1,27 @@
 // Demand 3: readers with a past, times at the edges, strings with other commands before the Locate, both directions.
-use crate::stream::{Listener, edge, follows, fresh, hears, informed, run_from};
-use crate::strings::{obeyed, write};
-use crate::tally::{Tally, case, none};
+use crate::stream::{Call, Listener, edge, follows, run_from};
+use crate::strings::{SOURCE, locate, obeyed, other, write};
+use crate::tally::Tally;
 use crate::times::label;
-use mtc::{Direction, MtcGenerator, MtcTime};
+use mmc::MmcCommand;
+use mtc::{Direction, MtcGenerator, MtcTime, TimeCodeType};
 
 // A call of an alphabet of three: piece 0, piece 7, a full message.
-fn call(listener: Listener, letter: u64) -> Listener {
-    match letter {
-        0 => hears(listener, 0x00),
-        1 => hears(listener, 0x76),
-        _ => informed(listener, label(10, 20, 30, 12, 1)),
+fn letter(number: u64) -> Call {
+    match number {
+        0 => Call::Byte(0x00),
+        1 => Call::Byte(0x76),
+        _ => Call::FullMessage(label(10, 20, 30, 12, TimeCodeType::Fps25)),
     }
 }
 
 // The reader after the list of this number: the letters are its digits.
 fn short_list(number: u64) -> Listener {
-    let mut listener = fresh();
+    let mut listener = Listener::new();
     let mut rest = number;
     while rest > 0 {
         let less = rest - 1;
-        listener = call(listener, less % 3);
+        listener.hear(letter(less % 3));
         rest = less / 3;
     }
     listener
@@ -28,9 +29,9 @@ fn short_list(number: u64) -> Listener {
 
 // The next of a row of numbers.
 fn next(seed: u64) -> u64 {
-    let s = seed ^ ((seed & 0x7_FFFF_FFFF_FFFF) << 13);
+    let s = seed ^ (seed << 13);
     let s = s ^ (s >> 7);
-    s ^ ((s & 0x7FFF_FFFF_FFFF) << 17)
+    s ^ (s << 17)
 }
 
 // A data byte of a piece and a value.
@@ -39,97 +40,94 @@ fn data_byte(piece: u64, value: u64) -> u8 {
 }
 
 // A call chosen by a number: mostly the piece that goes on in one direction, else any byte or a full message.
-fn any_call(listener: Listener, seed: u64, place: u64) -> Listener {
-    let value = seed / 256;
+fn any_call(seed: u64, place: u64, direction: Direction) -> Call {
     match (seed >> 20) & 15 {
-        0 => informed(listener, edge(seed >> 24)),
-        1 => hears(listener, (seed / 0x100_0000 % 256) as u8),
+        0 => Call::FullMessage(edge(seed >> 24)),
+        1 => Call::Byte(((seed >> 24) & 0xFF) as u8),
         _ => {
-            let piece = place % 8;
-            if (seed >> 63) > 0 {
-                return hears(listener, data_byte(piece, value));
-            }
-            hears(listener, data_byte(7 - piece, value))
+            let piece = match direction {
+                Direction::Forward => place % 8,
+                Direction::Reverse => 7 - place % 8,
+            };
+            Call::Byte(data_byte(piece, seed >> 8))
         }
     }
 }
 
-// The reader after so many calls that a row of numbers chooses, the pieces in one direction.
-fn calls(from: u64, length: u64, keep: u64) -> Listener {
-    let mut listener = fresh();
-    let mut seed = from;
-    let mut i: u64 = 0;
-    while i < length {
+// The reader after a long list, which its number chooses: its calls come from a row of numbers, the pieces in one direction.
+fn long_list(number: u64) -> Listener {
+    let mut seed = next(number.wrapping_add(88172645463325252));
+    let direction = if seed >> 63 > 0 {
+        Direction::Forward
+    } else {
+        Direction::Reverse
+    };
+    let mut listener = Listener::new();
+    for place in 0..7 + seed % 32 {
         seed = next(seed);
-        listener = any_call(listener, (seed & 0x7FFF_FFFF_FFFF_FFFF) | keep, i);
-        i = i + 1;
+        listener.hear(any_call(seed, place, direction));
     }
     listener
 }
 
-// The reader after a long list, which its number chooses.
-fn long_list(number: u64) -> Listener {
-    let seed = next(std::num::wrapping_add_u64(number, 88172645463325252));
-    calls(seed, 7 + seed % 32, seed & 0x8000_0000_0000_0000)
-}
-
 // A generator with some record.
 fn some_generator(number: u64) -> MtcGenerator {
-    let generator = MtcGenerator::new(edge(number >> 2), Direction::Reverse);
-    let sent = generator.next_byte();
-    let after = sent.generator;
-    after.set_running(number & 1 == 0)
+    MtcGenerator::new(edge(number >> 2), Direction::Reverse)
+        .next_byte()
+        .generator
+        .set_running(number & 1 == 0)
 }
 
-// Forward, by a string.
-fn forward(listener: Listener, number: u64, time: MtcTime) -> bool {
+// Forward, by a string of two commands chosen by the number, Locate to T and Play.
+fn forward(listener: &Listener, number: u64, time: MtcTime) -> bool {
     let mut out = [0xEEu8; 64];
     let device_id = if number & 1 == 0 { 0x7F } else { 5 };
-    let length = write(&mut out, device_id, number, time);
-    let generator = obeyed(&out, length, 5, some_generator(number));
+    let commands = [
+        other(number, time),
+        other(number >> 3, time),
+        locate(time),
+        MmcCommand::Play,
+    ];
+    let string = match write(&mut out, device_id, &SOURCE, &commands) {
+        Ok(length) => out.get(..length),
+        Err(_) => None,
+    };
+    let before = some_generator(number);
+    let generator = string.map_or(before, |string| obeyed(string, 5, before));
     follows(listener, generator, time, Direction::Forward)
 }
 
 // In reverse, located at T and set running.
-fn reverse(listener: Listener, number: u64, time: MtcTime) -> bool {
+fn reverse(listener: &Listener, number: u64, time: MtcTime) -> bool {
     let generator = run_from(some_generator(number), time, Direction::Reverse);
     follows(listener, generator, time, Direction::Reverse)
 }
 
-fn both(tally: Tally, listener: Listener, number: u64, time: MtcTime) -> Tally {
-    let t = case(tally, forward(listener, number, time));
-    case(t, reverse(listener, number, time))
+// Both directions after each of so many lists.
+fn lists<F: Fn(u64) -> Listener>(count: u64, list: F) -> Tally
+    requires { F.IsAlwaysCallable list }
+{
+    let mut tally = Tally::default();
+    for number in 0..count {
+        let listener = list(number);
+        tally.add(forward(&listener, number, edge(number)));
+        tally.add(reverse(&listener, number, edge(number)));
+    }
+    tally
 }
 
 // Readers reached by every list of up to four calls: 1 + 3 + 9 + 27 + 81 lists.
 pub(crate) fn short_lists() -> Tally {
-    let mut tally = none();
-    let mut number: u64 = 0;
-    while number < 121 {
-        tally = both(tally, short_list(number), number, edge(number));
-        number = number + 1;
-    }
-    tally
+    lists(121, short_list)
 }
 
 // Readers reached by longer lists.
 pub(crate) fn long_lists() -> Tally {
-    let mut tally = none();
-    let mut number: u64 = 0;
-    while number < 50 {
-        tally = both(tally, long_list(number), number, edge(number));
-        number = number + 1;
-    }
-    tally
+    lists(50, long_list)
 }
 
 // Every edge, with four choices of commands before the Locate.
 pub(crate) fn edges() -> Tally {
-    let mut tally = none();
-    let mut number: u64 = 0;
-    while number < 128 {
-        tally = case(tally, forward(fresh(), number, edge(number >> 2)));
-        number = number + 1;
-    }
-    tally
+    let fresh = Listener::new();
+    Tally::of((0..128).map(|number| forward(&fresh, number, edge(number >> 2))))
 }

@@ -1,100 +1,84 @@
 // The formats of RP-013 (commands pp. 20 to 32, fields pp. 8, 9, 44 and 47, as the source cites them), with values chosen here: no
 // published example. Each is written as these bytes, and these bytes are read as what is written as them again.
-use crate::examples::is_length;
-use crate::strings::target;
-use crate::tally::{Tally, case, none, same_bytes};
+use crate::strings::{is_message, locate, time_code, write};
+use crate::tally::Tally;
 use crate::times::label;
 use mmc::{
-    FinalByte, InfoField, MmcCommand, Part, ShortTimeCode,
-    StandardTimeCode, TimeCodeStatus, next_command, next_field, open_commands, open_responses,
+    FinalByte, InfoField, MmcCommand, Part, ShortTimeCode, StandardTimeCode, TimeCodeStatus,
+    next_command, next_field, open_responses,
 };
+use mtc::{MtcTime, TimeCodeType};
+use universal::SysexError;
 
-// The buffer begins with these bytes.
-fn begins(out: &[u8], bytes: &[u8]) -> bool {
-    let end = bytes.len();
-    if end > out.len() {
-        return false;
-    }
-    same_bytes(&out[0..end], bytes)
+// An item of a string.
+trait Item: Copy {
+    // Writes a string of this item alone, whose name and data stand in `source`.
+    fn write(self, out: &mut [u8], source: &[u8]) -> Result<usize, SysexError>;
+
+    // The item that is all of a body.
+    fn read(body: &[u8]) -> Option<Self>;
 }
 
 // Commands to all devices.
-fn is_command(command: MmcCommand, source: &[u8], message: &[u8]) -> bool {
-    let mut out = [0xEEu8; 16];
-    let opened = open_commands(&mut out, 0x7F);
-    let wrote = opened.put_command(&mut out, source, command);
-    let writer = wrote.writer;
-    let written = writer.close_message(&mut out);
-    is_length(written, message.len()) && begins(&out, message)
-}
-
-fn is_read_command(body: &[u8], message: &[u8]) -> bool {
-    let next = next_command(body, 0);
-    let answer = next.answer;
-    if next.place != body.len() {
-        return false;
+impl Item for MmcCommand {
+    fn write(self, out: &mut [u8], source: &[u8]) -> Result<usize, SysexError> {
+        write(out, 0x7F, source, &[self])
     }
-    match answer {
-        Ok(command) => is_command(command, body, message),
-        Err(_) => false,
+
+    fn read(body: &[u8]) -> Option<Self> {
+        let next = next_command(body, 0);
+        match next.answer {
+            Ok(command) if next.place == body.len() => Some(command),
+            Ok(_) => None,
+            Err(_) => None,
+        }
     }
 }
 
 // Responses of device 01H.
-fn is_field(field: InfoField, message: &[u8]) -> bool {
+impl Item for InfoField {
+    fn write(self, out: &mut [u8], source: &[u8]) -> Result<usize, SysexError> {
+        open_responses(out, 0x01)
+            .put_field(out, source, self)
+            .writer
+            .close_message(out)
+    }
+
+    fn read(body: &[u8]) -> Option<Self> {
+        let next = next_field(body, 0);
+        match next.answer {
+            Ok(field) if next.place == body.len() => Some(field),
+            Ok(_) => None,
+            Err(_) => None,
+        }
+    }
+}
+
+fn is_written<T: Item>(item: T, source: &[u8], message: &[u8]) -> bool {
     let mut out = [0xEEu8; 16];
-    let opened = open_responses(&mut out, 0x01);
-    let wrote = opened.put_field(&mut out, b"", field);
-    let writer = wrote.writer;
-    let written = writer.close_message(&mut out);
-    is_length(written, message.len()) && begins(&out, message)
+    let written = item.write(&mut out, source);
+    is_message(written, &out, message)
 }
 
-fn is_read_field(body: &[u8], message: &[u8]) -> bool {
-    let next = next_field(body, 0);
-    let answer = next.answer;
-    if next.place != body.len() {
+// What the message's body reads as is written as the message.
+fn is_read<T: Item>(message: &[u8]) -> bool {
+    let [_, _, _, _, body @ .., _] = message else {
         return false;
-    }
-    match answer {
-        Ok(field) => is_field(field, message),
-        Err(_) => false,
+    };
+    match T::read(body) {
+        Some(item) => is_written(item, body, message),
+        None => false,
     }
 }
 
-// Both ways, for the commands: the body stands after four bytes and before F7H.
-fn command(tally: Tally, command: MmcCommand, source: &[u8], message: &[u8]) -> Tally {
-    let t = case(tally, is_command(command, source, message));
-    if message.len() < 5 {
-        return case(t, false);
-    }
-    let end = message.len() - 1;
-    case(t, is_read_command(&message[4..end], message))
+// Both ways.
+fn add<T: Item>(tally: &mut Tally, item: T, source: &[u8], message: &[u8]) {
+    tally.add(is_written(item, source, message));
+    tally.add(is_read::<T>(message));
 }
 
-fn field(tally: Tally, field: InfoField, message: &[u8]) -> Tally {
-    let t = case(tally, is_field(field, message));
-    if message.len() < 5 {
-        return case(t, false);
-    }
-    let end = message.len() - 1;
-    case(t, is_read_field(&message[4..end], message))
-}
-
-// A command that is a name alone.
-fn plain(tally: Tally, name: MmcCommand, message: &[u8]) -> Tally {
-    command(tally, name, b"", message)
-}
-
-// 01:02:03:04 at 25.
-fn code(final_byte: FinalByte) -> StandardTimeCode {
-    StandardTimeCode {
-        time: label(1, 2, 3, 4, 1),
-        color_frame: false,
-        blank: false,
-        negative: false,
-        final_byte,
-    }
+fn time() -> MtcTime {
+    label(1, 2, 3, 4, TimeCodeType::Fps25)
 }
 
 // A code read as estimated in video field 1.
@@ -107,25 +91,75 @@ fn status() -> FinalByte {
     })
 }
 
-fn fields(tally: Tally) -> Tally {
-    let t = field(
+// Commands that are a name alone.
+fn names(tally: &mut Tally) {
+    for (command, message) in [
+        (MmcCommand::Stop, b"\xF0\x7F\x7F\x06\x01\xF7"),
+        (MmcCommand::Play, b"\xF0\x7F\x7F\x06\x02\xF7"),
+        (MmcCommand::DeferredPlay, b"\xF0\x7F\x7F\x06\x03\xF7"),
+        (MmcCommand::FastForward, b"\xF0\x7F\x7F\x06\x04\xF7"),
+        (MmcCommand::Rewind, b"\xF0\x7F\x7F\x06\x05\xF7"),
+        (MmcCommand::RecordStrobe, b"\xF0\x7F\x7F\x06\x06\xF7"),
+        (MmcCommand::RecordExit, b"\xF0\x7F\x7F\x06\x07\xF7"),
+        (MmcCommand::Pause, b"\xF0\x7F\x7F\x06\x09\xF7"),
+        (MmcCommand::Reset, b"\xF0\x7F\x7F\x06\x0D\xF7"),
+    ] {
+        add(tally, command, b"", message);
+    }
+}
+
+// Commands with data: Write of GP0, Locate to a field and to a time, Move of the selected time code to GP0.
+fn counted(tally: &mut Tally) {
+    add(
+        tally,
+        MmcCommand::Write(Part { start: 0, len: 6 }),
+        b"\x08\x21\x02\x03\x04\x05",
+        b"\xF0\x7F\x7F\x06\x40\x06\x08\x21\x02\x03\x04\x05\xF7",
+    );
+    add(
+        tally,
+        MmcCommand::LocateField { register: 0x08 },
+        b"",
+        b"\xF0\x7F\x7F\x06\x44\x02\x00\x08\xF7",
+    );
+    add(
+        tally,
+        locate(time()),
+        b"",
+        b"\xF0\x7F\x7F\x06\x44\x06\x01\x21\x02\x03\x04\x00\xF7",
+    );
+    add(
+        tally,
+        MmcCommand::Move {
+            destination: 0x08,
+            source: 0x01,
+        },
+        b"",
+        b"\xF0\x7F\x7F\x06\x4C\x02\x08\x01\xF7",
+    );
+}
+
+fn fields(tally: &mut Tally) {
+    add(
         tally,
         InfoField::TimeCode {
             field: 0x01,
-            code: code(status()),
+            code: time_code(time(), status()),
         },
+        b"",
         b"\xF0\x7F\x01\x07\x01\x21\x02\x03\x24\x50\xF7",
     );
-    let t = field(
-        t,
+    add(
+        tally,
         InfoField::TimeCode {
             field: 0x08,
-            code: code(FinalByte::Subframes(5)),
+            code: time_code(time(), FinalByte::Subframes(5)),
         },
+        b"",
         b"\xF0\x7F\x01\x07\x08\x21\x02\x03\x04\x05\xF7",
     );
-    let t = field(
-        t,
+    add(
+        tally,
         InfoField::Short {
             field: 0x01,
             code: ShortTimeCode {
@@ -134,10 +168,11 @@ fn fields(tally: Tally) -> Tally {
                 final_byte: status(),
             },
         },
+        b"",
         b"\xF0\x7F\x01\x07\x21\x24\x50\xF7",
     );
-    field(
-        t,
+    add(
+        tally,
         InfoField::Short {
             field: 0x08,
             code: ShortTimeCode {
@@ -146,50 +181,15 @@ fn fields(tally: Tally) -> Tally {
                 final_byte: FinalByte::Subframes(5),
             },
         },
+        b"",
         b"\xF0\x7F\x01\x07\x28\x44\x05\xF7",
-    )
-}
-
-// Commands with data: Write of GP0, Locate to a field and to a time, Move of the selected time code to GP0.
-fn counted(tally: Tally) -> Tally {
-    let t = command(
-        tally,
-        MmcCommand::Write(Part { start: 0, len: 6 }),
-        b"\x08\x21\x02\x03\x04\x05",
-        b"\xF0\x7F\x7F\x06\x40\x06\x08\x21\x02\x03\x04\x05\xF7",
     );
-    let t = command(
-        t,
-        MmcCommand::LocateField { register: 0x08 },
-        b"",
-        b"\xF0\x7F\x7F\x06\x44\x02\x00\x08\xF7",
-    );
-    let t = command(
-        t,
-        target(label(1, 2, 3, 4, 1), false),
-        b"",
-        b"\xF0\x7F\x7F\x06\x44\x06\x01\x21\x02\x03\x04\x00\xF7",
-    );
-    command(
-        t,
-        MmcCommand::Move {
-            destination: 0x08,
-            source: 0x01,
-        },
-        b"",
-        b"\xF0\x7F\x7F\x06\x4C\x02\x08\x01\xF7",
-    )
 }
 
 pub(crate) fn formats() -> Tally {
-    let t = plain(none(), MmcCommand::Stop, b"\xF0\x7F\x7F\x06\x01\xF7");
-    let t = plain(t, MmcCommand::Play, b"\xF0\x7F\x7F\x06\x02\xF7");
-    let t = plain(t, MmcCommand::DeferredPlay, b"\xF0\x7F\x7F\x06\x03\xF7");
-    let t = plain(t, MmcCommand::FastForward, b"\xF0\x7F\x7F\x06\x04\xF7");
-    let t = plain(t, MmcCommand::Rewind, b"\xF0\x7F\x7F\x06\x05\xF7");
-    let t = plain(t, MmcCommand::RecordStrobe, b"\xF0\x7F\x7F\x06\x06\xF7");
-    let t = plain(t, MmcCommand::RecordExit, b"\xF0\x7F\x7F\x06\x07\xF7");
-    let t = plain(t, MmcCommand::Pause, b"\xF0\x7F\x7F\x06\x09\xF7");
-    let t = plain(t, MmcCommand::Reset, b"\xF0\x7F\x7F\x06\x0D\xF7");
-    fields(counted(t))
+    let mut tally = Tally::default();
+    names(&mut tally);
+    counted(&mut tally);
+    fields(&mut tally);
+    tally
 }

@@ -1,172 +1,146 @@
 // A reader that has heard some calls gets the next twenty-four bytes of a generator: what it answers is held to demand 3.
-use crate::reader::{give_byte, give_message};
-use crate::times::{label, same};
-use mtc::{
-    Direction, FullMessage, MtcEvent, MtcGenerator, MtcReader, MtcTime,
-};
+use crate::times::label;
+use mtc::{Direction, FullMessage, MtcGenerator, MtcReader, MtcSequence, MtcTime, TimeCodeType};
 
-// A reader, the pieces of its last seven bytes (three bits each) and how many bytes came since the last full message, to seven.
+// What a reader is given: a data byte, or a full message with this time.
+#[derive(Clone, Copy)]
+pub(crate) enum Call {
+    Byte(u8),
+    FullMessage(MtcTime),
+}
+
+// A reader, and the pieces of the bytes since its last full message, the newest last: seven at most.
 #[derive(Clone, Copy)]
 pub(crate) struct Listener {
-    pub(crate) reader: MtcReader,
-    pub(crate) pieces: u32,
-    pub(crate) since: u8,
+    reader: MtcReader,
+    pieces: [Option<u8>; 7],
 }
 
-// Pieces 7 down to 1.
-const DOWN: u32 = 0o7654321;
-// Pieces 0 up to 6.
-const UP: u32 = 0o0123456;
+const DOWN: [Option<u8>; 7] = [
+    Some(7),
+    Some(6),
+    Some(5),
+    Some(4),
+    Some(3),
+    Some(2),
+    Some(1),
+];
 
-pub(crate) fn fresh() -> Listener {
-    Listener {
-        reader: MtcReader::new(),
-        pieces: 0,
-        since: 0,
-    }
-}
+const UP: [Option<u8>; 7] = [
+    Some(0),
+    Some(1),
+    Some(2),
+    Some(3),
+    Some(4),
+    Some(5),
+    Some(6),
+];
 
-// One more byte since, to seven.
-fn one_more(since: u8) -> u8 {
-    if since < 7 {
-        return since + 1;
-    }
-    7
-}
-
-// The reader gets a byte.
-pub(crate) fn hears(listener: Listener, byte: u8) -> Listener {
-    let reader = listener.reader;
-    let given = give_byte(reader, byte);
-    let after = given.reader;
-    let piece = (byte / 16 % 8) as u32;
-    let pieces = ((listener.pieces & 0o777777) << 3) | piece;
-    Listener {
-        reader: after,
-        pieces,
-        since: one_more(listener.since),
-    }
-}
-
-// The reader gets a full message.
-pub(crate) fn informed(listener: Listener, time: MtcTime) -> Listener {
-    let reader = listener.reader;
-    Listener {
-        reader: give_message(reader, FullMessage { device_id: 0, time }),
-        pieces: listener.pieces,
-        since: 0,
-    }
-}
-
-// The first of the twenty-four may report only after these seven.
-fn may_be_first(listener: Listener, direction: Direction) -> bool {
-    if listener.since < 7 {
-        return false;
-    }
-    match direction {
-        Direction::Forward => listener.pieces == DOWN,
-        Direction::Reverse => listener.pieces == UP,
-    }
-}
-
-// T moved by so many frames in a direction, or another number in reverse.
-fn shifted(time: MtcTime, direction: Direction, forward: i32, reverse: i32) -> MtcTime {
-    match direction {
-        Direction::Forward => time.add_frames(forward),
-        Direction::Reverse => time.add_frames(reverse),
-    }
-}
-
-// Whether the answer to the byte of this number is demand 3's.
-fn right(number: u8, event: MtcEvent, time: MtcTime, direction: Direction, first: bool) -> bool {
-    let sequence = event.sequence;
-    match sequence {
-        None => {
-            if number == 16 {
-                return false;
-            }
-            number != 24
+impl Listener {
+    pub(crate) fn new() -> Self {
+        Listener {
+            reader: MtcReader::new(),
+            pieces: [None; 7],
         }
-        Some(report) => {
-            let raw = report.raw;
-            let current = report.current;
-            match number {
-                1 => first,
-                8 => same(raw, time) && same(current, shifted(time, direction, 2, -1)),
-                16 => {
-                    same(raw, shifted(time, direction, 2, -2))
-                        && same(current, shifted(time, direction, 4, -3))
-                }
-                24 => {
-                    same(raw, shifted(time, direction, 4, -4))
-                        && same(current, shifted(time, direction, 6, -5))
-                        && !report.discontinuity
-                }
-                _ => false,
+    }
+
+    pub(crate) fn hear(&mut self, call: Call) {
+        match call {
+            Call::Byte(byte) => {
+                self.reader.receive(byte);
+                self.pieces.rotate_left(1);
+                self.pieces[6] = Some(byte / 16 % 8);
             }
+            Call::FullMessage(time) => {
+                self.reader.full_message(FullMessage { device_id: 0, time });
+                self.pieces = [None; 7];
+            }
+        }
+    }
+
+    // The first of the twenty-four may report only after these seven.
+    fn may_report_first(&self, direction: Direction) -> bool {
+        match direction {
+            Direction::Forward => self.pieces == DOWN,
+            Direction::Reverse => self.pieces == UP,
         }
     }
 }
 
-// The generator's next byte, given to the reader: whether it was sent and answered rightly.
+// What demand 3 says of T and a direction, where the first byte may report or not.
 #[derive(Clone, Copy)]
-struct Turn {
-    generator: MtcGenerator,
-    reader: MtcReader,
-    right: bool,
-}
-
-fn next_turn(
-    generator: MtcGenerator,
-    reader: MtcReader,
-    number: u8,
+struct Expected {
     time: MtcTime,
     direction: Direction,
     first: bool,
-) -> Turn {
-    let sent = generator.next_byte();
-    let after = sent.generator;
-    let byte = sent.byte;
-    match byte {
-        Err(_) => Turn {
-            generator: after,
-            reader,
-            right: false,
-        },
-        Ok(x) => {
-            let given = give_byte(reader, x);
-            let left = given.reader;
-            let event = given.event;
-            Turn {
-                generator: after,
-                reader: left,
-                right: right(number, event, time, direction, first),
-            }
+}
+
+impl Expected {
+    // T moved by so many frames forward, or by another number in reverse.
+    fn moved(&self, forward: i32, reverse: i32) -> MtcTime {
+        match self.direction {
+            Direction::Forward => self.time.add_frames(forward),
+            Direction::Reverse => self.time.add_frames(reverse),
         }
     }
+
+    // Whether this is what the byte of this number may give.
+    fn allows(&self, number: u8, sequence: Option<MtcSequence>) -> bool {
+        match sequence {
+            None => number != 16 && number != 24,
+            Some(report) => match number {
+                1 => self.first,
+                8 => report.raw == self.time && report.current == self.moved(2, -1),
+                16 => { report.raw == self.moved(2, -2) && report.current == self.moved(4, -3) }
+                24 => {
+                    report.raw == self.moved(4, -4)
+                        && report.current == self.moved(6, -5)
+                        && !report.discontinuity
+                }
+                _ => false,
+            },
+        }
+    }
+}
+
+// Whether this many bytes of a generator, given to a reader, are all sent and answered rightly: each by its number from 1 on.
+pub(crate) fn all_answered<F: Fn(u8, Option<MtcSequence>) -> bool>(
+    mut reader: MtcReader,
+    mut generator: MtcGenerator,
+    count: u8,
+    right: F,
+) -> bool
+    requires { F.IsAlwaysCallable right }
+{
+    for number in 1..=count {
+        let sent = generator.next_byte();
+        generator = sent.generator;
+        let byte = match sent.byte {
+            Ok(byte) => byte,
+            Err(_) => return false,
+        };
+        if !right(number, reader.receive(byte).sequence) {
+            return false;
+        }
+    }
+    true
 }
 
 // Whether all twenty-four bytes of a generator are answered as demand 3 says of T and a direction.
 pub(crate) fn follows(
-    listener: Listener,
-    from: MtcGenerator,
+    listener: &Listener,
+    generator: MtcGenerator,
     time: MtcTime,
     direction: Direction,
 ) -> bool {
-    let first = may_be_first(listener, direction);
-    let mut reader = listener.reader;
-    let mut generator = from;
-    let mut number: u8 = 1;
-    while number <= 24 {
-        let done = next_turn(generator, reader, number, time, direction, first);
-        if !done.right {
-            return false;
-        }
-        generator = done.generator;
-        reader = done.reader;
-        number = number + 1;
-    }
-    true
+    let expected = Expected {
+        time,
+        direction,
+        first: listener.may_report_first(direction),
+    };
+    all_answered(listener.reader, generator, 24, |number, sequence| {
+        expected.allows(number, sequence)
+    })
 }
 
 // A generator located at T and set running in a direction.
@@ -175,37 +149,26 @@ pub(crate) fn run_from(
     time: MtcTime,
     direction: Direction,
 ) -> MtcGenerator {
-    let there = generator.locate(time);
-    let turned = there.set_direction(direction);
-    turned.set_running(true)
-}
-
-// The last frame of a second at a rate.
-fn last_frame(rate: u8) -> u8 {
-    match rate {
-        0 => 23,
-        1 => 24,
-        _ => 29,
-    }
-}
-
-// The first label of a minute that is not a tenth: frames 0 and 1 are skipped at drop-frame.
-fn first_frame(rate: u8) -> u8 {
-    match rate {
-        2 => 2,
-        _ => 0,
-    }
+    generator
+        .locate(time)
+        .set_direction(direction)
+        .set_running(true)
 }
 
 // Times at the edges of each rate: midnight, minute and ten-minute ends, on both sides; eight for each of four rates.
 pub(crate) fn edge(number: u64) -> MtcTime {
-    let rate = (number / 8 % 4) as u8;
-    let last = last_frame(rate);
+    let rate = TimeCodeType::from_bits((number / 8 % 4) as u8);
+    let last = rate.frames_per_second().wrapping_sub(1);
+    // The first label of a minute that is not a tenth: frames 0 and 1 are skipped at drop-frame.
+    let first = match rate {
+        TimeCodeType::Fps30Drop => 2,
+        _ => 0,
+    };
     match number % 8 {
         0 => label(0, 0, 0, 0, rate),
         1 => label(23, 59, 59, last, rate),
         2 => label(0, 0, 59, last, rate),
-        3 => label(0, 1, 0, first_frame(rate), rate),
+        3 => label(0, 1, 0, first, rate),
         4 => label(0, 9, 59, last, rate),
         5 => label(0, 10, 0, 0, rate),
         6 => label(1, 37, 52, 16, rate),

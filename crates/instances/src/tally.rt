@@ -1,46 +1,38 @@
-// A group's count of cases and of failures, and its line.
-ghost use Rattle.std.specs.Prelude.{◌≡◌, ◌↔◌, true};
+// A group's count of cases and of failures.
+ghost use Rattle.std.specs.Iterator.{IsFinite};
 
-use std::io;
+use std::fmt;
 
-#[derive(Clone, Copy)]
+#[derive(Clone, Copy, Default)]
 pub(crate) struct Tally {
-    pub(crate) cases: u64,
-    pub(crate) failures: u64,
+    cases: u64,
+    failures: u64,
 }
 
-// No case yet.
-pub(crate) fn none() -> Tally {
-    Tally {
-        cases: 0,
-        failures: 0,
+impl Tally {
+    // The tally of these cases, each right or failed.
+    pub(crate) fn of<I: Iterator<Item = bool>>(cases: I) -> Tally
+        requires can { I.can_next cases }
+        requires ends { IsFinite (I.remaining cases) }
+    {
+        let mut tally = Tally::default();
+        for right in cases {
+            tally.add(right);
+        }
+        tally
+    }
+
+    // One case more.
+    pub(crate) fn add(&mut self, right: bool) {
+        self.cases = self.cases.wrapping_add(1);
+        if !right {
+            self.failures = self.failures.wrapping_add(1);
+        }
     }
 }
 
-// One case more, which was right or failed.
-pub(crate) fn case(tally: Tally, right: bool) -> Tally {
-    let cases = std::num::wrapping_add_u64(tally.cases, 1);
-    let failures = tally.failures;
-    if right {
-        return Tally { cases, failures };
+impl fmt::Display for Tally {
+    fn fmt<W: fmt::Write>(&self, f: &mut fmt::Formatter<W>) -> fmt::Result {
+        write!(f, "{} cases, {} failures", self.cases, self.failures)
     }
-    Tally {
-        cases,
-        failures: std::num::wrapping_add_u64(failures, 1),
-    }
-}
-
-// The bytes of a buffer are the expected ones: what most cases come down to.
-pub(crate) fn same_bytes(a: &[u8], b: &[u8]) -> bool
-    ensures { (result ≡ true) ↔ (a.now ≡ b.now) }
-{
-    a == b
-}
-
-// Writes a group's line.
-pub(crate) fn report(rt: &impl Print, name: &[u8], tally: Tally) -> io::Result<()> {
-    let cases = tally.cases;
-    let failures = tally.failures;
-    rt.write_all(name)?;
-    println!(rt; ": {cases} cases, {failures} failures")
 }

@@ -1,107 +1,84 @@
 // Labels: moves, counts, days and refusals that document 01 and ST 12-1 name.
-use crate::tally::{Tally, case, none};
+use crate::tally::Tally;
 use mtc::{MtcTime, TimeCodeType};
 
-// A label, whose rate is given by its two bits.
-pub(crate) fn label(hours: u8, minutes: u8, seconds: u8, frames: u8, rate: u8) -> MtcTime {
+pub(crate) fn label(
+    hours: u8,
+    minutes: u8,
+    seconds: u8,
+    frames: u8,
+    rate: TimeCodeType,
+) -> MtcTime {
     MtcTime {
         hours,
         minutes,
         seconds,
         frames,
-        rate: TimeCodeType::from_bits(rate),
+        rate,
     }
 }
 
-// The same label, rate included.
-pub(crate) fn same(a: MtcTime, b: MtcTime) -> bool {
-    let x = a.rate;
-    let y = b.rate;
-    let rates = x.into_bits() == y.into_bits();
-    let minutes = a.hours == b.hours && a.minutes == b.minutes;
-    rates && minutes && a.seconds == b.seconds && a.frames == b.frames
+// A label at 30 drop-frame.
+fn drop_label(hours: u8, minutes: u8, seconds: u8, frames: u8) -> MtcTime {
+    label(hours, minutes, seconds, frames, TimeCodeType::Fps30Drop)
 }
 
 // The last label of a day, whose count is the day's last.
-fn day_ends(frames: u8, rate: u8, day: u32) -> bool {
+fn day_ends(frames: u8, rate: TimeCodeType, day: u32) -> bool {
     let last = label(23, 59, 59, frames, rate);
-    if std::num::wrapping_add_u32(last.to_frame_count(), 1) != day {
-        return false;
-    }
-    same(last.add_frames(1), label(0, 0, 0, 0, rate))
+    last.to_frame_count().wrapping_add(1) == day && last.add_frames(1) == label(0, 0, 0, 0, rate)
 }
 
-// Invalid labels are refused.
-fn refused(hours: u8, minutes: u8, seconds: u8, frames: u8, rate: u8) -> bool {
-    match MtcTime::new(
-        hours,
-        minutes,
-        seconds,
-        frames,
-        TimeCodeType::from_bits(rate),
-    ) {
-        Ok(_) => false,
-        Err(_) => true,
-    }
+// A label that is not valid is refused.
+fn refused(time: MtcTime) -> bool {
+    let made = MtcTime::new(
+        time.hours,
+        time.minutes,
+        time.seconds,
+        time.frames,
+        time.rate,
+    );
+    matches!(made, Err(_))
 }
 
 // Document 01, "Instances": the moves over the minute, ten minutes and midnight at 30 drop-frame.
-fn moves(tally: Tally) -> Tally {
-    let t = case(
-        tally,
-        same(label(0, 0, 59, 28, 2).add_frames(2), label(0, 1, 0, 2, 2)),
-    );
-    let t = case(
-        t,
-        same(label(0, 9, 59, 29, 2).add_frames(1), label(0, 10, 0, 0, 2)),
-    );
-    let t = case(
-        t,
-        same(label(23, 59, 59, 29, 2).add_frames(1), label(0, 0, 0, 0, 2)),
-    );
-    let t = case(
-        t,
-        same(label(0, 1, 0, 2, 2).add_frames(-1), label(0, 0, 59, 29, 2)),
-    );
-    case(
-        t,
-        same(
-            label(0, 0, 0, 0, 2).add_frames(-1),
-            label(23, 59, 59, 29, 2),
-        ),
-    )
+fn moves() -> [bool; 5] {
+    let moved = |from: MtcTime, by: i32, to: MtcTime| from.add_frames(by) == to;
+    [
+        moved(drop_label(0, 0, 59, 28), 2, drop_label(0, 1, 0, 2)),
+        moved(drop_label(0, 9, 59, 29), 1, drop_label(0, 10, 0, 0)),
+        moved(drop_label(23, 59, 59, 29), 1, drop_label(0, 0, 0, 0)),
+        moved(drop_label(0, 1, 0, 2), -1, drop_label(0, 0, 59, 29)),
+        moved(drop_label(0, 0, 0, 0), -1, drop_label(23, 59, 59, 29)),
+    ]
 }
 
 // Document 01, "Label": the days.
-fn days(tally: Tally) -> Tally {
-    let t = case(tally, day_ends(23, 0, 2_073_600));
-    let t = case(t, day_ends(24, 1, 2_160_000));
-    let t = case(t, day_ends(29, 2, 2_589_408));
-    case(t, day_ends(29, 3, 2_592_000))
+fn days() -> [bool; 4] {
+    [
+        day_ends(23, TimeCodeType::Fps24, 2_073_600),
+        day_ends(24, TimeCodeType::Fps25, 2_160_000),
+        day_ends(29, TimeCodeType::Fps30Drop, 2_589_408),
+        day_ends(29, TimeCodeType::Fps30, 2_592_000),
+    ]
 }
 
 // Document 01, "Label": a skipped label counts as two before it, moves up to frame 2, and is refused.
-fn skipped(tally: Tally) -> Tally {
-    let t = case(tally, label(0, 1, 0, 0, 2).to_frame_count() == 1798);
-    let t = case(t, label(0, 0, 59, 28, 2).to_frame_count() == 1798);
-    let t = case(
-        t,
-        same(label(0, 1, 0, 0, 2).next_valid(), label(0, 1, 0, 2, 2)),
-    );
-    let t = case(
-        t,
-        same(label(0, 1, 0, 1, 2).next_valid(), label(0, 1, 0, 2, 2)),
-    );
-    let t = case(
-        t,
-        same(label(0, 10, 0, 0, 2).next_valid(), label(0, 10, 0, 0, 2)),
-    );
-    let t = case(t, refused(0, 1, 0, 0, 2));
-    let t = case(t, refused(24, 0, 0, 0, 3));
-    let t = case(t, refused(0, 0, 0, 25, 1));
-    case(t, !refused(0, 10, 0, 1, 2))
+fn skipped() -> [bool; 9] {
+    let next_is = |time: MtcTime, next: MtcTime| time.next_valid() == next;
+    [
+        drop_label(0, 1, 0, 0).to_frame_count() == 1798,
+        drop_label(0, 0, 59, 28).to_frame_count() == 1798,
+        next_is(drop_label(0, 1, 0, 0), drop_label(0, 1, 0, 2)),
+        next_is(drop_label(0, 1, 0, 1), drop_label(0, 1, 0, 2)),
+        next_is(drop_label(0, 10, 0, 0), drop_label(0, 10, 0, 0)),
+        refused(drop_label(0, 1, 0, 0)),
+        refused(label(24, 0, 0, 0, TimeCodeType::Fps30)),
+        refused(label(0, 0, 0, 25, TimeCodeType::Fps25)),
+        !refused(drop_label(0, 10, 0, 1)),
+    ]
 }
 
 pub(crate) fn times() -> Tally {
-    skipped(days(moves(none())))
+    Tally::of(moves().into_iter().chain(days()).chain(skipped()))
 }

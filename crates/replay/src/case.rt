@@ -1,142 +1,163 @@
-// The fields of a case. Those of the input are read at their place. Those of an answer are compared one after another: each
-// comparison answers the place after its bytes, or `WRONG`.
-ghost use Rattle.std.specs.Prelude.{◌<◌};
-
+// The parts of a case. The fields of its input are taken one after another, and so are those of its answer held to what a call gave.
 use fast_mtc::time::FlatTime;
+use std::array;
 
-// A byte of the input; 0 past its end.
-pub(crate) fn byte_at(input: &[u8], at: usize) -> u8 {
-    if at < input.len() {
-        return input[at];
-    }
-    0
+// What is left of an input; none where a field was taken past its end.
+#[derive(Clone, Copy)]
+pub(crate) struct Input<'a> {
+    left: Option<&'a [u8]>,
 }
 
-pub(crate) fn flag_at(input: &[u8], at: usize) -> bool {
-    byte_at(input, at) != 0
+impl<'a> Input<'a> {
+    pub(crate) fn new(bytes: &'a [u8]) -> Self {
+        Input { left: Some(bytes) }
+    }
+
+    // The next field.
+    pub(crate) fn take<T: Taken>(&mut self) -> T {
+        T::taken(self)
+    }
+
+    // The bytes that are left.
+    pub(crate) fn rest(&mut self) -> &'a [u8] {
+        let Some(rest) = self.left else {
+            return b"";
+        };
+        self.left = Some(b"");
+        rest
+    }
+
+    // Each byte belonged to a field, and each field had its bytes.
+    pub(crate) fn is_whole(&self) -> bool {
+        self.left.is_some_and(|left| left.is_empty())
+    }
+}
+
+// What an input has as a field. Past the end of the input each byte is 0.
+pub(crate) trait Taken: Sized {
+    fn taken(input: &mut Input<'_>) -> Self;
+}
+
+impl Taken for u8 {
+    fn taken(input: &mut Input<'_>) -> Self {
+        let first = input.left.and_then(|left| left.split_first());
+        input.left = first.map(|(_, rest)| rest);
+        first.map_or(0, |(byte, _)| *byte)
+    }
+}
+
+impl Taken for bool {
+    fn taken(input: &mut Input<'_>) -> Self {
+        input.take::<u8>() != 0
+    }
+}
+
+impl<const N: usize> Taken for [u8; N] {
+    fn taken(input: &mut Input<'_>) -> Self {
+        array::from_fn(|_| input.take())
+    }
 }
 
 // A length or a place, of two bytes.
-pub(crate) fn number_at(input: &[u8], at: usize) -> usize
-    requires { at < 65536 }
-    ensures { result < 65536 }
-{
-    let high = byte_at(input, at);
-    let low = byte_at(input, at + 1);
-    high as usize * 256 + low as usize
-}
-
-pub(crate) fn u32_at(input: &[u8], at: usize) -> u32
-    requires { at < 65534 }
-{
-    let high = number_at(input, at);
-    let low = number_at(input, at + 2);
-    (high * 65536 + low) as u32
-}
-
-// A number in two's complement.
-pub(crate) fn i32_at(input: &[u8], at: usize) -> i32
-    requires { at < 65534 }
-{
-    let bits = u32_at(input, at);
-    if bits < 0x8000_0000 {
-        return bits as i32;
-    }
-    let rest = (0xFFFF_FFFF - bits) as i32;
-    !rest
-}
-
-pub(crate) fn time_at(input: &[u8], at: usize) -> FlatTime
-    requires { at < 65536 }
-{
-    FlatTime {
-        hours: byte_at(input, at),
-        minutes: byte_at(input, at + 1),
-        seconds: byte_at(input, at + 2),
-        frames: byte_at(input, at + 3),
-        rate: byte_at(input, at + 4),
+impl Taken for usize {
+    fn taken(input: &mut Input<'_>) -> Self {
+        usize::from(u16::from_be_bytes(input.take()))
     }
 }
 
-// Eight bytes of the input.
-pub(crate) fn eight_at(input: &[u8], at: usize) -> [u8; 8]
-    requires { at < 65536 }
-{
-    [
-        byte_at(input, at),
-        byte_at(input, at + 1),
-        byte_at(input, at + 2),
-        byte_at(input, at + 3),
-        byte_at(input, at + 4),
-        byte_at(input, at + 5),
-        byte_at(input, at + 6),
-        byte_at(input, at + 7),
-    ]
-}
-
-// The bytes from `start` on; none where there are fewer.
-pub(crate) fn rest(bytes: &[u8], start: usize) -> &[u8] {
-    if start > bytes.len() {
-        return &bytes[0..0];
+impl Taken for u32 {
+    fn taken(input: &mut Input<'_>) -> Self {
+        u32::from_be_bytes(input.take())
     }
-    &bytes[start..]
 }
 
-// No place of an answer, and what comes after it is no place either.
-pub(crate) const WRONG: usize = 0xFFFF_FFFF;
+impl Taken for i32 {
+    fn taken(input: &mut Input<'_>) -> Self {
+        input.take::<u32>().cast_signed()
+    }
+}
 
-// The place after these bytes, where the answer has them at this place.
-pub(crate) fn same_at(bytes: &[u8], answer: &[u8], at: usize) -> usize {
-    let mut place = at;
-    let mut i: usize = 0;
-    while i < bytes.len() {
-        if place >= answer.len() {
-            return WRONG;
+impl Taken for FlatTime {
+    fn taken(input: &mut Input<'_>) -> Self {
+        FlatTime {
+            hours: input.take(),
+            minutes: input.take(),
+            seconds: input.take(),
+            frames: input.take(),
+            rate: input.take(),
         }
-        if answer[place] != bytes[i] {
-            return WRONG;
-        }
-        place = place + 1;
-        i = i + 1;
     }
-    place
 }
 
-pub(crate) fn byte_is(byte: u8, answer: &[u8], at: usize) -> usize {
-    let bytes = [byte];
-    same_at(&bytes, answer, at)
+// What is left of an answer.
+#[derive(Clone, Copy)]
+pub(crate) struct Answer<'a>(&'a [u8]);
+
+impl<'a> Answer<'a> {
+    pub(crate) fn new(bytes: &'a [u8]) -> Self {
+        Answer(bytes)
+    }
+
+    // What is left after a field; none where the answer has other bytes.
+    pub(crate) fn is<T: Held>(self, field: T) -> Option<Self> {
+        field.held(self)
+    }
+
+    pub(crate) fn is_empty(self) -> bool {
+        self.0.is_empty()
+    }
 }
 
-pub(crate) fn two_are(first: u8, second: u8, answer: &[u8], at: usize) -> usize {
-    let bytes = [first, second];
-    same_at(&bytes, answer, at)
+// What a call gives, as a field of an answer.
+pub(crate) trait Held: Sized {
+    fn held(self, answer: Answer<'_>) -> Option<Answer<'_>>;
+}
+
+impl Held for &[u8] {
+    fn held(self, answer: Answer<'_>) -> Option<Answer<'_>> {
+        answer.0.strip_prefix(self).map(Answer)
+    }
+}
+
+impl<const N: usize> Held for [u8; N] {
+    fn held(self, answer: Answer<'_>) -> Option<Answer<'_>> {
+        answer.is(self.as_slice())
+    }
+}
+
+impl Held for u8 {
+    fn held(self, answer: Answer<'_>) -> Option<Answer<'_>> {
+        answer.is([self])
+    }
+}
+
+impl Held for bool {
+    fn held(self, answer: Answer<'_>) -> Option<Answer<'_>> {
+        answer.is(u8::from(self))
+    }
 }
 
 // A length or a place, of two bytes.
-pub(crate) fn number_is(number: usize, answer: &[u8], at: usize) -> usize {
-    if number > 65535 {
-        return WRONG;
+impl Held for usize {
+    fn held(self, answer: Answer<'_>) -> Option<Answer<'_>> {
+        answer.is(u16::try_from(self).ok()?.to_be_bytes())
     }
-    two_are((number / 256) as u8, (number % 256) as u8, answer, at)
 }
 
-pub(crate) fn u32_is(number: u32, answer: &[u8]) -> usize {
-    let bytes = [
-        (number / 16777216) as u8,
-        (number / 65536 % 256) as u8,
-        (number / 256 % 256) as u8,
-        (number % 256) as u8,
-    ];
-    same_at(&bytes, answer, 0)
+impl Held for u32 {
+    fn held(self, answer: Answer<'_>) -> Option<Answer<'_>> {
+        answer.is(self.to_be_bytes())
+    }
 }
 
-pub(crate) fn time_is(time: FlatTime, answer: &[u8], at: usize) -> usize {
-    let bytes = [
-        time.hours,
-        time.minutes,
-        time.seconds,
-        time.frames,
-        time.rate,
-    ];
-    same_at(&bytes, answer, at)
+impl Held for FlatTime {
+    fn held(self, answer: Answer<'_>) -> Option<Answer<'_>> {
+        answer.is([
+            self.hours,
+            self.minutes,
+            self.seconds,
+            self.frames,
+            self.rate,
+        ])
+    }
 }

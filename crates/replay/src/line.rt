@@ -1,145 +1,122 @@
 // Standard input, a line at a time: the bytes of a case, from its pairs of digits.
-use crate::calls::replay;
-use crate::tally::add;
+ghost use Rattle.std.specs.Prelude.{◌≤◌};
+
+use crate::tally::Counts;
 use std::io::Read;
 
-// A line so far: how many bytes it has, and its state: the first digit of a pair, or one of these.
-#[derive(Clone, Copy)]
+#[derive(Clone, Copy, PartialEq, Eq)]
+enum State {
+    // No character yet.
+    Empty,
+    // `#` began the line.
+    Comment,
+    // The first digit of a pair came.
+    Half(u8),
+    // A pair is whole.
+    Between,
+    // A character was out of place, or there were too many.
+    Bad,
+}
+
+// A line so far: its bytes, and what its last character was. The bytes have a fixed place and a length, and no `Vec`: a program
+// without a heap has no failed allocation to answer.
+#[derive(Drop)]
 struct Line {
+    bytes: [u8; 2048],
     length: usize,
-    state: u8,
+    state: State,
+    ghost in_range: { length ≤ 2048 },
 }
 
-const BETWEEN: u8 = 16;
-
-const EMPTY: u8 = 17;
-
-const COMMENT: u8 = 18;
-
-const BAD: u8 = 19;
-
-const ENDED: u8 = 20;
-
-// A digit's value, or 16.
-fn digit(byte: u8) -> u8 {
-    if byte >= b'0' && byte <= b'9' {
-        return byte - b'0';
+// A digit's value.
+fn digit(byte: u8) -> Option<u8> {
+    match byte {
+        b'0'..=b'9' => Some(byte - b'0'),
+        b'A'..=b'F' => Some(byte - b'A' + 10),
+        _ => None,
     }
-    if byte >= b'A' && byte <= b'F' {
-        return byte - b'A' + 10;
-    }
-    16
 }
 
-// The state after a byte that is no digit. A space stands between pairs, and `#` begins a comment.
-fn mark(state: u8, byte: u8) -> u8 {
-    if byte == b'#' && state == EMPTY {
-        return COMMENT;
+impl Line {
+    fn new() -> Self {
+        Line {
+            bytes: [0; 2048],
+            length: 0,
+            state: State::Empty,
+        }
     }
-    if byte == b' ' && state == BETWEEN {
-        return BETWEEN;
-    }
-    BAD
-}
 
-// One byte more of a line. One that is out of place, or past the buffer, makes the line bad.
-fn step(line: Line, byte: u8, bytes: &mut [u8; 2048]) -> Line {
-    let length = line.length;
-    let state = line.state;
-    let low = digit(byte);
-    if state > EMPTY {
-        return line;
-    }
-    if low > 15 {
-        return Line {
-            length,
-            state: mark(state, byte),
+    // One character more. A space stands between pairs.
+    fn take(&mut self, character: u8) {
+        self.state = match self.state {
+            State::Empty if character == b'#' => State::Comment,
+            State::Between if character == b' ' => State::Between,
+            State::Empty | State::Between => digit(character).map_or(State::Bad, State::Half),
+            State::Half(high) => match digit(character) {
+                Some(low) => self.push((high << 4) | low),
+                None => State::Bad,
+            },
+            State::Comment => State::Comment,
+            State::Bad => State::Bad,
         };
     }
-    if state > 15 {
-        return Line { length, state: low };
-    }
-    if length > 2047 {
-        return Line { length, state: BAD };
-    }
-    bytes[length] = state * 16 + low;
-    Line {
-        length: length + 1,
-        state: BETWEEN,
-    }
-}
 
-// A line is whole: it is a comment, a case, or no case.
-fn finish(line: Line, bytes: &[u8; 2048], counts: &mut [u64; 256]) {
-    let state = line.state;
-    if state == COMMENT {
-        return;
-    }
-    if state == BETWEEN {
-        replay(bytes, line.length, counts);
-        return;
-    }
-    add(counts, 0, false);
-}
-
-fn take(chunk: &[u8], from: Line, bytes: &mut [u8; 2048], counts: &mut [u64; 256]) -> Line {
-    let mut line = from;
-    for byte in chunk {
-        if *byte == b'\n' {
-            finish(line, bytes, counts);
-            line = Line {
-                length: 0,
-                state: EMPTY,
-            };
-        } else {
-            line = step(line, *byte, bytes);
+    // One byte more, where there is room.
+    fn push(&mut self, byte: u8) -> State {
+        if self.length == 2048 {
+            return State::Bad;
         }
+        self.bytes[self.length] = byte;
+        self.length += 1;
+        State::Between
     }
-    line
-}
 
-// The input has ended: its last line may lack its end.
-fn ended(line: Line, bytes: &[u8; 2048], counts: &mut [u64; 256]) -> Line {
-    if line.state != EMPTY {
-        finish(line, bytes, counts);
+    // The line is whole: it is a comment, or its bytes are counted. The next one begins.
+    fn end(&mut self, counts: &mut Counts) {
+        match self.state {
+            State::Comment => {}
+            State::Between => counts.add_line(&self.bytes[..self.length]),
+            State::Empty | State::Half(_) | State::Bad => counts.add_unreadable(),
+        }
+        self.length = 0;
+        self.state = State::Empty;
     }
-    Line {
-        length: 0,
-        state: ENDED,
-    }
-}
 
-// One read. One that fails counts as a line that is no case, and ends the input.
-fn read_some<R: Read>(
-    input: &mut R,
-    line: Line,
-    bytes: &mut [u8; 2048],
-    counts: &mut [u64; 256],
-) -> Line {
-    let mut chunk = [0u8; 4096];
-    match input.read(&mut chunk) {
-        Ok(0) => ended(line, bytes, counts),
-        Ok(n) => take(&chunk[..n], line, bytes, counts),
-        Err(_) => {
-            add(counts, 0, false);
-            ended(line, bytes, counts)
+    fn take_all(&mut self, chunk: &[u8], counts: &mut Counts) {
+        for character in chunk {
+            match *character {
+                b'\n' => self.end(counts),
+                character => self.take(character),
+            }
         }
     }
 }
 
-// Reads standard input to its end, in at most a million reads; more count as a line that is no case.
-pub(crate) fn read_all(rt: &impl Input, counts: &mut [u64; 256]) {
+// Reads standard input to its end, in at most a million reads; more count as a line that is no case, and so does a read that fails,
+// which ends the input. The last line may lack its end.
+pub(crate) fn read_all(rt: &impl Input, counts: &mut Counts) {
     let mut input = rt.reader();
-    let mut bytes = [0u8; 2048];
-    let mut line = Line {
-        length: 0,
-        state: EMPTY,
-    };
+    let mut line = Line::new();
+    let mut chunk = [0u8; 4096];
     for _ in 0..1_000_000u32 {
-        line = read_some(&mut input, line, &mut bytes, counts);
-        if line.state == ENDED {
-            return;
+        match input.read(&mut chunk) {
+            Ok(0) => {
+                end_input(&mut line, counts);
+                return;
+            }
+            Ok(n) => line.take_all(&chunk[..n], counts),
+            Err(_) => {
+                counts.add_unreadable();
+                end_input(&mut line, counts);
+                return;
+            }
         }
     }
-    add(counts, 0, false);
+    counts.add_unreadable();
+}
+
+fn end_input(line: &mut Line, counts: &mut Counts) {
+    if line.state != State::Empty {
+        line.end(counts);
+    }
 }
