@@ -1,7 +1,8 @@
 // Commands and fields put into a buffer: each check in the source's order, and before it the bytes that it lets go out.
-ghost use Rattle.std.specs.Prelude.{◌≡◌, ◌≤◌};
+ghost use Rattle.std.specs.Prelude.{◌≡◌, ◌≤◌, List, ℕ};
 ghost use Rattle.universal.specs.Overlay.{overlay};
 ghost use Rattle.universal.specs.Refusals.{answer_of};
+ghost use Rattle.universal.specs.Emission.{Emission};
 ghost use Rattle.mmc.specs.Length.{within};
 ghost use Rattle.mmc.specs.Named.{put_of, extent_of};
 ghost use Rattle.mmc.specs.Item.{code_item, other_item, write_item, locate_field_item, locate_target_item, move_item, command_item, form_fits, code_fits, time_code_item, short_code_item, field_item};
@@ -104,7 +105,7 @@ fn is_time_field(name: u8) -> bool
 
 // One command.
 #[tactic(auto, unfolding(crate::specs::Item::command_item))]
-pub(crate) fn put_command(out: &mut [u8], at: usize, source: &[u8], command: MmcCommand) -> Put
+fn put_command(out: &mut [u8], at: usize, source: &[u8], command: MmcCommand) -> Put
     requires { at ≤ 40000 }
     ensures result_value { put_of result ≡ extent_of (command_item source.now command) }
     ensures out_after { out.new ≡ overlay out.old at (command_item source.now command).bytes }
@@ -183,7 +184,7 @@ fn put_short_code(out: &mut [u8], at: usize, field: u8, code: ShortTimeCode) -> 
 
 // One field.
 #[tactic(auto, unfolding(crate::specs::Item::field_item))]
-pub(crate) fn put_field(out: &mut [u8], at: usize, source: &[u8], field: InfoField) -> Put
+fn put_field(out: &mut [u8], at: usize, source: &[u8], field: InfoField) -> Put
     requires { at ≤ 40000 }
     ensures result_value { put_of result ≡ extent_of (field_item source.now field) }
     ensures out_after { out.new ≡ overlay out.old at (field_item source.now field).bytes }
@@ -192,5 +193,34 @@ pub(crate) fn put_field(out: &mut [u8], at: usize, source: &[u8], field: InfoFie
         InfoField::TimeCode { field: name, code } => put_time_code(out, at, name, code),
         InfoField::Short { field: name, code } => put_short_code(out, at, name, code),
         InfoField::Other { name, data } => put_other(out, at, source, name, data, Kind::Fields),
+    }
+}
+
+// What a string is made of, a command or a field: what goes out of one before the check that refuses it.
+pub trait Item {
+    ghost emission: { List ℕ → Self → Emission };
+
+    // Puts it into a buffer. Its parts lie in the lent source.
+    fn put(self, out: &mut [u8], at: usize, source: &[u8]) -> Put
+        requires { at ≤ 40000 }
+        ensures result_value { put_of result ≡ extent_of (emission source.now self) }
+        ensures out_after { out.new ≡ overlay out.old at (emission source.now self).bytes }
+        // A name of three bytes at most, a count byte and 127 bytes of data.
+        ensures length_at_most { result.len ≤ 131 };
+}
+
+impl Item for MmcCommand {
+    ghost emission = { command_item };
+
+    fn put(self, out: &mut [u8], at: usize, source: &[u8]) -> Put {
+        put_command(out, at, source, self)
+    }
+}
+
+impl Item for InfoField {
+    ghost emission = { field_item };
+
+    fn put(self, out: &mut [u8], at: usize, source: &[u8]) -> Put {
+        put_field(out, at, source, self)
     }
 }

@@ -16,6 +16,7 @@ pub use codes::{
 };
 pub use command::{MmcCommand, next_command};
 pub use field::{InfoField, next_field};
+pub use item::Item;
 pub use length::{Kind, Length, command_length, field_length};
 pub use message::MmcMessage;
 pub use part::Part;

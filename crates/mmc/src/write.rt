@@ -9,7 +9,7 @@ ghost use Rattle.mmc.specs.Write.{writing_of, opens_at, writing_past, or_failed,
 
 use crate::command::MmcCommand;
 use crate::field::InfoField;
-use crate::item;
+use crate::item::Item;
 use crate::message::{COMMAND, RESPONSE};
 use crate::named::Put;
 use universal::{SysexError, Universal, close};
@@ -156,28 +156,32 @@ impl Writer {
         }
     }
 
-    // Writes one command. Its parts lie in the lent source.
-    #[tactic(auto, using(universal::proofs::Laws::overlay_none, crate::proofs::Writing::ItemPuts::command_small), unfolding(crate::specs::Write::ready, crate::specs::Write::or_failed, crate::specs::Write::writing_after, crate::specs::Write::admitted))]
-    pub fn put_command(self, out: &mut [u8], source: &[u8], command: MmcCommand) -> Wrote
-        ensures writer_value { (writing_of result.writer ≡ writing_after (writing_of self) (command_item source.now command)) × (stop_of result.checked ≡ (admitted (writing_of self) (command_item source.now command)).stop) }
-        ensures out_after { out.new ≡ out_after (writing_of self) out.old (command_item source.now command) }
+    // Writes one item, a command or a field. Its parts lie in the lent source.
+    #[tactic(auto, unfolding(crate::specs::Write::ready, crate::specs::Write::or_failed, crate::specs::Write::writing_after, crate::specs::Write::admitted), using(universal::proofs::Laws::overlay_none))]
+    pub fn put<I: Item + Copy>(self, out: &mut [u8], source: &[u8], item: I) -> Wrote
+        ensures writer_value { (writing_of result.writer ≡ writing_after (writing_of self) (I.emission source.now item)) × (stop_of result.checked ≡ (admitted (writing_of self) (I.emission source.now item)).stop) }
+        ensures out_after { out.new ≡ out_after (writing_of self) out.old (I.emission source.now item) }
     {
         match self.ready() {
-            Ok(()) => self.after(item::put_command(out, self.at, source, command)),
+            Ok(()) => self.after(item.put(out, self.at, source)),
             Err(e) => self.failed(e),
         }
     }
 
+    // Writes one command, into a command string.
+    pub fn put_command(self, out: &mut [u8], source: &[u8], command: MmcCommand) -> Wrote
+        ensures writer_value { (writing_of result.writer ≡ writing_after (writing_of self) (command_item source.now command)) × (stop_of result.checked ≡ (admitted (writing_of self) (command_item source.now command)).stop) }
+        ensures out_after { out.new ≡ out_after (writing_of self) out.old (command_item source.now command) }
+    {
+        self.put(out, source, command)
+    }
+
     // Writes one field, into a response or a string of fields.
-    #[tactic(auto, using(universal::proofs::Laws::overlay_none, crate::proofs::Writing::ItemPuts::field_small), unfolding(crate::specs::Write::ready, crate::specs::Write::or_failed, crate::specs::Write::writing_after, crate::specs::Write::admitted))]
     pub fn put_field(self, out: &mut [u8], source: &[u8], field: InfoField) -> Wrote
         ensures writer_value { (writing_of result.writer ≡ writing_after (writing_of self) (field_item source.now field)) × (stop_of result.checked ≡ (admitted (writing_of self) (field_item source.now field)).stop) }
         ensures out_after { out.new ≡ out_after (writing_of self) out.old (field_item source.now field) }
     {
-        match self.ready() {
-            Ok(()) => self.after(item::put_field(out, self.at, source, field)),
-            Err(e) => self.failed(e),
-        }
+        self.put(out, source, field)
     }
 
     // Closes a command or response string: the body has 1 to 48 bytes, and the whole must fit the buffer.

@@ -14,7 +14,6 @@ use Rattle.codes.specs.TimeCode.{read_standard, read_short}
 use Rattle.mmc.proofs.RangeTests.{within_range, above_range}
 
 module _ (name d : List ℕ) (n a : Part) where
-
   module _ (l : length name ≡ 1) where
     pub no_code : 1 ≤ get_or name 0 0 → get_or name 0 0 < 32 → (length d ≡ 5 → ⊥) → Other n a ≡ field_of_case (read_field name d) n a
     unfolding read_field field_by_name
