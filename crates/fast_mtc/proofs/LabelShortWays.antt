@@ -4,7 +4,7 @@ use Prim.Native.Nat.{ℕ, zero, suc, ◌+◌, ◌-◌, ◌*◌, ◌/◌, ◌%◌
 use mathlib.Core.Path.{◌≡◌, refl, sym, subst, ap, ◌∙◌}
 use mathlib.Core.Bool.{false, true≢false}
 use mathlib.Core.Logic.{inr}
-use native.Mathlib.Nat.{mod-eq_of_lt, mul-le-mul_left, mul-le-mul_right, mul-sub, mul_assoc, mul_comm, mul-div-le, mul-add-div, mul-add-mod_self_left, div-add-mod, lt_of_mul-lt-mul_left, mod-eq-sub-div-mul}
+use native.Mathlib.Nat.{mod-eq_of_lt, mul-le-mul_right, mul-sub, mul_assoc, mul_comm, mul-div-le, mul-add-div, mul-add-mod_self_left, div-add-mod, lt_of_mul-lt-mul_left}
 use native.Mathlib.Omega.{arith}
 use lib.Dec.{T, lit<, lit≤}
 use lib.IntN.{ℤ, pos, negsuc, +ℤ_invr}
@@ -14,8 +14,8 @@ use Rattle.labels.specs.declared.time.MtcTime.{MtcTime}
 use Rattle.labels.specs.declared.time.TimeCodeType.{TimeCodeType}
 use Rattle.labels.specs.declared.time.TimeCodeType.TheVariants.{Fps24, Fps25, Fps30Drop, Fps30}
 use Rattle.labels.specs.St12.{label, frames_per_second, is_drop_frame, is_valid}
-use Rattle.labels.specs.Time.{bits_of, type_of, day_of, formula, frame_count, label_at_second, label_at, mod_z, add_frames}
-use Rattle.labels.proofs.Laws.{count_by_formula, count_below, even_label, drop_split, label_round, moved_by_count, moved_by_sum, moved_by_none, frames_later, in_range_valid, mod_below, valid_widths, bits_small, rate_back, fps_small}
+use Rattle.labels.specs.Time.{bits_of, day_of, formula, frame_count, label_at_second, label_at, mod_z, add_frames}
+use Rattle.labels.proofs.Laws.{count_by_formula, count_below, even_label, drop_split, label_round, moved_by_count, moved_by_sum, moved_by_none, frames_later, in_range_valid, mod_below, valid_widths, bits_small, fps_small}
 use Rattle.fast_mtc.specs.Label.{label_number}
 
 -- ---- rates by their bits
@@ -25,12 +25,6 @@ is_drop Fps24 e = absurd (omega arith)
 is_drop Fps25 e = absurd (omega arith)
 is_drop Fps30Drop e = refl
 is_drop Fps30 e = absurd (omega arith)
-
-pub by_bits : (r : TimeCodeType) (b n : ℕ) → bits_of r ≡ b → label_at n (type_of b) ≡ label_at n r
-by_bits r b n e = ap (label_at n) (ap type_of (sym e) ∙ rate_back r)
-
-pub bits_else : (r : TimeCodeType) → (bits_of r ≡ 2 → ⊥) → (bits_of r ≡ 0 → ⊥) → (bits_of r ≡ 1 → ⊥) → bits_of r ≡ 3
-bits_else r d a b = omega (arith, bits_small r, d, a, b)
 
 pub two_fit : (r : TimeCodeType) → 2 ≤ frames_per_second r
 two_fit Fps24 = lit≤ tt
@@ -65,17 +59,6 @@ even_frame_count t n k h = h ∙ ap (λ (x : ℕ). x % day_of t.rate) (go t.rate
     go Fps25 k = refl
     go Fps30Drop k = absurd (k refl)
     go Fps30 k = refl
-
-even_small : (a n : ℕ) (r : TimeCodeType) → a ≤ 1000000 → n ≡ frames_per_second r → a * n ≤ 30000000
-even_small a n r h e =
-    let k : a * n ≤ a * 30 = mul-le-mul_left a (rw e (fps_small r)) in
-    omega arith
-
-pub even_fits : (a n : ℕ) (r : TimeCodeType) → a ≤ 1000000 → n ≡ frames_per_second r → Fits w32 (a * n)
-even_fits a n r h e = record { fits = omega (arith, even_small a n r h e) }
-
-pub even_sum_fits : (a n f : ℕ) (r : TimeCodeType) → a ≤ 1000000 → f < 256 → n ≡ frames_per_second r → Fits w32 (a * n + f)
-even_sum_fits a n f r h l e = record { fits = omega (arith, even_small a n r h e) }
 
 pub even_told : (a n f d : ℕ) (r : TimeCodeType) → n ≡ frames_per_second r → d ≡ day_of r
     → (a * n + f) % d ≡ (a * frames_per_second r + f) % day_of r
@@ -141,9 +124,6 @@ module _ (r : TimeCodeType) (f b : ℕ) (ef : f ≡ frames_per_second r) (eb : b
     abbrev place : ℕ
     place = n - minute * (60 * f)
 
-    place_left : place ≡ n % (60 * f)
-    place_left = sym (mod-eq-sub-div-mul n (60 * f))
-
     whole : n ≡ f * (minute * 60) + place
     whole = omega (arith, mul-div-le n (60 * f), parts)
       where
@@ -203,9 +183,6 @@ number_bytes t v =
 -- A count of the day and a residue, which at most once pass the day.
 pub moved_fits : (n s : ℕ) (z : ℤ) → n < 2589408 → s ≡ mod_z z 2589408 → Fits w32 (n + s)
 moved_fits n s z h e = record { fits = omega (arith, e, mod_below z 2589408 (lit< tt)) }
-
-pub moved_none : (n s : ℕ) (z : ℤ) → s ≡ mod_z z 2589408 → n + s < 2589408 → n + s ≡ (n + mod_z z 2589408) % 2589408
-moved_none n s z e h = rw (sym e) (sym (mod-eq_of_lt h))
 
 pub moved_once : (n s : ℕ) (z : ℤ) → n < 2589408 → s ≡ mod_z z 2589408 → 2589408 ≤ n + s
     → n + s - 2589408 ≡ (n + mod_z z 2589408) % 2589408

@@ -2,11 +2,11 @@
 use Rattle.std.specs.Prelude.{Some}
 use Prim.Native.Nat.{ℕ, ◌+◌, ◌*◌, ◌/◌, ◌%◌, ◌≤◌}
 use mathlib.Core.Bool.{true}
-use mathlib.Core.Path.{◌≡◌, refl, ap}
+use mathlib.Core.Path.{◌≡◌, refl}
 use native.Mathlib.Omega.{arith}
 use Rattle.fast_mtc.specs.Generator.{is_set}
 use Rattle.fast_mtc.specs.Reader.{label_in, time_in}
-use Rattle.labels.specs.Time.{bits_of, rate_at, type_of}
+use Rattle.labels.specs.Time.{bits_of, type_of}
 use Rattle.labels.specs.declared.time.MtcTime.{MtcTime}
 use Rattle.labels.specs.declared.time.TimeCodeType.{TimeCodeType}
 use Rattle.labels.specs.declared.time.TimeCodeType.TheVariants.{Fps24, Fps25, Fps30Drop, Fps30}
@@ -45,7 +45,3 @@ mark_rate Fps30 = refl
 pub marked : (t : MtcTime) (m w : ℕ) → m ≡ 1 + 2 * bits_of t.rate → label_in t.rate w ≡ t → time_in m w ≡ Some t
 unfolding time_in
 marked t m w em e = rw (em, mark_set t.rate, mark_rate t.rate, e)
-
--- Two bits of a mark are its rate.
-pub rate_in : (m : ℕ) → type_of (m / 2 % 4) ≡ type_of (m / 2)
-rate_in m = let e : m / 2 % 4 % 4 ≡ m / 2 % 4 = omega arith in ap rate_at e

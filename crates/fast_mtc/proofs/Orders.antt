@@ -52,9 +52,6 @@ stands_begun Reverse p = refl
 pub turned : (d : Direction) (k p : ℕ) → turning d k ≡ p → passing d k p ≡ Some (opposite d)
 turned d k p h = rw (eq-eqb (turning d k) p h)
 
-pub passed_on : (d : Direction) (k p : ℕ) → (turning d k ≡ p → ⊥) → passing d k p ≡ Some d
-passed_on d k p h = rw (ne_eqb (turning d k) p h)
-
 -- ---- the test
 
 -- Every number below n passes.

@@ -179,9 +179,6 @@ pub no_label : (m : Option MtcTime) (r : FlatTime) → m ≡ None → r ≡ no_t
 unfolding flat_time
 no_label m r em er = rw (em, er)
 
-pub some_label : (m : Option MtcTime) (t : MtcTime) (r : FlatTime) → m ≡ Some t → r ≡ flat_time t → r ≡ flat_time (label_or m)
-some_label m t r em er = rw (em, er)
-
 pub not_reported : (ws : List ℕ) (n : ℕ) (a b : FlatTime) → n % 2 ≡ 0 → a ≡ no_time → b ≡ no_time
     → record { present = false; sequence = record { raw = a; current = b; direction = 0; discontinuity = false } } ≡ flat_maybe_sequence (report_in (reader_in ws) n)
 unfolding flat_maybe_sequence report_in

@@ -35,15 +35,17 @@ pub struct FlatByte {
     pub byte: u8,
 }
 
+#[tactic(auto, unfolding(crate::specs::Generator::direction_at))]
 pub fn direction_at(n: u8) -> Direction
     ensures { result ≡ direction_at n }
 {
-    if n == 0 {
-        return Direction::Forward;
+    match n {
+        0 => Direction::Forward,
+        _ => Direction::Reverse,
     }
-    Direction::Reverse
 }
 
+#[tactic(auto, unfolding(crate::specs::Generator::flat_direction))]
 pub fn flat_direction(d: Direction) -> u8
     ensures { result ≡ flat_direction d }
 {
@@ -53,6 +55,7 @@ pub fn flat_direction(d: Direction) -> u8
     }
 }
 
+#[tactic(auto, unfolding(crate::specs::Generator::piece_at))]
 pub fn piece_at(n: u8) -> Option<u8>
     ensures { result ≡ piece_at n }
 {
@@ -62,37 +65,33 @@ pub fn piece_at(n: u8) -> Option<u8>
     Some(n)
 }
 
+#[tactic(auto, unfolding(crate::specs::Generator::flat_piece))]
 pub fn flat_piece(p: Option<u8>) -> u8
     ensures { result ≡ flat_piece p }
 {
-    match p {
-        None => 255,
-        Some(n) => n,
-    }
+    p.unwrap_or(255)
 }
 
+#[tactic(auto, unfolding(crate::specs::Generator::generator_of))]
 pub fn generator_of(g: FlatGenerator) -> MtcGenerator
     ensures { result ≡ generator_of g }
 {
-    let time = g.time;
     MtcGenerator {
-        time: time_of(time),
+        time: time_of(g.time),
         direction: direction_at(g.direction),
         last: piece_at(g.last),
         running: g.running,
     }
 }
 
+#[tactic(auto, unfolding(crate::specs::Generator::flat_generator))]
 pub fn flat_generator(g: MtcGenerator) -> FlatGenerator
     ensures { result ≡ flat_generator g }
 {
-    let time = g.time;
-    let direction = g.direction;
-    let last = g.last;
     FlatGenerator {
-        time: flat_time(time),
-        direction: flat_direction(direction),
-        last: flat_piece(last),
+        time: flat_time(g.time),
+        direction: flat_direction(g.direction),
+        last: flat_piece(g.last),
         running: g.running,
     }
 }

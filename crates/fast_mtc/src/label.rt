@@ -65,15 +65,15 @@ fn drop_moved(count: u32, delta: i32) -> u32
 }
 
 // A label as one number: hours in its lowest byte, above them minutes, seconds, frames and the rate.
+#[tactic(auto, unfolding(crate::specs::Label::label_number))]
 fn number_of(t: MtcTime) -> u64
     ensures { result ≡ label_number t }
 {
-    let rate = t.rate;
     t.hours as u64
         + t.minutes as u64 * 0x100
         + t.seconds as u64 * 0x1_0000
         + t.frames as u64 * 0x100_0000
-        + rate.into_bits() as u64 * 0x1_0000_0000
+        + t.rate.into_bits() as u64 * 0x1_0000_0000
 }
 
 // The number of the label of a minute of the day and a place in it, at the rate of two bits and its frames of a second. An hour takes
@@ -123,14 +123,11 @@ fn even_number(count: u32, rate: TimeCodeType) -> u64
     requires { bits_of rate ≡ 2 → ⊥ }
     ensures { result ≡ label_number (label_at count rate) }
 {
-    let bits = rate.into_bits();
-    if bits == BITS_24 {
-        return even_number_at::<24, BITS_24>(count);
+    match rate.into_bits() {
+        BITS_24 => even_number_at::<24, BITS_24>(count),
+        BITS_25 => even_number_at::<25, BITS_25>(count),
+        _ => even_number_at::<30, BITS_30>(count),
     }
-    if bits == BITS_25 {
-        return even_number_at::<25, BITS_25>(count);
-    }
-    even_number_at::<30, BITS_30>(count)
 }
 
 // `MtcTime::to_frame_count`.
@@ -184,29 +181,20 @@ pub fn add_frames(t: MtcTime, delta: i32) -> MtcTime
 pub(crate) fn is_in_day(t: MtcTime) -> bool
     ensures { result ≡ true → (t.hours ≤ 23) × ((t.minutes ≤ 59) × (t.seconds ≤ 59)) }
 {
-    if t.hours > 23 {
-        return false;
-    }
-    if t.minutes > 59 {
-        return false;
-    }
-    t.seconds <= 59
+    t.hours <= 23 && t.minutes <= 59 && t.seconds <= 59
 }
 
 // `add_frames(2)`, most often in the same second.
 pub fn two_later(t: MtcTime) -> MtcTime
     ensures { result ≡ add_frames t (pos 2) }
 {
-    let rate = t.rate;
-    if t.frames >= rate.frames_per_second() - 2 {
+    if t.frames >= t.rate.frames_per_second() - 2 || !is_in_day(t) {
         return add_frames(t, 2);
     }
-    if !is_in_day(t) {
-        return add_frames(t, 2);
+    MtcTime {
+        frames: t.frames + 2,
+        ..t
     }
-    let mut u = t;
-    u.frames = t.frames + 2;
-    u
 }
 
 // `add_frames` of a few frames back, likewise. Below frame 2 it might end on a number that drop-frame skips.
@@ -214,19 +202,13 @@ pub fn earlier<const FRAMES: u8>(t: MtcTime) -> MtcTime
     requires { (1 ≤ FRAMES) × (FRAMES ≤ 253) }
     ensures { result ≡ add_frames t (negsuc (FRAMES - 1)) }
 {
-    let rate = t.rate;
-    if t.frames < FRAMES + 2 {
+    if t.frames < FRAMES + 2 || t.frames >= t.rate.frames_per_second() || !is_in_day(t) {
         return add_frames(t, -(FRAMES as i32));
     }
-    if t.frames >= rate.frames_per_second() {
-        return add_frames(t, -(FRAMES as i32));
+    MtcTime {
+        frames: t.frames - FRAMES,
+        ..t
     }
-    if !is_in_day(t) {
-        return add_frames(t, -(FRAMES as i32));
-    }
-    let mut u = t;
-    u.frames = t.frames - FRAMES;
-    u
 }
 
 // `Direction::next_time`: the time of the sequence after that of `t`.

@@ -1,5 +1,5 @@
 // A data byte received by the words. The order tells at once whether a piece is the next one of a sequence.
-ghost use Rattle.std.specs.Prelude.{◌≡◌, ◌+◌, ◌≤◌, ◌<◌, get_or, None};
+ghost use Rattle.std.specs.Prelude.{◌≡◌, ◌+◌, ◌≤◌, ◌<◌, get_or, Some, None};
 ghost use Rattle.mtc.specs.QuarterFrame.{piece_of, value_of};
 ghost use Rattle.mtc.specs.Reader.{after_byte, event_of};
 ghost use Rattle.mtc.specs.Generator.{after, final};
@@ -128,7 +128,7 @@ fn next<W: Way>(r: &mut [u32; 15], p: u32, byte: u8) -> u64
 // In a direction only its first piece begins a sequence.
 fn go<W: Way>(r: &mut [u32; 15], p: u32, byte: u8) -> u64
     requires { (p ≤ 7) × FirstKept r.old }
-    ensures { PassedPiece (Going W.WAY) r.old p (value_of byte) result r.new }
+    ensures { PassedPiece (Some W.WAY) r.old p (value_of byte) result r.new }
 {
     let next = W::WAY.after(p as u8) as u32;
     if p != W::WAY.first() as u32 {
@@ -143,7 +143,7 @@ fn go<W: Way>(r: &mut [u32; 15], p: u32, byte: u8) -> u64
 // The other direction than before.
 fn turn<W: Way>(r: &mut [u32; 15], p: u32, byte: u8) -> u64
     requires { (p ≤ 7) × FirstKept r.old }
-    ensures { PassedPiece (Going (opposite W.WAY)) r.old p (value_of byte) result r.new }
+    ensures { PassedPiece (Some (opposite W.WAY)) r.old p (value_of byte) result r.new }
 {
     match W::WAY {
         Direction::Forward => go::<Reverse>(r, p, byte),

@@ -13,7 +13,7 @@ use crate::time::{FlatTime, flat_time, no_time};
 use crate::words::{
     LOCKED, PREVIOUS, PREVIOUS_MARK, TIME, TIME_MARK, label_word, previous, rate_mark, time,
 };
-use mtc::{Direction, MtcEvent, MtcSequence, MtcTime, event, same};
+use mtc::{Direction, MtcEvent, MtcSequence, MtcTime, event};
 
 // The end of a full sequence: the label as it was assembled, the current one, the direction, and whether the assembled label does not
 // follow the one before it.
@@ -36,19 +36,19 @@ pub struct FlatMaybeSequence {
 
 // ---- events as numbers
 
+#[tactic(auto, unfolding(crate::specs::Reader::flat_report))]
 fn flat_report(s: MtcSequence) -> u64
-    ensures { (result ≡ flat_report (Sequence s)) × (result ≤ 7) }
+    ensures { (result ≡ flat_report (Some s)) × (result ≤ 7) }
 {
-    let direction = s.direction;
-    1 + flat_direction(direction) as u64 * 2 + s.discontinuity as u64 * 4
+    1 + flat_direction(s.direction) as u64 * 2 + s.discontinuity as u64 * 4
 }
 
+#[tactic(auto, unfolding(crate::specs::Reader::flat_event))]
 fn flat_event(e: MtcEvent) -> u64
     ensures { result ≡ flat_event e }
 {
-    let sequence = e.sequence;
     let start = e.piece as u64 + e.boundary as u64 * 256;
-    match sequence {
+    match e.sequence {
         None => start,
         Some(s) => start + flat_report(s) * 512,
     }
@@ -89,13 +89,11 @@ pub fn report_in(words: [u32; 15], report: u64) -> FlatMaybeSequence
 }
 
 // A label, or all zeros.
+#[tactic(auto, unfolding(crate::specs::Time::flat_time))]
 fn label_or(t: Option<MtcTime>) -> FlatTime
     ensures { result ≡ flat_time (label_or t) }
 {
-    match t {
-        None => no_time(),
-        Some(time) => flat_time(time),
-    }
+    t.map_or(no_time(), flat_time)
 }
 
 // ---- the end of a sequence
@@ -150,12 +148,10 @@ fn keep(r: &mut [u32; 15], s: MtcSequence, direction: Direction) -> u64
 {
     let raw = s.raw;
     let current = s.current;
-    let rate = raw.rate;
-    let after = current.rate;
     r[LOCKED] = 1;
-    r[PREVIOUS_MARK] = rate_mark(rate);
+    r[PREVIOUS_MARK] = rate_mark(raw.rate);
     r[PREVIOUS] = label_word(raw);
-    r[TIME_MARK] = rate_mark(after);
+    r[TIME_MARK] = rate_mark(current.rate);
     r[TIME] = label_word(current);
     flat_event(event(direction.last(), Some(s)))
 }
@@ -174,10 +170,7 @@ fn current(raw: MtcTime, direction: Direction) -> MtcTime
 fn jumps(previous: Option<MtcTime>, direction: Direction, raw: MtcTime) -> bool
     ensures { result ≡ jumps previous direction raw }
 {
-    let Some(t) = previous else {
-        return false;
-    };
-    !same(label::next_time(t, direction), raw)
+    previous.is_some_and(|t| label::next_time(t, direction) != raw)
 }
 
 // ---- a steady label: a sequence after the previous one, with the current one, all in one second and past the skipped numbers
@@ -193,13 +186,7 @@ fn is_steady(words: [u32; 15], raw: MtcTime, direction: Direction) -> bool
     if words[PREVIOUS_MARK] != rate_mark(rate) {
         return false;
     }
-    if !label::is_in_day(raw) {
-        return false;
-    }
-    if raw.frames < 3 {
-        return false;
-    }
-    if raw.frames >= rate.frames_per_second() - 2 {
+    if !label::is_in_day(raw) || raw.frames < 3 || raw.frames >= rate.frames_per_second() - 2 {
         return false;
     }
     let word = label_word(raw);
@@ -210,18 +197,18 @@ fn is_steady(words: [u32; 15], raw: MtcTime, direction: Direction) -> bool
 }
 
 // The report of such a label.
+#[tactic(auto, unfolding(crate::specs::Clauses::steady))]
 fn steady(raw: MtcTime, direction: Direction) -> MtcSequence
     requires { (raw.frames ≤ 27) × (1 ≤ raw.frames) }
     ensures { result ≡ steady direction raw }
 {
-    let mut current = raw;
-    current.frames = match direction {
+    let frames = match direction {
         Direction::Forward => raw.frames + 2,
         Direction::Reverse => raw.frames - 1,
     };
     MtcSequence {
         raw,
-        current,
+        current: MtcTime { frames, ..raw },
         direction,
         discontinuity: false,
     }

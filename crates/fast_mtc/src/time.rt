@@ -5,6 +5,7 @@ ghost use Rattle.fast_mtc.specs.Refusal.{refusal_in};
 ghost use Rattle.fast_mtc.specs.Time.{time_of, time_at, time_numbered, flat_time, no_time, frame_of, flat_frame};
 
 use mtc::{MtcTime, QuarterFrame, TimeCodeType};
+use universal::SysexError;
 
 // A label. Rates: 0 is 24, 1 is 25, 2 is 30 drop-frame, 3 is 30 frames per second. Only the two low bits of a rate are read.
 #[repr(C)]
@@ -32,6 +33,7 @@ pub struct EightBytes {
     pub bytes: [u8; 8],
 }
 
+#[tactic(auto, unfolding(crate::specs::Time::time_of))]
 pub fn time_of(t: FlatTime) -> MtcTime
     ensures { result ≡ time_of t }
 {
@@ -45,6 +47,7 @@ pub fn time_of(t: FlatTime) -> MtcTime
 }
 
 // The label in the first five bytes. No other is read.
+#[tactic(auto, unfolding(crate::specs::Time::time_at))]
 pub fn time_in<const N: usize>(bytes: &[u8; N]) -> MtcTime
     requires { 5 ≤ N }
     ensures { result ≡ time_at bytes.now 0 }
@@ -58,20 +61,21 @@ pub fn time_in<const N: usize>(bytes: &[u8; N]) -> MtcTime
     }
 }
 
+#[tactic(auto, unfolding(crate::specs::Time::flat_time))]
 pub fn flat_time(t: MtcTime) -> FlatTime
     ensures { result ≡ flat_time t }
 {
-    let rate = t.rate;
     FlatTime {
         hours: t.hours,
         minutes: t.minutes,
         seconds: t.seconds,
         frames: t.frames,
-        rate: rate.into_bits(),
+        rate: t.rate.into_bits(),
     }
 }
 
 // The label of a number, a byte for each count and one for the rate.
+#[tactic(auto, unfolding(crate::specs::Time::time_numbered))]
 pub fn time_numbered(n: u64) -> FlatTime
     ensures { result ≡ time_numbered n }
 {
@@ -84,6 +88,7 @@ pub fn time_numbered(n: u64) -> FlatTime
     }
 }
 
+#[tactic(auto, unfolding(crate::specs::Refusal::refusal_in))]
 pub fn flat_new(answer: Result<MtcTime, SysexError>) -> u8
     ensures { result ≡ refusal_in (answer_of answer) }
 {
@@ -106,6 +111,7 @@ pub fn no_time() -> FlatTime
     }
 }
 
+#[tactic(auto, unfolding(crate::specs::Time::frame_of))]
 pub fn frame_of(q: FlatFrame) -> QuarterFrame
     ensures { result ≡ frame_of q }
 {
@@ -115,6 +121,7 @@ pub fn frame_of(q: FlatFrame) -> QuarterFrame
     }
 }
 
+#[tactic(auto, unfolding(crate::specs::Time::flat_frame))]
 pub fn flat_frame(q: QuarterFrame) -> FlatFrame
     ensures { result ≡ flat_frame q }
 {

@@ -58,95 +58,57 @@ pub(crate) const TIME: usize = 14;
 
 // ---- the order
 
+#[tactic(auto, unfolding(crate::specs::Reader::way_in))]
 fn way_in(order: u32) -> Option<Direction>
     ensures { result ≡ way_in order }
 {
-    if order < 8 {
-        return Some(Direction::Forward);
+    match order {
+        0..=7 | 16..=23 | 42 => Some(Direction::Forward),
+        8..=15 | 24..=31 | 43 => Some(Direction::Reverse),
+        _ => None,
     }
-    if order < 16 {
-        return Some(Direction::Reverse);
-    }
-    if order < 24 {
-        return Some(Direction::Forward);
-    }
-    if order < 32 {
-        return Some(Direction::Reverse);
-    }
-    if order == 42 {
-        return Some(Direction::Forward);
-    }
-    if order == 43 {
-        return Some(Direction::Reverse);
-    }
-    None
 }
 
+#[tactic(auto, unfolding(crate::specs::Reader::last_in))]
 fn last_in(order: u32) -> Option<u8>
     ensures { result ≡ last_in order }
 {
-    if order < 8 {
-        return Some(((order + 7) % 8) as u8);
+    match order {
+        0..=7 | 16..=23 => Some(((order + 7) % 8) as u8),
+        8..=15 | 24..=31 => Some(((order + 1) % 8) as u8),
+        32..=39 => Some((order % 8) as u8),
+        40 => Some(0),
+        41 => Some(7),
+        _ => None,
     }
-    if order < 16 {
-        return Some(((order + 1) % 8) as u8);
-    }
-    if order < 24 {
-        return Some(((order + 7) % 8) as u8);
-    }
-    if order < 32 {
-        return Some(((order + 1) % 8) as u8);
-    }
-    if order < 40 {
-        return Some((order % 8) as u8);
-    }
-    if order == 40 {
-        return Some(0);
-    }
-    if order == 41 {
-        return Some(7);
-    }
-    None
 }
 
+#[tactic(auto, unfolding(crate::specs::Reader::count_in))]
 fn count_in(order: u32) -> u8
     ensures { result ≡ count_in order }
 {
-    if order < 8 {
-        return order as u8;
+    match order {
+        0..=7 => order as u8,
+        8..=15 => (15 - order) as u8,
+        40 | 41 => 1,
+        _ => 0,
     }
-    if order < 16 {
-        return (15 - order) as u8;
-    }
-    if order == 40 {
-        return 1;
-    }
-    if order == 41 {
-        return 1;
-    }
-    0
 }
 
+#[tactic(auto, unfolding(crate::specs::Reader::first_in))]
 fn first_in(order: u32, kept: u32) -> u8
     ensures { result ≡ first_in order kept }
 {
-    if order < 8 {
-        return 0;
+    match order {
+        0..=7 | 40 => 0,
+        8..=15 | 41 => 7,
+        _ => (kept % 8) as u8,
     }
-    if order < 16 {
-        return 7;
-    }
-    if order == 40 {
-        return 0;
-    }
-    if order == 41 {
-        return 7;
-    }
-    (kept % 8) as u8
 }
 
 // ---- labels
 
+#[tactic(auto, unfolding(crate::specs::Reader::label_in))]
 fn label_in(rate: TimeCodeType, w: u32) -> MtcTime
     ensures { result ≡ label_in rate w }
 {
@@ -159,6 +121,7 @@ fn label_in(rate: TimeCodeType, w: u32) -> MtcTime
     }
 }
 
+#[tactic(auto, unfolding(crate::specs::Reader::time_in))]
 pub(crate) fn time_in(mark: u32, w: u32) -> Option<MtcTime>
     ensures { result ≡ time_in mark w }
 {
@@ -182,15 +145,14 @@ pub fn rate_mark(rate: TimeCodeType) -> u32
     1 + 2 * rate.into_bits() as u32
 }
 
+#[tactic(auto, unfolding(crate::specs::Reader::flat_way))]
 pub fn flat_way(d: Option<Direction>) -> u8
     ensures { result ≡ flat_way d }
 {
-    match d {
-        None => 255,
-        Some(d) => flat_direction(d),
-    }
+    d.map_or(255, flat_direction)
 }
 
+#[tactic(auto, unfolding(crate::specs::Reader::flat_maybe_time))]
 pub fn flat_maybe_time(t: Option<MtcTime>) -> FlatMaybeTime
     ensures { result ≡ flat_maybe_time t }
 {
@@ -208,36 +170,42 @@ pub fn flat_maybe_time(t: Option<MtcTime>) -> FlatMaybeTime
 
 // ---- what a reader says
 
+#[tactic(auto, unfolding(crate::specs::Reader::reader_in))]
 pub fn is_locked(words: [u32; 15]) -> bool
     ensures { result ≡ (reader_in words).locked }
 {
     words[LOCKED] != 0
 }
 
+#[tactic(auto, unfolding(crate::specs::Reader::reader_in))]
 pub fn is_running(words: [u32; 15]) -> bool
     ensures { result ≡ (reader_in words).running }
 {
     words[ORDER] < 42
 }
 
+#[tactic(auto, unfolding(crate::specs::Reader::reader_in))]
 pub fn direction(words: [u32; 15]) -> Option<Direction>
     ensures { result ≡ (reader_in words).direction }
 {
     way_in(words[ORDER])
 }
 
+#[tactic(auto, unfolding(crate::specs::Reader::reader_in))]
 pub fn previous(words: [u32; 15]) -> Option<MtcTime>
     ensures { result ≡ (reader_in words).previous }
 {
     time_in(words[PREVIOUS_MARK], words[PREVIOUS])
 }
 
+#[tactic(auto, unfolding(crate::specs::Reader::reader_in))]
 pub fn time(words: [u32; 15]) -> Option<MtcTime>
     ensures { result ≡ (reader_in words).time }
 {
     time_in(words[TIME_MARK], words[TIME])
 }
 
+#[tactic(auto, unfolding(crate::specs::Reader::nibbles_in))]
 fn nibbles_in(words: [u32; 15]) -> [u8; 8]
     ensures { result ≡ nibbles_in words }
 {
@@ -254,6 +222,7 @@ fn nibbles_in(words: [u32; 15]) -> [u8; 8]
 }
 
 // The reader of fifteen words.
+#[tactic(auto, unfolding(crate::specs::Reader::reader_in))]
 pub fn reader_in(words: [u32; 15]) -> MtcReader
     ensures { result ≡ reader_in words }
 {
@@ -271,30 +240,28 @@ pub fn reader_in(words: [u32; 15]) -> MtcReader
     }
 }
 
+#[tactic(auto, unfolding(crate::specs::Reader::reader_fields))]
 pub fn reader_fields(r: MtcReader) -> FlatReaderFields
     ensures { result ≡ reader_fields r }
 {
     let nibbles = r.nibbles;
-    let last = r.last;
-    let direction = r.direction;
-    let previous = r.previous;
-    let time = r.time;
     FlatReaderFields {
         nibbles,
         count: r.count,
         first: r.first,
-        last: flat_piece(last),
-        direction: flat_way(direction),
+        last: flat_piece(r.last),
+        direction: flat_way(r.direction),
         locked: r.locked,
         running: r.running,
-        previous: flat_maybe_time(previous),
-        time: flat_maybe_time(time),
+        previous: flat_maybe_time(r.previous),
+        time: flat_maybe_time(r.time),
     }
 }
 
 // ---- fresh, and after a full message
 
 // `MtcReader::new`: no direction, and no piece yet.
+#[tactic(auto, unfolding(crate::specs::Reader::way_in, crate::specs::Reader::last_in, crate::specs::Reader::count_in, crate::specs::Reader::first_in, crate::specs::Reader::nibbles_in, crate::specs::Reader::time_in, crate::specs::Reader::reader_in))]
 pub fn fresh() -> [u32; 15]
     ensures { reader_in result ≡ fresh }
 {
@@ -302,16 +269,14 @@ pub fn fresh() -> [u32; 15]
 }
 
 // The order that keeps the direction and forgets the pieces.
+#[tactic(auto, using(crate::proofs::PassedPieces::stopped_none, crate::proofs::PassedPieces::stopped_forward, crate::proofs::PassedPieces::stopped_reverse))]
 fn stopped(order: u32) -> u32
     ensures { StoppedOrder order result }
 {
-    let way = way_in(order);
-    let Some(d) = way else {
-        return 44;
-    };
-    match d {
-        Direction::Forward => 42,
-        Direction::Reverse => 43,
+    match way_in(order) {
+        Some(Direction::Forward) => 42,
+        Some(Direction::Reverse) => 43,
+        None => 44,
     }
 }
 
@@ -320,11 +285,10 @@ pub fn full_message(r: &mut [u32; 15], time: MtcTime)
     ensures { reader_in r.new ≡ after_full_message (reader_in r.old) time }
 {
     let order = r[ORDER];
-    let rate = time.rate;
     r[ORDER] = stopped(order);
     r[FIRST] = first_in(order, r[FIRST]) as u32;
     r[LOCKED] = 0;
     r[PREVIOUS_MARK] = 0;
-    r[TIME_MARK] = rate_mark(rate);
+    r[TIME_MARK] = rate_mark(time.rate);
     r[TIME] = label_word(time);
 }

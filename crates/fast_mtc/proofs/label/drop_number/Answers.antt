@@ -4,8 +4,5 @@ use Rattle.fast_mtc.specs.Label.{label_number}
 use Rattle.fast_mtc.proofs.LabelShortWays.{by_quotient}
 use Rattle.fast_mtc.proofs.label.drop_number.Goals as goal
 
-pub returns-then-place-lt2 : goal.returns-then-place-lt2
-returns-then-place-lt2 c = c.number_of.ensures ∙ ap label_number c.from_frame_count.ensures
-
 pub returns : goal.returns
 returns c = c.number_in.ensures ∙ ap label_number (by_quotient _ _ _ c.requires refl refl c.if-place-lt2.false)

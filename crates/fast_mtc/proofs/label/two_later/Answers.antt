@@ -4,9 +4,6 @@ use Rattle.labels.proofs.Laws.{two_later}
 use Rattle.fast_mtc.proofs.LabelShortWays.{two_fit}
 use Rattle.fast_mtc.proofs.label.two_later.Goals as goal
 
-pub overflow_sub-frames_per_second : goal.overflow_sub-frames_per_second
-overflow_sub-frames_per_second c = rw c.frames_per_second.ensures (two_fit c.args.t.rate)
-
 pub returns : goal.returns
 returns c =
     let d = c.is_in_day.ensures c.if-not-is_in_day.false in

@@ -3,18 +3,6 @@ use Rattle.fast_mtc.proofs.PassedPieces.{below_40, kept_undirected, kept_unlocke
 use borrow.Author.Rules.{rules}
 use Rattle.fast_mtc.proofs.receive.undirected.Goals as goal
 
-pub begun-requires : goal.begun-requires
-begun-requires c = c.if-order-eq-BEGUN_AT_0.true
-
-pub returns-then-order-eq-BEGUN_AT_0 : goal.returns-then-order-eq-BEGUN_AT_0
-returns-then-order-eq-BEGUN_AT_0 c = c.begun.ensures
-
-pub begun-requires-then-order-eq-BEGUN_AT_7 : goal.begun-requires-then-order-eq-BEGUN_AT_7
-begun-requires-then-order-eq-BEGUN_AT_7 c = c.if-order-eq-BEGUN_AT_7.true
-
-pub returns-then-order-eq-BEGUN_AT_7 : goal.returns-then-order-eq-BEGUN_AT_7
-returns-then-order-eq-BEGUN_AT_7 c = c.begun-then-order-eq-BEGUN_AT_7.ensures
-
 pub go-requires : goal.go-requires
 go-requires c = (search rules, (kept_undirected c.args.r.now c.told-r c.requires.0 (below_40 _ c.requires.1 c.if-order-eq-BEGUN_AT_0.false c.if-order-eq-BEGUN_AT_7.false)))
 

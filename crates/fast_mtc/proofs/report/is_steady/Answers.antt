@@ -1,26 +1,9 @@
 -- `fast_mtc::report::is_steady` meets its contract. Assumes nothing.
-use mathlib.Core.Bool.{false≢true}
 use native.Mathlib.Omega.{arith}
 use borrow.Author.Tests.{eqb-true}
-use Rattle.fast_mtc.proofs.LabelShortWays.{two_fit}
 use Rattle.fast_mtc.proofs.SteadyLabels.{word_fits, word_room, told_forward, told_reverse}
 use Rattle.labels.proofs.Laws.{fps_small}
 use Rattle.fast_mtc.proofs.report.is_steady.Goals as goal
-
-pub returns-then-words-rate_mark : goal.returns-then-words-rate_mark
-returns-then-words-rate_mark c = λ h. absurd (false≢true h)
-
-pub returns-then-not-is_in_day : goal.returns-then-not-is_in_day
-returns-then-not-is_in_day c = λ h. absurd (false≢true h)
-
-pub returns-then-raw-lt3 : goal.returns-then-raw-lt3
-returns-then-raw-lt3 c = λ h. absurd (false≢true h)
-
-pub overflow_sub-frames_per_second : goal.overflow_sub-frames_per_second
-overflow_sub-frames_per_second c = rw c.frames_per_second.ensures (two_fit c.args.raw.rate)
-
-pub returns-then-raw-frames_per_second : goal.returns-then-raw-frames_per_second
-returns-then-raw-frames_per_second c = λ h. absurd (false≢true h)
 
 pub overflow_sub-result : goal.overflow_sub-result
 overflow_sub-result c =
