@@ -1,11 +1,8 @@
 use mathlib.Core.Path.{◌∙◌, ap}
 use Rattle.fast_mmc.specs.Numbers.{written_numbers}
-use Rattle.fast_mmc.proofs.WordPuts.{gone_none, gone_word, gone_all}
+use Rattle.fast_mmc.proofs.WordPuts.{gone_word, gone_all}
 use Rattle.universal.proofs.Clauses.{value_and_out}
 use Rattle.fast_mmc.proofs.whole.put_rest.Goals as goal
-
-pub loop-i-init : goal.loop-i-init
-loop-i-init c = gone_none _ _ _ _
 
 pub loop-i-preserved : goal.loop-i-preserved
 loop-i-preserved c =
