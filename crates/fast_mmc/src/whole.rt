@@ -1,6 +1,6 @@
 // A whole command message from words, in one call. A usual word goes out with only the position kept; from an unusual one on the
 // writer does it.
-ghost use Rattle.std.specs.Prelude.{◌≡◌, true, ◌∷◌, [], ◌+◌, ◌%◌, ◌≤◌, length, drop};
+ghost use Rattle.std.specs.Prelude.{◌≡◌, true, ◌∷◌, [], ◌+◌, ◌%◌, ◌≤◌, length};
 ghost use Rattle.universal.specs.Emission.{refusing};
 ghost use Rattle.universal.specs.Overlay.{overlay};
 ghost use Rattle.mmc.specs.Item.{command_item};
@@ -62,20 +62,18 @@ pub(crate) fn give_word(out: &mut [u8], writer: Writer, word: u64) -> Writer
     writer.put_command(out, &[], given_command(word)).writer
 }
 
-// The words from one on, by the writer, from a position on, and the close.
-fn put_rest(out: &mut [u8], words: &[u64], at: usize, from: usize) -> WrittenNumbers
-    ensures value { result ≡ written_numbers (whole_message (after_words (open_writing at from) out.old (drop from words.now)).writing (length out.old)) }
-    ensures out_after { out.new ≡ closed_out (after_words (open_writing at from) out.old (drop from words.now)) }
+// The rest of the words, by the writer, from a position and so many items on, and the close.
+fn put_rest(out: &mut [u8], words: &[u64], at: usize, items: usize) -> WrittenNumbers
+    ensures value { result ≡ written_numbers (whole_message (after_words (open_writing at items) out.old words.now).writing (length out.old)) }
+    ensures out_after { out.new ≡ closed_out (after_words (open_writing at items) out.old words.now) }
 {
     let mut w = Writer {
         at,
-        items: from,
+        items,
         checked: Ok(()),
     };
-    let mut i = from;
-    while i < words.len() {
-        w = give_word(out, w, words[i]);
-        i += 1;
+    for &word in words {
+        w = give_word(out, w, word);
     }
     written_numbers(w.close_message(out))
 }
@@ -222,14 +220,12 @@ fn put_words(out: &mut [u8], words: &[u64]) -> WrittenNumbers
     ensures out_after { out.new ≡ closed_out (after_words (open_writing 4 0) out.old words.now) }
 {
     let mut at = 4;
-    let mut i = 0;
-    while i < words.len() {
-        let next = put_whole(out, at, words[i]);
+    for (i, &word) in words.iter().enumerate() {
+        let next = put_whole(out, at, word);
         if next == at {
-            return put_rest(out, words, at, i);
+            return put_rest(out, &words[i..], at, i);
         }
         at = next;
-        i += 1;
     }
     close_at(out, at)
 }
