@@ -1,4 +1,3 @@
-mod Checks
 mod CommandWords
 mod FlatBack
 pub mod Laws

@@ -1,5 +1,5 @@
 -- Reading a word: the bytes of a time code, a name alone, and the next command of a string. Assumes nothing.
-use Rattle.std.specs.Prelude.{Result}
+use Rattle.std.specs.Prelude.{Result, Ok, Err}
 use Prim.Native.Nat.{ℕ, zero, suc, ◌+◌, ◌-◌, ◌*◌, ◌/◌, ◌%◌, ◌≤◌, ◌<◌}
 use mathlib.Core.Path.{◌≡◌, refl, sym, ap, subst, ◌∙◌}
 use mathlib.Core.Bool.{Bool, true, false, cond, true≢false}
@@ -21,6 +21,7 @@ use Rattle.mmc.specs.Command.{CommandCase, command_by_name, read_command, comman
 use Rattle.mmc.specs.Length.{command_length, within}
 use Rattle.mmc.specs.Part.{part, part_of}
 use Rattle.mmc.specs.Split.{next, next_item_of}
+use Rattle.mmc.specs.declared.split.ItemPlace.{ItemPlace}
 use Rattle.codes.specs.declared.time_code.FinalByte.TheVariants.{Subframes, Status}
 use Rattle.codes.specs.TimeCode.{bit, flag, read_status, read_final, final_value, read_standard}
 use Rattle.labels.specs.Time.{bits_of, rate_at, type_of}
@@ -217,13 +218,13 @@ counted_name b h = command_length_lem b ∙ ap (λ (x : Bool). cond x Count (Fix
 
 module _ (body : List ℕ) (place at : ℕ) (k : Result ItemPlace SysexError)
     (e : next_item_of (record { answer = k; place = at }) ≡ next Commands body place) where
-  pub prefixed_word : place < length body → get_or body place 0 ≡ 0 → (n d : Part) (w : ℕ) → k ≡ Found n d → w ≡ command_word (Other n d)
+  pub prefixed_word : place < length body → get_or body place 0 ≡ 0 → (l : ItemPlace) (w : ℕ) → k ≡ Ok l → w ≡ command_word (Other l.name l.«data»)
       → record { word = w; place = at } ≡ next_word (next_command body place)
   unfolding next_word answer_word
-  prefixed_word l z n d w q p =
-      ap (λ (v : ℕ). record { word = v; place = at }) p ∙ sym (ap next_word (command_prefixed body place at k e n d l z q))
+  prefixed_word h z l w q p =
+      ap (λ (v : ℕ). record { word = v; place = at }) p ∙ sym (ap next_word (command_prefixed body place at k e l.name l.«data» h z q))
 
-  pub word_refused : (r : SysexError) (w : ℕ) → k ≡ Refused r → w ≡ 128 + (refusal_of r).number
+  pub word_refused : (r : SysexError) (w : ℕ) → k ≡ Err r → w ≡ 128 + (refusal_of r).number
       → record { word = w; place = at } ≡ next_word (next_command body place)
   unfolding next_word answer_word
   word_refused r w q p =

@@ -2,13 +2,15 @@
 use Rattle.std.specs.Prelude.{ℕ}
 use Rattle.fast_mtc.specs.Generator.{flat_generator}
 use Rattle.fast_mmc.specs.declared.apply.FlatApplied.{FlatApplied}
-use Rattle.transport.specs.Transport.{Reply, Outcome, done, not_mine}
+use Rattle.transport.specs.Transport.{Outcome}
+use Rattle.transport.specs.declared.transport.Reply.{Reply}
+use Rattle.transport.specs.declared.transport.Reply.TheVariants.{Done, NotMine}
 use Rattle.universal.specs.Refusals.{Answer, gives, refused}
 
 -- 0 for done, 255 for another device, else the refusal.
 unfoldable pub flat_reply : Answer Reply → ℕ
-flat_reply (gives done) = 0
-flat_reply (gives not_mine) = 255
+flat_reply (gives Done) = 0
+flat_reply (gives NotMine) = 255
 flat_reply (refused r) = r.number
 
 unfoldable pub flat_applied : Outcome → FlatApplied

@@ -1,6 +1,5 @@
 -- What only the contracts of inner functions need, on the way to `next_word` and `write_words`. Assumes nothing.
-use Rattle.std.specs.Prelude.{ℕ, ◌+◌, ◌*◌, ◌/◌, ◌%◌, ◌≤◌, ◌<◌, ◌≡◌, List, true, false, ◌⊎◌, length, Option, Some, None}
-use Rattle.mmc.specs.declared.command.MmcCommand.{MmcCommand}
+use Rattle.std.specs.Prelude.{ℕ, ◌+◌, ◌*◌, ◌/◌, ◌%◌, ◌≤◌, ◌<◌, ◌≡◌, List, true, false, ◌⊎◌, length, None}
 use Rattle.mmc.specs.declared.part.Part.{Part}
 use Rattle.mmc.specs.Command.{command_by_name, command_of_case}
 use Rattle.mmc.specs.Length.{within}
@@ -20,13 +19,6 @@ AloneWord name word =
 pub data ShortWord (name : ℕ) : ℕ → Type 0 where
   longer : (name ≡ 0) ⊎ (within 64 120 name ≡ true) → ShortWord name 270
   alone_word : {word : ℕ} → word < 270 → (name ≡ 0 → ⊥) → within 64 120 name ≡ false → AloneWord name word → ShortWord name word
-
--- ---- the command of a word
-
--- A command of the code, or none.
-abbrev pub maybe_of : Option MmcCommand → Option MmcCommand
-maybe_of None = None
-maybe_of (Command c) = Some c
 
 -- ---- a message of words
 

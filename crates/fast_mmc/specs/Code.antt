@@ -1,15 +1,16 @@
 -- Time code fields as flat records, and back: the last byte is a status byte or subframes. Assumes nothing.
-use Rattle.std.specs.Prelude.{ℕ, Bool, true, false, cond, Option, Some, None}
+use Rattle.std.specs.Prelude.{ℕ, Bool, true, false, cond, List, [], ◌∷◌, Option, Some, None}
 use Rattle.fast_mtc.specs.Time.{time_of, flat_time, no_time}
 use Rattle.fast_mmc.specs.declared.code.FlatCode.{FlatCode}
 use Rattle.fast_mmc.specs.declared.code.FlatShort.{FlatShort}
 use Rattle.fast_mmc.specs.declared.code.FlatStatus.{FlatStatus}
-use Rattle.codes.specs.TimeCode.{read_status, final_value}
+use Rattle.codes.specs.TimeCode.{read_status, final_value, standard_fits, standard_list, short_fits, short_list}
 use Rattle.codes.specs.declared.time_code.FinalByte.{FinalByte}
 use Rattle.codes.specs.declared.time_code.FinalByte.TheVariants.{Subframes, Status}
 use Rattle.codes.specs.declared.time_code.ShortTimeCode.{ShortTimeCode}
 use Rattle.codes.specs.declared.time_code.StandardTimeCode.{StandardTimeCode}
 use Rattle.codes.specs.declared.time_code.TimeCodeStatus.{TimeCodeStatus}
+use Rattle.universal.specs.Refusals.{Answer, gives, refused}
 
 unfoldable pub status_of : FlatStatus → TimeCodeStatus
 status_of s =
@@ -79,6 +80,29 @@ flat_short c =
 
 abbrev pub no_short : FlatShort
 no_short = record { frames = 0; negative = false; status = false; last = 0 }
+
+-- ---- the bytes of a record, zeros on a refusal
+
+-- The bytes of an answer, or these where it has none.
+abbrev pub bytes_or : List ℕ → Answer (List ℕ) → List ℕ
+bytes_or zeros (gives bs) = bs
+bytes_or zeros (refused r) = zeros
+
+-- Five bytes, and two.
+abbrev pub five_bytes : Answer (List ℕ) → List ℕ
+five_bytes a = bytes_or (0 ∷ 0 ∷ 0 ∷ 0 ∷ 0 ∷ []) a
+
+abbrev pub two_bytes : Answer (List ℕ) → List ℕ
+two_bytes a = bytes_or (0 ∷ 0 ∷ []) a
+
+-- The bytes that come back with the answer: zeros on a refusal.
+abbrev pub standard_left : StandardTimeCode → List ℕ
+standard_left c = cond (standard_fits c) (standard_list c) (0 ∷ 0 ∷ 0 ∷ 0 ∷ 0 ∷ [])
+
+abbrev pub short_left : ShortTimeCode → List ℕ
+short_left c = cond (short_fits c) (short_list c) (0 ∷ 0 ∷ [])
+
+-- ---- names
 
 -- A name, or 0 for none.
 unfoldable pub flat_name : Option ℕ → ℕ

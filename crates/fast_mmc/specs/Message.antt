@@ -1,5 +1,5 @@
 -- The split parts of messages, and what reading them answers, as flat records, and back. Assumes nothing.
-use Rattle.std.specs.Prelude.{ℕ, Bool, true, false, cond, eqb, Option, Some, None}
+use Rattle.std.specs.Prelude.{ℕ, Bool, true, false, cond, [], ◌∷◌, eqb, Option, Some, None}
 use Rattle.fast_mtc.specs.Time.{flat_time, no_time}
 use Rattle.fast_mmc.specs.declared.message.FlatFullMessage.{FlatFullMessage}
 use Rattle.fast_mmc.specs.declared.message.FlatMmcMessage.{FlatMmcMessage}
@@ -8,7 +8,7 @@ use Rattle.fast_mmc.specs.declared.message.FlatUniversal.{FlatUniversal}
 use Rattle.fast_mmc.specs.declared.message.FlatUserBits.{FlatUserBits}
 use Rattle.mmc.specs.declared.message.MmcMessage.{MmcMessage}
 use Rattle.mmc.specs.declared.message.MmcMessage.TheVariants.{Commands, Responses}
-use Rattle.mtc.specs.UserBits.{user_bits, bits_in}
+use Rattle.mtc.specs.UserBits.{user_bits}
 use Rattle.mtc.specs.declared.full_message.FullMessage.{FullMessage}
 use Rattle.mtc.specs.declared.user_bits.UserBits.{UserBits}
 use Rattle.universal.specs.Message.{header}
@@ -43,6 +43,16 @@ unfoldable pub flat_full_message : Answer (Option FullMessage) → FlatFullMessa
 flat_full_message (gives (Some m)) = record { answer = 0; device_id = m.device_id; time = flat_time m.time }
 flat_full_message (gives None) = no_message 255
 flat_full_message (refused r) = no_message r.number
+
+-- Device 0, with all groups and flags 0.
+abbrev pub no_bits : UserBits
+no_bits = user_bits 0 (0 ∷ 0 ∷ 0 ∷ 0 ∷ 0 ∷ 0 ∷ 0 ∷ 0 ∷ []) 0
+
+-- The message of an answer, or `no_bits` where it has none.
+abbrev pub bits_in : Answer (Option UserBits) → UserBits
+bits_in (gives (Some b)) = b
+bits_in (gives None) = no_bits
+bits_in (refused r) = no_bits
 
 -- An answer with user bits beside it.
 unfoldable pub flat_read_bits : Answer (Option UserBits) → UserBits → FlatReadUserBits

@@ -1,6 +1,6 @@
 -- Writers as numbers, and back; and the items of the calls that take no record. Assumes nothing.
 use Rattle.universal.specs.declared.error.SysexError.{SysexError}
-use Rattle.std.specs.Prelude.{ℕ, ◌+◌, ◌*◌, ◌/◌, ◌%◌, cond, List, eqb, length, Result, ⊤}
+use Rattle.std.specs.Prelude.{ℕ, ◌+◌, ◌*◌, ◌/◌, ◌%◌, cond, List, eqb, length, Result, Ok, Err, ⊤}
 use Rattle.fast_mmc.specs.Refusal.{flat_stop}
 use Rattle.mmc.specs.Item.{command_item}
 use Rattle.mmc.specs.Part.{part}
@@ -11,7 +11,7 @@ use Rattle.mmc.specs.declared.command.MmcCommand.TheVariants.{Write, Other}
 use Rattle.mmc.specs.declared.write.Writer.{Writer}
 
 unfoldable pub checked_at : ℕ → ℕ → Result ⊤ SysexError
-checked_at n needed = cond (eqb n 0) Accepted (Refused (error_of n needed))
+checked_at n needed = cond (eqb n 0) (Ok tt) (Err (error_of n needed))
 
 -- The position in the lowest four bytes, the items in the next two, the refusal in the byte above them.
 unfoldable pub writer_of : ℕ → Writer

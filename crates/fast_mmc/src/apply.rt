@@ -1,11 +1,12 @@
-// The transport.
+// The transport. A record for C has numbers alone, so it is made of a call's answer by hand, here and in the modules beside it.
 ghost use Rattle.universal.specs.Refusals.{answer_of};
 ghost use Rattle.std.specs.Prelude.{◌≡◌};
-ghost use Rattle.transport.specs.Transport.{applied, applied_of};
+ghost use Rattle.transport.specs.Transport.{applied_of};
 ghost use Rattle.fast_mmc.specs.Apply.{flat_reply, flat_applied};
 
 use fast_mtc::generator::{FlatGenerator, flat_generator};
-use transport::{Applied};
+use transport::{Applied, Reply};
+use universal::SysexError;
 
 // The generator after a command. Answer 0 is done, 255 for another device, any other number a refusal: 5 or 7.
 #[repr(C)]
@@ -15,6 +16,7 @@ pub struct FlatApplied {
     pub answer: u8,
 }
 
+#[tactic(auto, unfolding(crate::specs::Apply::flat_reply))]
 pub fn flat_reply(answer: Result<Reply, SysexError>) -> u8
     ensures { result ≡ flat_reply (answer_of answer) }
 {
@@ -25,13 +27,12 @@ pub fn flat_reply(answer: Result<Reply, SysexError>) -> u8
     }
 }
 
+#[tactic(auto, unfolding(crate::specs::Apply::flat_applied))]
 pub fn flat_applied(a: Applied) -> FlatApplied
     ensures { result ≡ flat_applied (applied_of a) }
 {
-    let back = a.generator;
-    let answer = a.answer;
     FlatApplied {
-        generator: flat_generator(back),
-        answer: flat_reply(answer),
+        generator: flat_generator(a.generator),
+        answer: flat_reply(a.answer),
     }
 }

@@ -3,14 +3,11 @@ ghost use Rattle.universal.specs.Refusals.{answer_of};
 ghost use Rattle.std.specs.Prelude.{◌≡◌};
 ghost use Rattle.codes.specs.TimeCode.{final_value};
 ghost use Rattle.fast_mtc.specs.Refusal.{refusal_in};
-ghost use Rattle.fast_mmc.specs.Code.{status_of, flat_status, final_of, is_status, code_of, flat_code, no_code, short_of, flat_short, no_short, flat_name};
+ghost use Rattle.fast_mmc.specs.Code.{status_of, flat_status, final_of, is_status, code_of, flat_code, no_code, short_of, flat_short, no_short, flat_name, five_bytes, two_bytes};
 
-use crate::refusal::flat_stop;
 use fast_mtc::time::{FlatTime, flat_time, no_time, time_of};
-use mmc::{
-    FinalByte, ShortTimeCode, StandardTimeCode,
-    TimeCodeStatus,
-};
+use mmc::{FinalByte, ShortTimeCode, StandardTimeCode, TimeCodeStatus};
+use universal::SysexError;
 
 // The flags of a time code's status byte.
 #[repr(C)]
@@ -74,6 +71,7 @@ pub struct FlatShortBytes {
     pub code: TwoBytes,
 }
 
+#[tactic(auto, unfolding(crate::specs::Code::status_of))]
 pub fn status_of(s: FlatStatus) -> TimeCodeStatus
     ensures { result ≡ status_of s }
 {
@@ -85,6 +83,7 @@ pub fn status_of(s: FlatStatus) -> TimeCodeStatus
     }
 }
 
+#[tactic(auto, unfolding(crate::specs::Code::flat_status))]
 pub fn flat_status(s: TimeCodeStatus) -> FlatStatus
     ensures { result ≡ flat_status s }
 {
@@ -96,6 +95,7 @@ pub fn flat_status(s: TimeCodeStatus) -> FlatStatus
     }
 }
 
+#[tactic(auto, unfolding(crate::specs::Code::final_of))]
 pub fn final_of(status: bool, last: u8) -> FinalByte
     ensures { result ≡ final_of status last }
 {
@@ -105,6 +105,7 @@ pub fn final_of(status: bool, last: u8) -> FinalByte
     FinalByte::Subframes(last)
 }
 
+#[tactic(auto, unfolding(crate::specs::Code::is_status))]
 pub fn is_status(f: FinalByte) -> bool
     ensures { result ≡ is_status f }
 {
@@ -123,12 +124,12 @@ pub fn flat_final(f: FinalByte) -> u8
     }
 }
 
+#[tactic(auto, unfolding(crate::specs::Code::code_of))]
 pub fn code_of(c: FlatCode) -> StandardTimeCode
     ensures { result ≡ code_of c }
 {
-    let time = c.time;
     StandardTimeCode {
-        time: time_of(time),
+        time: time_of(c.time),
         color_frame: c.color_frame,
         blank: c.blank,
         negative: c.negative,
@@ -136,13 +137,13 @@ pub fn code_of(c: FlatCode) -> StandardTimeCode
     }
 }
 
+#[tactic(auto, unfolding(crate::specs::Code::flat_code))]
 pub fn flat_code(c: StandardTimeCode) -> FlatCode
     ensures { result ≡ flat_code c }
 {
-    let time = c.time;
     let last = c.final_byte;
     FlatCode {
-        time: flat_time(time),
+        time: flat_time(c.time),
         color_frame: c.color_frame,
         blank: c.blank,
         negative: c.negative,
@@ -165,6 +166,7 @@ pub fn no_code() -> FlatCode
     }
 }
 
+#[tactic(auto, unfolding(crate::specs::Code::short_of))]
 pub fn short_of(c: FlatShort) -> ShortTimeCode
     ensures { result ≡ short_of c }
 {
@@ -175,6 +177,7 @@ pub fn short_of(c: FlatShort) -> ShortTimeCode
     }
 }
 
+#[tactic(auto, unfolding(crate::specs::Code::flat_short))]
 pub fn flat_short(c: ShortTimeCode) -> FlatShort
     ensures { result ≡ flat_short c }
 {
@@ -199,33 +202,41 @@ pub fn no_short() -> FlatShort
     }
 }
 
+#[tactic(auto, unfolding(crate::specs::Code::flat_name))]
 pub fn flat_name(name: Option<u8>) -> u8
     ensures { result ≡ flat_name name }
 {
-    match name {
-        None => 0,
-        Some(n) => n,
-    }
+    name.unwrap_or(0)
 }
 
+#[tactic(auto, unfolding(fast_mtc::specs::Refusal::refusal_in))]
 pub fn flat_code_bytes(written: Result<[u8; 5], SysexError>) -> FlatCodeBytes
-    ensures { (result.refusal ≡ refusal_in (answer_of written)) × (result.code.bytes ≡ written.bytes) }
+    ensures { (result.refusal ≡ refusal_in (answer_of written)) × (result.code.bytes ≡ five_bytes (answer_of written)) }
 {
-    let checked = written.checked;
-    let bytes = written.bytes;
-    FlatCodeBytes {
-        refusal: flat_stop(checked),
-        code: FiveBytes { bytes },
+    match written {
+        Ok(bytes) => FlatCodeBytes {
+            refusal: 0,
+            code: FiveBytes { bytes },
+        },
+        Err(e) => FlatCodeBytes {
+            refusal: e.number(),
+            code: FiveBytes { bytes: [0; 5] },
+        },
     }
 }
 
+#[tactic(auto, unfolding(fast_mtc::specs::Refusal::refusal_in))]
 pub fn flat_short_bytes(written: Result<[u8; 2], SysexError>) -> FlatShortBytes
-    ensures { (result.refusal ≡ refusal_in (answer_of written)) × (result.code.bytes ≡ written.bytes) }
+    ensures { (result.refusal ≡ refusal_in (answer_of written)) × (result.code.bytes ≡ two_bytes (answer_of written)) }
 {
-    let checked = written.checked;
-    let bytes = written.bytes;
-    FlatShortBytes {
-        refusal: flat_stop(checked),
-        code: TwoBytes { bytes },
+    match written {
+        Ok(bytes) => FlatShortBytes {
+            refusal: 0,
+            code: TwoBytes { bytes },
+        },
+        Err(e) => FlatShortBytes {
+            refusal: e.number(),
+            code: TwoBytes { bytes: [0; 2] },
+        },
     }
 }

@@ -35,6 +35,7 @@ pub(crate) fn with_bytes(case: u64, first: u8, second: u8) -> u64
 // ---- names alone
 
 // A command that is a name alone, by its case.
+#[tactic(auto, unfolding(crate::specs::Word::plain_command))]
 pub(crate) fn plain_command(case: u8) -> MmcCommand
     requires { case < 9 }
     ensures { result ≡ plain_command case }
@@ -53,6 +54,7 @@ pub(crate) fn plain_command(case: u8) -> MmcCommand
 }
 
 // The byte that goes out of it.
+#[tactic(auto, using(crate::proofs::WordItems::low_sent, crate::proofs::WordItems::pause_sent, crate::proofs::WordItems::reset_sent))]
 pub(crate) fn plain_name(case: u8) -> u8
     requires { case < 9 }
     ensures { command_item [] (plain_command case) ≡ sent (result ∷ []) }
@@ -80,33 +82,33 @@ fn flag(weight: u64, set: bool) -> u64
 }
 
 // The four marks of a time code.
+#[tactic(auto, unfolding(crate::specs::Word::four_marks))]
 fn four_marks(code: StandardTimeCode) -> u64
     ensures { (result ≡ four_marks code) × (result ≤ 449) }
 {
-    let last = code.final_byte;
     flag(1, code.blank)
         + flag(64, code.color_frame)
-        + flag(128, is_status(last))
+        + flag(128, is_status(code.final_byte))
         + flag(256, code.negative)
 }
 
 // The word of a Locate to a time.
+#[tactic(auto, unfolding(crate::specs::Word::target_word))]
 fn target_word(code: StandardTimeCode) -> u64
     ensures { result ≡ target_word code }
 {
     let time = code.time;
-    let rate = time.rate;
-    let last = code.final_byte;
     LOCATE_TARGET
         + wide(time.hours) * 0x100
         + wide(time.minutes) * 0x1_0000
         + wide(time.seconds) * 0x100_0000
         + wide(time.frames) * 0x1_0000_0000
-        + wide(flat_final(last)) * 0x100_0000_0000
-        + (wide(rate.into_bits()) + four_marks(code) * 8) * 0x1_0000_0000_0000
+        + wide(flat_final(code.final_byte)) * 0x100_0000_0000
+        + (wide(time.rate.into_bits()) + four_marks(code) * 8) * 0x1_0000_0000_0000
 }
 
 // A time code by its rate, its counts, its last byte and its four marks.
+#[tactic(auto, unfolding(crate::specs::Word::marked_code))]
 fn marked_code(
     rate: u8,
     hours: u8,
@@ -185,6 +187,7 @@ fn counted_command(word: u64) -> Option<MmcCommand>
 }
 
 // The command that a number is the word of.
+#[tactic(auto, using(crate::proofs::CommandWords::plain_is, crate::proofs::CommandWords::plain_not))]
 pub(crate) fn word_command(word: u64) -> Option<MmcCommand>
     ensures { result ≡ word_command word }
 {

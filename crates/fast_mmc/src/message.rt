@@ -1,13 +1,12 @@
 // Universal messages, full messages, user bits, and machine control messages, by their split parts.
 ghost use Rattle.universal.specs.Refusals.{answer_of};
 ghost use Rattle.std.specs.Prelude.{◌≡◌};
-ghost use Rattle.mtc.specs.UserBits.{answer_with};
-ghost use Rattle.fast_mmc.specs.Message.{sub_id2_of, universal_of, user_bits_of, flat_bits, flat_full_message, flat_answer, flat_read_bits, flat_mmc_message, mmc_kind};
+ghost use Rattle.fast_mmc.specs.Message.{sub_id2_of, universal_of, user_bits_of, flat_bits, no_bits, no_message, flat_full_message, flat_user_bits, flat_mmc, flat_mmc_message, mmc_kind};
 
 use fast_mtc::time::{FlatTime, flat_time, no_time};
-use mmc::{MmcMessage};
-use mtc::{UserBits, UserBitsAnswer};
-use universal::{Universal};
+use mmc::MmcMessage;
+use mtc::{FullMessage, UserBits};
+use universal::{SysexError, Universal};
 
 // The split parts of a Universal message but its data.
 #[repr(C)]
@@ -63,15 +62,14 @@ pub struct FlatMmcMessage {
     pub device_id: u8,
 }
 
+#[tactic(auto, unfolding(crate::specs::Message::sub_id2_of))]
 pub fn sub_id2_of(has: bool, sub_id2: u8) -> Option<u8>
     ensures { result ≡ sub_id2_of has sub_id2 }
 {
-    if has {
-        return Some(sub_id2);
-    }
-    None
+    has.then_some(sub_id2)
 }
 
+#[tactic(auto, unfolding(crate::specs::Message::universal_of))]
 pub fn universal_of(u: FlatUniversal) -> Universal
     ensures { result ≡ universal_of u }
 {
@@ -83,6 +81,7 @@ pub fn universal_of(u: FlatUniversal) -> Universal
     }
 }
 
+#[tactic(auto, unfolding(crate::specs::Message::user_bits_of))]
 pub fn user_bits_of(b: FlatUserBits) -> UserBits
     ensures { result ≡ user_bits_of b }
 {
@@ -94,6 +93,7 @@ pub fn user_bits_of(b: FlatUserBits) -> UserBits
     }
 }
 
+#[tactic(auto, unfolding(crate::specs::Message::flat_bits))]
 pub fn flat_bits(b: UserBits) -> FlatUserBits
     ensures { result ≡ flat_bits b }
 {
@@ -105,91 +105,93 @@ pub fn flat_bits(b: UserBits) -> FlatUserBits
     }
 }
 
+// No full message: this answer, and all else 0.
+fn no_message(answer: u8) -> FlatFullMessage
+    ensures { result ≡ no_message answer }
+{
+    FlatFullMessage {
+        answer,
+        device_id: 0,
+        time: no_time(),
+    }
+}
+
+#[tactic(auto, unfolding(crate::specs::Message::flat_full_message))]
 pub fn flat_full_message(read: Result<Option<FullMessage>, SysexError>) -> FlatFullMessage
     ensures { result ≡ flat_full_message (answer_of read) }
 {
     match read {
-        Ok(Some(m)) => {
-            let time = m.time;
-            FlatFullMessage {
-                answer: 0,
-                device_id: m.device_id,
-                time: flat_time(time),
-            }
-        }
-        Ok(None) => FlatFullMessage {
-            answer: 255,
-            device_id: 0,
-            time: no_time(),
+        Ok(Some(m)) => FlatFullMessage {
+            answer: 0,
+            device_id: m.device_id,
+            time: flat_time(m.time),
         },
-        Err(e) => FlatFullMessage {
-            answer: e.number(),
-            device_id: 0,
-            time: no_time(),
-        },
+        Ok(None) => no_message(255),
+        Err(e) => no_message(e.number()),
     }
 }
 
-pub fn flat_answer(answer: UserBitsAnswer, bits: UserBits) -> u8
-    ensures { result ≡ flat_answer (answer_with answer bits) }
+// No user bits: this answer, and all else 0.
+#[tactic(auto, unfolding(crate::specs::Message::flat_bits))]
+fn no_bits(answer: u8) -> FlatReadUserBits
+    ensures { (result.answer ≡ answer) × (result.bits ≡ flat_bits no_bits) }
 {
-    match answer {
-        UserBitsAnswer::Message => 0,
-        UserBitsAnswer::NotThis => 255,
-        UserBitsAnswer::Refused(e) => e.number(),
+    FlatReadUserBits {
+        answer,
+        bits: FlatUserBits {
+            device_id: 0,
+            groups: [0; 8],
+            flags: 0,
+        },
     }
 }
 
+#[tactic(auto, unfolding(crate::specs::Message::flat_answer, crate::specs::Message::flat_read_bits))]
+pub fn flat_user_bits(read: Result<Option<UserBits>, SysexError>) -> FlatReadUserBits
+    ensures { result ≡ flat_user_bits (answer_of read) }
+{
+    match read {
+        Ok(Some(b)) => FlatReadUserBits {
+            answer: 0,
+            bits: flat_bits(b),
+        },
+        Ok(None) => no_bits(255),
+        Err(e) => no_bits(e.number()),
+    }
+}
+
+// A machine control message, or none: an answer, whether it is of responses, and the device.
+fn flat_mmc(answer: u8, responses: bool, device_id: u8) -> FlatMmcMessage
+    ensures { result ≡ flat_mmc answer responses device_id }
+{
+    FlatMmcMessage {
+        answer,
+        responses,
+        device_id,
+    }
+}
+
+#[tactic(auto, unfolding(crate::specs::Message::flat_mmc_message))]
 pub fn flat_mmc_message(read: Result<Option<MmcMessage>, SysexError>) -> FlatMmcMessage
     ensures { result ≡ flat_mmc_message (answer_of read) }
 {
     match read {
-        Ok(Some(m)) => match m {
-            MmcMessage::Commands { device_id } => FlatMmcMessage {
-                answer: 0,
-                responses: false,
-                device_id,
-            },
-            MmcMessage::Responses { device_id } => FlatMmcMessage {
-                answer: 0,
-                responses: true,
-                device_id,
-            },
-        },
-        Ok(None) => FlatMmcMessage {
-            answer: 255,
-            responses: false,
-            device_id: 0,
-        },
-        Err(e) => FlatMmcMessage {
-            answer: e.number(),
-            responses: false,
-            device_id: 0,
-        },
+        Ok(Some(MmcMessage::Commands { device_id })) => flat_mmc(0, false, device_id),
+        Ok(Some(MmcMessage::Responses { device_id })) => flat_mmc(0, true, device_id),
+        Ok(None) => flat_mmc(255, false, 0),
+        Err(e) => flat_mmc(e.number(), false, 0),
     }
 }
 
 // The same as one number: 0 for commands, 128 for responses, 255 for another kind, or the refusal.
+#[tactic(auto, unfolding(crate::specs::Message::mmc_kind))]
 pub fn mmc_kind(read: Result<Option<MmcMessage>, SysexError>) -> u8
     ensures { result ≡ mmc_kind (answer_of read) }
 {
     match read {
-        Ok(Some(m)) => match m {
-            MmcMessage::Commands { device_id: _ } => 0,
-            MmcMessage::Responses { device_id: _ } => 128,
-        },
+        Ok(Some(MmcMessage::Commands { .. })) => 0,
+        Ok(Some(MmcMessage::Responses { .. })) => 128,
         Ok(None) => 255,
         Err(e) => e.number(),
-    }
-}
-
-pub fn flat_user_bits(read: Result<Option<UserBits>, SysexError>) -> FlatReadUserBits
-    ensures { result ≡ flat_read_bits (answer_of read) read.bits }
-{
-    let answer = read.answer;
-    let bits = read.bits;
-    FlatReadUserBits {
-        answer: flat_answer(answer, bits),
-        bits: flat_bits(bits),
     }
 }

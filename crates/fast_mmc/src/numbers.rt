@@ -3,6 +3,7 @@ ghost use Rattle.universal.specs.Refusals.{answer_of};
 ghost use Rattle.std.specs.Prelude.{◌≡◌};
 ghost use Rattle.fast_mmc.specs.Numbers.{written_numbers};
 
+use universal::SysexError;
 
 // What a writing answers: refusal 0 and the length; 4 and the needed length; any other refusal and 0.
 #[repr(C)]
@@ -12,6 +13,7 @@ pub struct WrittenNumbers {
     pub length: usize,
 }
 
+#[tactic(auto, unfolding(crate::specs::Numbers::written_numbers))]
 pub fn written_numbers(written: Result<usize, SysexError>) -> WrittenNumbers
     ensures { result ≡ written_numbers (answer_of written) }
 {

@@ -20,11 +20,8 @@ const MOST_POSITION: u64 = 40_000;
 fn put_usual(writer: FlatWriter, out: &mut [u8], word: u64) -> FlatWriter
     ensures { PutOne word writer out.old result out.new }
 {
-    if writer / MORE_ITEMS != 0 {
-        return writer;
-    }
     let place = writer % ONE_ITEM;
-    if place > MOST_POSITION {
+    if writer / MORE_ITEMS != 0 || place > MOST_POSITION {
         return writer;
     }
     let at = place as usize;
@@ -57,8 +54,7 @@ pub fn put_write(writer: FlatWriter, out: &mut [u8], data: &[u8]) -> FlatWriter
         len: data.len(),
     };
     let wrote = writer_of(writer).put_command(out, data, MmcCommand::Write(whole));
-    let back = wrote.writer;
-    flat_writer(back)
+    flat_writer(wrote.writer)
 }
 
 // Another command, whose name and then its data stand at the front of the source.
@@ -85,6 +81,5 @@ pub fn put_other(
         data: data_at,
     };
     let wrote = writer_of(writer).put_command(out, source, other);
-    let back = wrote.writer;
-    flat_writer(back)
+    flat_writer(wrote.writer)
 }

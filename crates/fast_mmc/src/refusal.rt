@@ -3,8 +3,10 @@ ghost use Rattle.std.specs.Prelude.{◌≡◌};
 ghost use Rattle.mmc.specs.Named.{stop_of};
 ghost use Rattle.fast_mmc.specs.Refusal.{flat_stop};
 
+use universal::SysexError;
 
 // The number of a check's refusal, 0 where it was accepted.
+#[tactic(auto, unfolding(crate::specs::Refusal::flat_stop))]
 pub fn flat_stop(checked: Result<(), SysexError>) -> u8
     ensures { result ≡ flat_stop (stop_of checked) }
 {

@@ -2,15 +2,14 @@
 ghost use Rattle.mmc.specs.Split.{next_item_of};
 ghost use Rattle.universal.specs.Refusals.{answer_of};
 ghost use Rattle.std.specs.Prelude.{◌≡◌};
-ghost use Rattle.mmc.specs.Command.{next_command};
-ghost use Rattle.mmc.specs.Field.{next_field};
 ghost use Rattle.fast_mmc.specs.String.{part_at, flat_part, flat_values, command_of, flat_command, flat_command_answer, flat_next_command, field_of, coded, flat_field, flat_field_answer, flat_next_field};
 
 use crate::code::{
     FlatCode, FlatShort, code_of, flat_code, flat_short, no_code, no_short, short_of,
 };
 use crate::command::plain_command;
-use mmc::{InfoField, MmcCommand, Part};
+use mmc::{InfoField, MmcCommand, NextItem, Part};
+use universal::SysexError;
 
 // A part of lent bytes.
 #[repr(C)]
@@ -19,6 +18,12 @@ pub struct FlatPart {
     pub start: usize,
     pub length: usize,
 }
+
+// No part.
+const NO_PART: FlatPart = FlatPart {
+    start: 0,
+    length: 0,
+};
 
 // One command. The kinds are FIMBRAST_STOP, 0, to FIMBRAST_OTHER_COMMAND, 13; a kind above 13 is taken as 13. What a kind does not
 // use is 0 in an answer, and is not read in an argument.
@@ -65,6 +70,7 @@ pub struct FlatNextField {
     pub place: usize,
 }
 
+#[tactic(auto, unfolding(crate::specs::String::part_at))]
 pub fn part_at(p: FlatPart) -> Part
     ensures { result ≡ part_at p }
 {
@@ -74,6 +80,7 @@ pub fn part_at(p: FlatPart) -> Part
     }
 }
 
+#[tactic(auto, unfolding(crate::specs::String::flat_part))]
 pub fn flat_part(p: Part) -> FlatPart
     ensures { result ≡ flat_part p }
 {
@@ -92,42 +99,32 @@ pub fn flat_values(kind: u8, first: u8, second: u8) -> FlatCommand
         first,
         second,
         code: no_code(),
-        name: FlatPart {
-            start: 0,
-            length: 0,
-        },
-        data: FlatPart {
-            start: 0,
-            length: 0,
-        },
+        name: NO_PART,
+        data: NO_PART,
     }
 }
 
+#[tactic(auto, unfolding(crate::specs::String::command_of, crate::specs::Word::plain_command))]
 pub fn command_of(c: FlatCommand) -> MmcCommand
     ensures { result ≡ command_of c }
 {
-    let kind = c.kind;
-    let code = c.code;
-    let name = c.name;
-    let data = c.data;
-    if kind < 9 {
-        return plain_command(kind);
-    }
-    match kind {
-        9 => MmcCommand::Write(part_at(data)),
+    match c.kind {
+        0..=8 => plain_command(c.kind),
+        9 => MmcCommand::Write(part_at(c.data)),
         10 => MmcCommand::LocateField { register: c.first },
-        11 => MmcCommand::LocateTarget(code_of(code)),
+        11 => MmcCommand::LocateTarget(code_of(c.code)),
         12 => MmcCommand::Move {
             destination: c.first,
             source: c.second,
         },
         _ => MmcCommand::Other {
-            name: part_at(name),
-            data: part_at(data),
+            name: part_at(c.name),
+            data: part_at(c.data),
         },
     }
 }
 
+#[tactic(auto, unfolding(crate::specs::String::flat_command, crate::specs::Word::command_word))]
 pub fn flat_command(c: MmcCommand) -> FlatCommand
     ensures { result ≡ flat_command c }
 {
@@ -142,46 +139,27 @@ pub fn flat_command(c: MmcCommand) -> FlatCommand
         MmcCommand::Pause => flat_values(7, 0, 0),
         MmcCommand::Reset => flat_values(8, 0, 0),
         MmcCommand::Write(data) => FlatCommand {
-            kind: 9,
-            first: 0,
-            second: 0,
-            code: no_code(),
-            name: FlatPart {
-                start: 0,
-                length: 0,
-            },
             data: flat_part(data),
+            ..flat_values(9, 0, 0)
         },
         MmcCommand::LocateField { register } => flat_values(10, register, 0),
         MmcCommand::LocateTarget(code) => FlatCommand {
-            kind: 11,
-            first: 0,
-            second: 0,
             code: flat_code(code),
-            name: FlatPart {
-                start: 0,
-                length: 0,
-            },
-            data: FlatPart {
-                start: 0,
-                length: 0,
-            },
+            ..flat_values(11, 0, 0)
         },
         MmcCommand::Move {
             destination,
             source,
         } => flat_values(12, destination, source),
         MmcCommand::Other { name, data } => FlatCommand {
-            kind: 13,
-            first: 0,
-            second: 0,
-            code: no_code(),
             name: flat_part(name),
             data: flat_part(data),
+            ..flat_values(13, 0, 0)
         },
     }
 }
 
+#[tactic(auto, unfolding(crate::specs::String::flat_command_answer))]
 pub fn flat_command_answer(answer: Result<MmcCommand, SysexError>, place: usize) -> FlatNextCommand
     ensures { result ≡ flat_command_answer (answer_of answer) place }
 {
@@ -199,26 +177,22 @@ pub fn flat_command_answer(answer: Result<MmcCommand, SysexError>, place: usize)
     }
 }
 
+#[tactic(auto, unfolding(crate::specs::String::field_of))]
 pub fn field_of(f: FlatField) -> InfoField
     ensures { result ≡ field_of f }
 {
-    let kind = f.kind;
-    let code = f.code;
-    let short = f.short_code;
-    let name = f.name;
-    let data = f.data;
-    match kind {
+    match f.kind {
         0 => InfoField::TimeCode {
             field: f.field,
-            code: code_of(code),
+            code: code_of(f.code),
         },
         1 => InfoField::Short {
             field: f.field,
-            code: short_of(short),
+            code: short_of(f.short_code),
         },
         _ => InfoField::Other {
-            name: part_at(name),
-            data: part_at(data),
+            name: part_at(f.name),
+            data: part_at(f.data),
         },
     }
 }
@@ -232,17 +206,12 @@ pub fn coded(kind: u8, field: u8, code: FlatCode, short_code: FlatShort) -> Flat
         field,
         code,
         short_code,
-        name: FlatPart {
-            start: 0,
-            length: 0,
-        },
-        data: FlatPart {
-            start: 0,
-            length: 0,
-        },
+        name: NO_PART,
+        data: NO_PART,
     }
 }
 
+#[tactic(auto, unfolding(crate::specs::String::flat_field))]
 pub fn flat_field(f: InfoField) -> FlatField
     ensures { result ≡ flat_field f }
 {
@@ -250,16 +219,14 @@ pub fn flat_field(f: InfoField) -> FlatField
         InfoField::TimeCode { field, code } => coded(0, field, flat_code(code), no_short()),
         InfoField::Short { field, code } => coded(1, field, no_code(), flat_short(code)),
         InfoField::Other { name, data } => FlatField {
-            kind: 2,
-            field: 0,
-            code: no_code(),
-            short_code: no_short(),
             name: flat_part(name),
             data: flat_part(data),
+            ..coded(2, 0, no_code(), no_short())
         },
     }
 }
 
+#[tactic(auto, unfolding(crate::specs::String::flat_field_answer))]
 pub fn flat_field_answer(answer: Result<InfoField, SysexError>, place: usize) -> FlatNextField
     ensures { result ≡ flat_field_answer (answer_of answer) place }
 {
@@ -277,16 +244,16 @@ pub fn flat_field_answer(answer: Result<InfoField, SysexError>, place: usize) ->
     }
 }
 
+#[tactic(auto, unfolding(crate::specs::String::flat_next_command))]
 pub fn flat_next_command(n: NextItem<MmcCommand>) -> FlatNextCommand
     ensures { result ≡ flat_next_command (next_item_of n) }
 {
-    let answer = n.answer;
-    flat_command_answer(answer, n.place)
+    flat_command_answer(n.answer, n.place)
 }
 
+#[tactic(auto, unfolding(crate::specs::String::flat_next_field))]
 pub fn flat_next_field(n: NextItem<InfoField>) -> FlatNextField
     ensures { result ≡ flat_next_field (next_item_of n) }
 {
-    let answer = n.answer;
-    flat_field_answer(answer, n.place)
+    flat_field_answer(n.answer, n.place)
 }

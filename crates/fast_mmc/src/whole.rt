@@ -1,6 +1,6 @@
 // A whole command message from words, in one call. A usual word goes out with only the position kept; from an unusual one on the
 // writer does it.
-ghost use Rattle.std.specs.Prelude.{◌≡◌, true, ◌∷◌, [], ◌+◌, ◌%◌, ◌≤◌, length, drop};
+ghost use Rattle.std.specs.Prelude.{◌≡◌, true, ◌∷◌, [], ◌+◌, ◌%◌, ◌≤◌, length};
 ghost use Rattle.universal.specs.Emission.{refusing};
 ghost use Rattle.universal.specs.Overlay.{overlay};
 ghost use Rattle.mmc.specs.Item.{command_item};
@@ -10,15 +10,13 @@ ghost use Rattle.fast_mmc.specs.Word.{byte_at, word_item};
 ghost use Rattle.fast_mmc.specs.Words.{after_words, closed_out, words_answer, words_left};
 ghost use Rattle.fast_mmc.specs.Clauses.{open_writing, PutWhole, LowBytes, WordInRange, AtRate};
 
-use crate::command::{
-    LOCATE_FIELD, LOCATE_TARGET, MOVE, NAMES, plain_name, word_command,
-};
+use crate::command::{LOCATE_FIELD, LOCATE_TARGET, MOVE, NAMES, plain_name, word_command};
 use crate::locate::{put_four, put_locate_bytes};
 use crate::numbers::{WrittenNumbers, written_numbers};
 use codes::{FinalByte, StandardTimeCode, TimeCodeStatus};
 use labels::{MtcTime, TimeCodeType};
 use mmc::{MmcCommand, Writer};
-use universal::put;
+use universal::{SysexError, put};
 
 // 104, 68, 68, 98 and 28 in their bytes: above 23 hours, 59 minutes, 59 seconds, 29 frames and 99 subframes they make 128 or more.
 const ABOVE_RANGE: u64 = 0x1C62_4444_6800;
@@ -26,6 +24,7 @@ const ABOVE_RANGE: u64 = 0x1C62_4444_6800;
 const MOST_COMMANDS: usize = 48;
 
 // A command that every writer refuses with 3 before anything of it goes out: a Locate to a time with a status.
+#[tactic(auto, using(mmc::proofs::WritingSteps::locate_sent))]
 fn refused_command() -> MmcCommand
     ensures { command_item [] result ≡ refusing 3 }
 {
@@ -49,10 +48,9 @@ fn refused_command() -> MmcCommand
 fn given_command(word: u64) -> MmcCommand
     ensures { command_item [] result ≡ word_item word }
 {
-    let said = word_command(word);
-    match said {
-        None => refused_command(),
+    match word_command(word) {
         Some(command) => command,
+        None => refused_command(),
     }
 }
 
@@ -61,24 +59,21 @@ pub(crate) fn give_word(out: &mut [u8], writer: Writer, word: u64) -> Writer
     ensures result_value { writing_of result ≡ writing_after (writing_of writer) (word_item word) }
     ensures out_after { out.new ≡ out_after (writing_of writer) out.old (word_item word) }
 {
-    let wrote = writer.put_command(out, &[], given_command(word));
-    wrote.writer
+    writer.put_command(out, &[], given_command(word)).writer
 }
 
-// The words from one on, by the writer, from a position on, and the close.
-fn put_rest(out: &mut [u8], words: &[u64], at: usize, from: usize) -> WrittenNumbers
-    ensures value { result ≡ written_numbers (whole_message (after_words (open_writing at from) out.old (drop from words.now)).writing (length out.old)) }
-    ensures out_after { out.new ≡ closed_out (after_words (open_writing at from) out.old (drop from words.now)) }
+// The rest of the words, by the writer, from a position and so many items on, and the close.
+fn put_rest(out: &mut [u8], words: &[u64], at: usize, items: usize) -> WrittenNumbers
+    ensures value { result ≡ written_numbers (whole_message (after_words (open_writing at items) out.old words.now).writing (length out.old)) }
+    ensures out_after { out.new ≡ closed_out (after_words (open_writing at items) out.old words.now) }
 {
     let mut w = Writer {
         at,
-        items: from,
+        items,
         checked: Ok(()),
     };
-    let mut i = from;
-    while i < words.len() {
-        w = give_word(out, w, words[i]);
-        i += 1;
+    for &word in words {
+        w = give_word(out, w, word);
     }
     written_numbers(w.close_message(out))
 }
@@ -94,32 +89,19 @@ fn is_tenth(minutes: u8) -> bool
 fn is_low(number: u64) -> bool
     ensures { result ≡ true → LowBytes number }
 {
-    if number / 0x4_0000_0000_0000 != 0 {
-        return false;
-    }
-    if number / 0x8000 % 2 != 0 {
-        return false;
-    }
-    if number / 0x80_0000 % 2 != 0 {
-        return false;
-    }
-    if number / 0x8000_0000 % 2 != 0 {
-        return false;
-    }
-    if number / 0x80_0000_0000 % 2 != 0 {
-        return false;
-    }
-    number / 0x8000_0000_0000 % 2 == 0
+    number / 0x4_0000_0000_0000 == 0
+        && number / 0x8000 % 2 == 0
+        && number / 0x80_0000 % 2 == 0
+        && number / 0x8000_0000 % 2 == 0
+        && number / 0x80_0000_0000 % 2 == 0
+        && number / 0x8000_0000_0000 % 2 == 0
 }
 
 // True only where counts, subframes and rate are in range: the highest bits of the word and of one sum say it of all at once.
 fn is_in_range(word: u64) -> bool
     ensures { result ≡ true → WordInRange word }
 {
-    if !is_low(word) {
-        return false;
-    }
-    is_low(word + ABOVE_RANGE)
+    is_low(word) && is_low(word + ABOVE_RANGE)
 }
 
 // True only for a label in range that its rate has. What is rarely asked comes first: the compiler asks it last.
@@ -131,18 +113,12 @@ fn is_kept(word: u64) -> bool
         let frames = (word / 0x1_0000_0000 % 256) as u8;
         return frames < 24 + marks;
     }
-    if is_tenth((word / 0x1_0000 % 256) as u8) {
-        return true;
-    }
-    if marks == 3 {
+    if is_tenth((word / 0x1_0000 % 256) as u8) || marks == 3 {
         return true;
     }
     // The seconds, and the frames above them.
     let in_minute = word / 0x100_0000 % 0x1_0000;
-    if in_minute / 512 != 0 {
-        return true;
-    }
-    in_minute % 256 != 0
+    in_minute / 512 != 0 || in_minute % 256 != 0
 }
 
 // A Locate to a usual time that fits, and the position after it; any other is left, and the position stays.
@@ -152,13 +128,7 @@ fn put_locate(out: &mut [u8], at: usize, word: u64) -> usize
     ensures put_whole { PutWhole word at out.old result out.new }
 {
     let next = at + 8;
-    if out.len() < next {
-        return at;
-    }
-    if !is_in_range(word) {
-        return at;
-    }
-    if !is_kept(word) {
+    if out.len() < next || !is_in_range(word) || !is_kept(word) {
         return at;
     }
     let hours = (word / 0x100 % 256) as u8;
@@ -179,13 +149,7 @@ fn put_register(out: &mut [u8], at: usize, word: u64) -> usize
     ensures put_whole { PutWhole word at out.old result out.new }
 {
     let register = (word / 0x100 % 256) as u8;
-    if word / 0x1_0000 != 0 {
-        return at;
-    }
-    if register < 8 {
-        return at;
-    }
-    if register > 15 {
+    if word / 0x1_0000 != 0 || register < 8 || register > 15 {
         return at;
     }
     put_four(out, at, [0x44, 2, 0, register]);
@@ -200,19 +164,12 @@ fn put_move(out: &mut [u8], at: usize, word: u64) -> usize
 {
     let destination = (word / 0x100 % 256) as u8;
     let source = (word / 0x1_0000 % 256) as u8;
-    if word / 0x100_0000 != 0 {
-        return at;
-    }
-    if destination == 0 {
-        return at;
-    }
-    if destination > 31 {
-        return at;
-    }
-    if source == 0 {
-        return at;
-    }
-    if source > 31 {
+    if word / 0x100_0000 != 0
+        || destination == 0
+        || destination > 31
+        || source == 0
+        || source > 31
+    {
         return at;
     }
     put_four(out, at, [0x4C, 2, destination, source]);
@@ -263,14 +220,12 @@ fn put_words(out: &mut [u8], words: &[u64]) -> WrittenNumbers
     ensures out_after { out.new ≡ closed_out (after_words (open_writing 4 0) out.old words.now) }
 {
     let mut at = 4;
-    let mut i = 0;
-    while i < words.len() {
-        let next = put_whole(out, at, words[i]);
+    for (i, &word) in words.iter().enumerate() {
+        let next = put_whole(out, at, word);
         if next == at {
-            return put_rest(out, words, at, i);
+            return put_rest(out, &words[i..], at, i);
         }
         at = next;
-        i += 1;
     }
     close_at(out, at)
 }
@@ -281,13 +236,7 @@ fn close_at(out: &mut [u8], at: usize) -> WrittenNumbers
     ensures value { result ≡ written_numbers (whole_message (open_writing at 0) (length out.old)) }
     ensures out_after { out.new ≡ overlay out.old at (closed_message (open_writing at 0)).bytes }
 {
-    if at < 5 {
-        return WrittenNumbers {
-            refusal: 2,
-            length: 0,
-        };
-    }
-    if at > 52 {
+    if at < 5 || at > 52 {
         return WrittenNumbers {
             refusal: 2,
             length: 0,

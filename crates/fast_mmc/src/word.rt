@@ -9,7 +9,7 @@ ghost use Rattle.fast_mmc.specs.Clauses.{ShortWord};
 
 use crate::command::{LOCATE_FIELD, LOCATE_TARGET, MOVE, wide, with_bytes};
 use codes::TimeCodeStatus;
-use mmc::{Kind, Part, next_parts};
+use mmc::{ItemPlace, Kind, NextItem, Part, next_parts};
 use universal::SysexError;
 
 // The case of a Write, whose data is told by its length.
@@ -79,6 +79,7 @@ fn marks_read(four: u64) -> u64
 }
 
 // The word of a Locate to the time of five bytes.
+#[tactic(auto, using(crate::proofs::WordReading::target_read))]
 fn target_read(hr: u8, mn: u8, sc: u8, fr: u8, ff: u8) -> u64
     ensures { result ≡ target_word (read_standard hr mn sc fr ff) }
 {
@@ -90,64 +91,54 @@ fn target_read(hr: u8, mn: u8, sc: u8, fr: u8, ff: u8) -> u64
 }
 
 // A name and data that are no known command.
-fn other_word(name_at: Part, data_at: Part) -> u64
-    ensures { result ≡ command_word (Other name_at data_at) }
+#[tactic(auto, unfolding(crate::specs::Word::command_word))]
+fn other_word(item: ItemPlace) -> u64
+    ensures { result ≡ command_word (Other item.name item.«data») }
 {
-    with_bytes(OTHER, (name_at.len % 256) as u8, (data_at.len % 256) as u8)
+    with_bytes(
+        OTHER,
+        (item.name.len % 256) as u8,
+        (item.data.len % 256) as u8,
+    )
 }
 
-// The command of a name that has a count, and of its data, which lie at these parts of the string.
-fn read_word(name: u8, data: &[u8], name_at: Part, data_at: Part) -> u64
+// The command of a name that has a count, and of its data, which lie at this place of the string.
+#[tactic(auto, unfolding(crate::specs::Word::command_word))]
+fn read_word(name: u8, data: &[u8], item: ItemPlace) -> u64
     requires { (64 ≤ name) × (name < 120) }
-    ensures { result ≡ command_word (command_of_case (command_by_name name «data».now) name_at data_at) }
+    ensures { result ≡ command_word (command_of_case (command_by_name name «data».now) item.name item.«data») }
 {
     match name {
-        0x40 => with_bytes(WRITE, 0, (data_at.len % 256) as u8),
-        0x44 => locate_word(data, name_at, data_at),
-        0x4C => move_word(data, name_at, data_at),
-        _ => other_word(name_at, data_at),
+        0x40 => with_bytes(WRITE, 0, (item.data.len % 256) as u8),
+        0x44 => locate_word(data, item),
+        0x4C => move_word(data, item),
+        _ => other_word(item),
     }
 }
 
 // Locate, by its sub-command.
-fn locate_word(data: &[u8], name_at: Part, data_at: Part) -> u64
-    ensures { result ≡ command_word (command_of_case (read_locate «data».now) name_at data_at) }
+#[tactic(auto, unfolding(crate::specs::Word::command_word, mmc::specs::Command::read_locate))]
+fn locate_word(data: &[u8], item: ItemPlace) -> u64
+    ensures { result ≡ command_word (command_of_case (read_locate «data».now) item.name item.«data») }
 {
-    if data.len() < 2 {
-        return other_word(name_at, data_at);
+    match *data {
+        [0, register, ..] if register != 0 => with_bytes(LOCATE_FIELD, register, 0),
+        [1, hr, mn, sc, fr, ff, ..] => target_read(hr, mn, sc, fr, ff),
+        _ => other_word(item),
     }
-    if data[0] == 0 {
-        let register = data[1];
-        if register == 0 {
-            return other_word(name_at, data_at);
-        }
-        return with_bytes(LOCATE_FIELD, register, 0);
-    }
-    if data[0] != 1 {
-        return other_word(name_at, data_at);
-    }
-    if data.len() < 6 {
-        return other_word(name_at, data_at);
-    }
-    target_read(data[1], data[2], data[3], data[4], data[5])
 }
 
 // Move, where both names are given.
-fn move_word(data: &[u8], name_at: Part, data_at: Part) -> u64
-    ensures { result ≡ command_word (command_of_case (read_move «data».now) name_at data_at) }
+#[tactic(auto, unfolding(crate::specs::Word::command_word, mmc::specs::Command::read_move))]
+fn move_word(data: &[u8], item: ItemPlace) -> u64
+    ensures { result ≡ command_word (command_of_case (read_move «data».now) item.name item.«data») }
 {
-    if data.len() < 2 {
-        return other_word(name_at, data_at);
+    match *data {
+        [destination, source, ..] if destination != 0 && source != 0 => {
+            with_bytes(MOVE, destination, source)
+        }
+        _ => other_word(item),
     }
-    let destination = data[0];
-    let source = data[1];
-    if destination == 0 {
-        return other_word(name_at, data_at);
-    }
-    if source == 0 {
-        return other_word(name_at, data_at);
-    }
-    with_bytes(MOVE, destination, source)
 }
 
 // A refusal's number and 128.
@@ -198,13 +189,15 @@ fn counted_word(body: &[u8], place: usize) -> NextWord
         };
     }
     let end = start + count;
-    let name_at = Part {
-        start: place,
-        len: 1,
+    let item = ItemPlace {
+        name: Part {
+            start: place,
+            len: 1,
+        },
+        data: Part { start, len: count },
     };
-    let data_at = Part { start, len: count };
     NextWord {
-        word: read_word(body[place], &body[start..end], name_at, data_at),
+        word: read_word(body[place], &body[start..end], item),
         place: end,
     }
 }
@@ -214,15 +207,16 @@ fn prefixed_word(body: &[u8], place: usize) -> NextWord
     requires { (place < length body.now) × (get_or body.now place 0 ≡ 0) }
     ensures { result ≡ next_word (next_command body.now place) }
 {
-    let NextItem<ItemPlace> { answer, place } = next_parts(body, place, Kind::Commands);
+    let NextItem { answer, place } = next_parts(body, place, Kind::Commands);
     let word = match answer {
-        Ok(ItemPlace { name, data }) => other_word(name, data),
+        Ok(item) => other_word(item),
         Err(e) => refusal_word(e),
     };
     NextWord { word, place }
 }
 
 // `next_command` as one number.
+#[tactic(auto, using(crate::proofs::WordReading::end_word))]
 pub fn next_word(body: &[u8], place: usize) -> NextWord
     ensures { result ≡ next_word (next_command body.now place) }
 {

@@ -6,9 +6,6 @@ use Rattle.fast_mmc.proofs.put.put_usual.Goals as goal
 pub returns-then-writer-ne0 : goal.returns-then-writer-ne0
 returns-then-writer-ne0 c = stayed
 
-pub returns-then-place-gt-MOST_POSITION : goal.returns-then-place-gt-MOST_POSITION
-returns-then-place-gt-MOST_POSITION c = stayed
-
 pub returns-then-next-at : goal.returns-then-next-at
 returns-then-next-at c = left_still _ _ _ _ (put_nothing _ _ _ _ _ c.put_small-next.ensures.put_whole c.if-next-at.true)
 

@@ -1,12 +1,9 @@
-use Prim.Native.Nat.{◌-◌}
-use lib.ListN.{length}
-use Rattle.fast_mmc.specs.Clauses.{open_writing}
+-- `fast_mmc::whole::put_rest` meets its contract. The loop's invariant: the words so far lead from the opening to this writer and buffer.
+-- Assumes nothing.
 use Rattle.mmc.specs.Write.{writing_of}
+use Rattle.fast_mmc.specs.Clauses.{open_writing}
 use Rattle.fast_mmc.proofs.WordPuts.{Gone}
 use Rattle.fast_mmc.proofs.whole.put_rest.Given as goal
 
-abbrev pub invariant-loop-i : goal.invariant-loop-i
-invariant-loop-i l = Gone (open_writing l.at l.from) l.initial.out l.from l.words (writing_of l.w) l.out l.i
-
-abbrev pub decreases-loop-i : goal.decreases-loop-i
-decreases-loop-i l = length l.words - l.i
+abbrev pub invariant-loop-word : goal.invariant-loop-word
+invariant-loop-word l = Gone (open_writing l.at l.items) l.initial.out 0 l.words (writing_of l.w) l.out l.word-index

@@ -2,14 +2,10 @@ use Rattle.fast_mmc.proofs.WordReading.{counted_name, no_count_word, few_data_wo
 use Rattle.mmc.proofs.ReadingLaws.{part_inside, within_range}
 use native.Mathlib.Omega.{arith}
 use native.Mathlib.Nat.{add-sub_cancel_left}
-use Prim.Native.Nat.{◌+◌}
 use Rattle.fast_mmc.proofs.word.counted_word.Goals as goal
 
 pub returns-then-after-body : goal.returns-then-after-body
 returns-then-after-body c = no_count_word _ _ c.requires.0 (counted_name _ (within_range 64 120 _ c.requires.1.0 c.requires.1.1)) c.if-after-body.true
-
-pub overflow_cast-count : goal.overflow_cast-count
-overflow_cast-count c = omega (arith, c.shared_slice_known-2-1.given (c.args.place + 1))
 
 pub returns-then-count-body : goal.returns-then-count-body
 returns-then-count-body c =
