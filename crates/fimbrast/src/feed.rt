@@ -17,6 +17,7 @@ pub struct FlatFed {
 }
 
 // A byte reported this.
+#[tactic(auto, unfolding(crate::specs::Feed::flat_counted))]
 fn counted(f: FlatFed, report: u64) -> FlatFed
     requires { (f.reports < 18446744073709551615) × (f.discontinuities < 18446744073709551615) }
     ensures { result ≡ flat_counted f report }
@@ -40,11 +41,9 @@ pub fn fimbrast_feed(reader: &mut [u32; 15], bytes: &[u8]) -> FlatFed
         discontinuities: 0,
         last: 0,
     };
-    let mut i = 0;
-    while i < bytes.len() {
-        let event = receive(reader, bytes[i]);
+    for &byte in bytes {
+        let event = receive(reader, byte);
         f = counted(f, event / 512);
-        i += 1;
     }
     f
 }

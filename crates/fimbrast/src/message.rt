@@ -1,8 +1,7 @@
 // Universal messages, full messages, user bits, and machine control messages, by their split parts.
-ghost use Rattle.std.specs.Prelude.{◌≡◌, length};
+ghost use Rattle.std.specs.Prelude.{◌≡◌, length, None};
 ghost use Rattle.universal.specs.Emission.{answer};
 ghost use Rattle.universal.specs.Message.{is_addressed, has_sub_id2, header, message};
-ghost use Rattle.universal.specs.declared.message.MaybeSubId2.TheVariants.{NoSubId2};
 ghost use Rattle.universal.specs.Overlay.{overlay};
 ghost use Rattle.mtc.specs.FullMessage.{full_message, full_message_from, full_message_written};
 ghost use Rattle.mtc.specs.UserBits.{user_bits_from, user_bits_written, group_bytes};
@@ -19,7 +18,7 @@ use fast_mmc::{WrittenNumbers, written_numbers};
 use fast_mtc::time::{FlatTime, time_of};
 use mmc::MmcMessage;
 use mtc::{FullMessage, UserBits};
-use universal::{Universal};
+use universal::Universal;
 
 // `addressed`: a message for `device_id` is for the device `own`.
 pub fn fimbrast_addressed(device_id: u8, own: u8) -> bool
@@ -99,7 +98,7 @@ pub fn fimbrast_mmc_message_read(header: FlatUniversal, data: &[u8]) -> FlatMmcM
 // The same as one number, for a caller that has the device, which decides nothing: 0 commands, 128 responses, 255 another kind, any
 // other number a refusal.
 pub fn fimbrast_mmc_kind(real_time: bool, sub_id1: u8, data: &[u8]) -> u8
-    ensures { result ≡ mmc_kind (message_from (header real_time 0 sub_id1 NoSubId2) «data».now) }
+    ensures { result ≡ mmc_kind (message_from (header real_time 0 sub_id1 None) «data».now) }
 {
     let parts = Universal {
         real_time,

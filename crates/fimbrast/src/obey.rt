@@ -20,20 +20,20 @@ pub struct FlatRun {
 }
 
 // What became of a message's data, in numbers.
+#[tactic(auto, unfolding(crate::specs::Obey::flat_summary))]
 fn flat_run(run: Obeyed) -> FlatRun
     ensures { result ≡ flat_summary (obeyed_of run) }
 {
-    let generator = run.generator;
-    let stop = run.stop;
     FlatRun {
-        generator: flat_generator(generator),
+        generator: flat_generator(run.generator),
         commands: run.commands,
         refused: run.refused,
-        stop: stop.number(),
+        stop: run.stop.number(),
     }
 }
 
 // `obey`: a message's data, read from the front to its end, each command applied as it is read.
+#[tactic(auto, unfolding(crate::specs::Obey::flat_run))]
 pub fn fimbrast_obey(generator: FlatGenerator, device_id: u8, own: u8, body: &[u8]) -> FlatRun
     ensures { result ≡ flat_run (obey body.now device_id own (generator_of generator)) }
 {

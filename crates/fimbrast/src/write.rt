@@ -46,9 +46,8 @@ pub fn fimbrast_put_command(
     ensures value { result ≡ writer_after writer (command_item source.now (command_of command)) }
     ensures out_after { out.new ≡ out_after (writing_at writer) out.old (command_item source.now (command_of command)) }
 {
-    let wrote = writer_of(writer).put_command(out, source, command_of(command));
-    let back = wrote.writer;
-    flat_writer(back)
+    let wrote = writer_of(writer).put(out, source, command_of(command));
+    flat_writer(wrote.writer)
 }
 
 // One command by its word, as `fimbrast_next_word` gives it. A number that is no word of a name alone, of a Locate or of a Move is
@@ -92,9 +91,8 @@ pub fn fimbrast_put_field(
     ensures value { result ≡ writer_after writer (field_item source.now (field_of field)) }
     ensures out_after { out.new ≡ out_after (writing_at writer) out.old (field_item source.now (field_of field)) }
 {
-    let wrote = writer_of(writer).put_field(out, source, field_of(field));
-    let back = wrote.writer;
-    flat_writer(back)
+    let wrote = writer_of(writer).put(out, source, field_of(field));
+    flat_writer(wrote.writer)
 }
 
 // `write_commands` and `write_responses` close: F7H.

@@ -1,7 +1,0 @@
--- `fimbrast::generator::fimbrast_locate` meets its contract. Assumes nothing.
-use mathlib.Core.Path.{ap, ◌∙◌}
-use Rattle.fast_mtc.specs.Generator.{flat_generator}
-use Rattle.fimbrast.proofs.generator.fimbrast_locate.Goals as goal
-
-pub returns : goal.returns
-returns c = c.flat_generator.ensures ∙ ap flat_generator (rw (c.generator_of.ensures, c.time_of.ensures) at c.locate.ensures)
