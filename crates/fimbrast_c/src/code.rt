@@ -1,8 +1,8 @@
 // Time code fields of machine control.
 ghost use Rattle.std.specs.Prelude.{◌≡◌, get_or};
-ghost use Rattle.codes.specs.TimeCode.{read_status, status_byte, read_standard, read_short, standard_bytes, short_bytes, standard_left, short_left, short_form, with_short, subframes_form, status_form, short_name_of, full_name};
+ghost use Rattle.codes.specs.TimeCode.{read_status, status_byte, read_standard, read_short, standard_bytes, short_bytes, short_form, with_short, subframes_form, status_form, short_name_of, full_name};
 ghost use Rattle.fast_mtc.specs.Refusal.{refusal_in};
-ghost use Rattle.fast_mmc.specs.Code.{status_of, flat_status, code_of, flat_code, short_of, flat_short, flat_name};
+ghost use Rattle.fast_mmc.specs.Code.{status_of, flat_status, code_of, flat_code, short_of, flat_short, flat_name, standard_left, short_left};
 
 use fast_mmc::code::{
     FiveBytes, FlatCode, FlatCodeBytes, FlatShort, FlatShortBytes, FlatStatus, TwoBytes,

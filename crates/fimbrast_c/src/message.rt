@@ -1,8 +1,7 @@
 // Universal messages, full messages, user bits, and machine control messages, by their split parts.
-ghost use Rattle.std.specs.Prelude.{◌≡◌, length};
+ghost use Rattle.std.specs.Prelude.{◌≡◌, length, None};
 ghost use Rattle.universal.specs.Emission.{answer};
 ghost use Rattle.universal.specs.Message.{is_addressed, has_sub_id2, header, message};
-ghost use Rattle.universal.specs.declared.message.MaybeSubId2.TheVariants.{NoSubId2};
 ghost use Rattle.universal.specs.Overlay.{overlay};
 ghost use Rattle.mtc.specs.FullMessage.{full_message, full_message_from, full_message_written};
 ghost use Rattle.mtc.specs.UserBits.{user_bits_from, user_bits_written, group_bytes};
@@ -104,7 +103,7 @@ pub extern "C" fn fimbrast_mmc_message_read(header: FlatUniversal, data: &[u8]) 
 // other number a refusal.
 #[unsafe(no_mangle)]
 pub extern "C" fn fimbrast_mmc_kind(real_time: bool, sub_id1: u8, data: &[u8]) -> u8
-    ensures { result ≡ mmc_kind (message_from (header real_time 0 sub_id1 NoSubId2) «data».now) }
+    ensures { result ≡ mmc_kind (message_from (header real_time 0 sub_id1 None) «data».now) }
 {
     fimbrast::message::fimbrast_mmc_kind(real_time, sub_id1, data)
 }
