@@ -6,7 +6,6 @@ use mathlib.Core.Path.{◌≡◌, refl}
 use native.Mathlib.Omega.{arith}
 use borrow.Author.Tests.{ne_eqb}
 use lib.Dec.{lit≤}
-use mir.Val.{bool_byte}
 use Rattle.fast_mtc.specs.Generator.{direction_at, flat_direction, is_set}
 use Rattle.fast_mtc.specs.Reader.{bit_of, flat_report, flat_event, report_in}
 use Rattle.mtc.proofs.Laws.{report_labels}
@@ -24,10 +23,6 @@ direction_small : (d : Direction) → flat_direction d ≤ 1
 unfolding flat_direction
 direction_small Forward = lit≤ tt
 direction_small Reverse = lit≤ tt
-
-pub bit_is : (b : Bool) → bool_byte b ≡ bit_of b
-bit_is true = refl
-bit_is false = refl
 
 bit_small : (b : Bool) → bit_of b ≤ 1
 bit_small true = lit≤ tt

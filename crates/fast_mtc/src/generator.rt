@@ -118,6 +118,7 @@ pub fn next_byte(g: &mut [u8; 8]) -> FlatByte
     send(g, direction.after(last))
 }
 
+#[tactic(auto, using(crate::proofs::GeneratorBytes::moved_in), unfolding(crate::specs::Generator::generator_in))]
 // The time of the next sequence.
 fn move_on(g: &mut [u8; 8], direction: Direction)
     ensures { generator_in g.new ≡ moved_to (generator_in g.old) (add_frames (generator_in g.old).time (sequence_frames direction)) }
@@ -130,6 +131,7 @@ fn move_on(g: &mut [u8; 8], direction: Direction)
     g[4] = time.rate;
 }
 
+#[tactic(auto, using(crate::proofs::GeneratorBytes::sent_in), unfolding(crate::specs::Generator::flat_byte, crate::specs::Generator::generator_in))]
 // One piece of the time. Of the record only the label is read: a read of all eight bytes would wait for the store of the last piece.
 fn send(g: &mut [u8; 8], piece: u8) -> FlatByte
     requires { piece ≤ 7 }

@@ -111,6 +111,7 @@ pub fn receive(r: &mut [u32; 15], byte: u8) -> u64
 }
 
 // The next piece of a sequence.
+#[tactic(auto, using(crate::proofs::ReceivedPieces::next_on, crate::proofs::ReceivedPieces::next_going, crate::proofs::ReceivedPieces::next_ends))]
 fn next<W: Way>(r: &mut [u32; 15], p: u32, byte: u8) -> u64
     requires { (p ≡ piece_of byte) × (get_or r.old 8 0 ≡ order_in W.WAY p) }
     ensures { Received r.old byte result r.new }
@@ -126,6 +127,7 @@ fn next<W: Way>(r: &mut [u32; 15], p: u32, byte: u8) -> u64
 // ---- a piece that is not the next one of a sequence, in the direction that it leaves
 
 // In a direction only its first piece begins a sequence.
+#[tactic(auto, using(crate::proofs::PassedPieces::way_passed, crate::proofs::PassedPieces::way_begun))]
 fn go<W: Way>(r: &mut [u32; 15], p: u32, byte: u8) -> u64
     requires { (p ≤ 7) × FirstKept r.old }
     ensures { PassedPiece (Some W.WAY) r.old p (value_of byte) result r.new }
@@ -152,6 +154,7 @@ fn turn<W: Way>(r: &mut [u32; 15], p: u32, byte: u8) -> u64
 }
 
 // Without a direction the first piece of either does.
+#[tactic(auto, using(crate::proofs::PassedPieces::none_begun_0, crate::proofs::PassedPieces::none_begun_7, crate::proofs::PassedPieces::none_passed))]
 fn go_nowhere(r: &mut [u32; 15], p: u32, byte: u8) -> u64
     requires { (p ≤ 7) × FirstKept r.old }
     ensures { PassedPiece None r.old p (value_of byte) result r.new }
@@ -192,6 +195,7 @@ fn dropped(r: &mut [u32; 15], byte: u8) -> u64
     broken::<Reverse>(r, byte)
 }
 
+#[tactic(auto, using(crate::proofs::PassedPieces::kept_inside))]
 fn broken<W: Way>(r: &mut [u32; 15], byte: u8) -> u64
     requires { InSequence W.WAY (get_or r.old 8 0) × (get_or r.old 8 0 ≡ order_in W.WAY (piece_of byte) → ⊥) }
     ensures { Received r.old byte result r.new }
@@ -222,6 +226,7 @@ fn outside(r: &mut [u32; 15], byte: u8) -> u64
 }
 
 // In a direction.
+#[tactic(auto, using(crate::proofs::PassedPieces::kept_outside))]
 fn directed<W: Way>(r: &mut [u32; 15], byte: u8) -> u64
     requires { OutOfSequence W.WAY (get_or r.old 8 0) }
     ensures { Received r.old byte result r.new }
@@ -236,6 +241,7 @@ fn directed<W: Way>(r: &mut [u32; 15], byte: u8) -> u64
 }
 
 // The first piece of all, or after a full message.
+#[tactic(auto, using(crate::proofs::PassedPieces::kept_none))]
 fn after_none(r: &mut [u32; 15], byte: u8) -> u64
     requires { 42 ≤ get_or r.old 8 0 }
     ensures { Received r.old byte result r.new }
@@ -252,6 +258,7 @@ fn after_none(r: &mut [u32; 15], byte: u8) -> u64
 }
 
 // The second piece gives the direction, where it comes right after the first either way.
+#[tactic(auto, using(crate::proofs::PassedPieces::kept_undirected))]
 fn undirected(r: &mut [u32; 15], byte: u8) -> u64
     requires { (32 ≤ get_or r.old 8 0) × (get_or r.old 8 0 < 42) }
     ensures { Received r.old byte result r.new }

@@ -36,14 +36,14 @@ pub struct FlatMaybeSequence {
 
 // ---- events as numbers
 
-#[tactic(auto, unfolding(crate::specs::Reader::flat_report))]
+#[tactic(auto, using(crate::proofs::Events::report_is), unfolding(crate::specs::Reader::flat_report))]
 fn flat_report(s: MtcSequence) -> u64
     ensures { (result ≡ flat_report (Some s)) × (result ≤ 7) }
 {
     1 + flat_direction(s.direction) as u64 * 2 + s.discontinuity as u64 * 4
 }
 
-#[tactic(auto, unfolding(crate::specs::Reader::flat_event))]
+#[tactic(auto, unfolding(crate::specs::Reader::flat_event, crate::specs::Reader::flat_report))]
 fn flat_event(e: MtcEvent) -> u64
     ensures { result ≡ flat_event e }
 {
@@ -63,6 +63,7 @@ pub(crate) fn quiet(p: u32) -> u64
 }
 
 // The report of a number and of the reader that it left.
+#[tactic(auto, using(crate::proofs::Events::direction_low), unfolding(crate::specs::Reader::flat_maybe_sequence, crate::specs::Reader::flat_sequence, crate::specs::Reader::report_in))]
 pub fn report_in(words: [u32; 15], report: u64) -> FlatMaybeSequence
     ensures { result ≡ flat_maybe_sequence (report_in (reader_in words) report) }
 {
@@ -99,6 +100,7 @@ fn label_or(t: Option<MtcTime>) -> FlatTime
 // ---- the end of a sequence
 
 // The label of eight nibbles.
+#[tactic(auto, unfolding(crate::specs::Reader::nibbles_in))]
 fn raw_in(words: [u32; 15]) -> MtcTime
     ensures { result ≡ raw_of (nibbles_in words) }
 {
@@ -111,6 +113,7 @@ fn raw_in(words: [u32; 15]) -> MtcTime
 }
 
 // The end of a sequence, at its last piece.
+#[tactic(auto, using(crate::proofs::SteadyLabels::reports_sequence), unfolding(crate::specs::Reader::reader_in))]
 pub(crate) fn complete(r: &mut [u32; 15], direction: Direction) -> u64
     requires { (reader_in r.old).direction ≡ Some direction }
     ensures { SequenceEnded (final direction) r.old result r.new }
@@ -128,6 +131,7 @@ pub(crate) fn complete(r: &mut [u32; 15], direction: Direction) -> u64
 }
 
 // The same of any label.
+#[tactic(auto, using(crate::proofs::SteadyLabels::reports_sequence))]
 fn complete_any(r: &mut [u32; 15], raw: MtcTime, direction: Direction) -> u64
     requires { ((reader_in r.old).direction ≡ Some direction) × (raw ≡ raw_of (nibbles_in r.old)) }
     ensures { SequenceEnded (final direction) r.old result r.new }
@@ -143,6 +147,7 @@ fn complete_any(r: &mut [u32; 15], raw: MtcTime, direction: Direction) -> u64
 }
 
 // The report of a full sequence, and the words with both labels.
+#[tactic(auto, using(crate::proofs::SteadyLabels::words_complete))]
 fn keep(r: &mut [u32; 15], s: MtcSequence, direction: Direction) -> u64
     ensures { s ≡ sequence_of (reader_in r.old) → SequenceEnded (final direction) r.old result r.new }
 {
@@ -179,6 +184,7 @@ fn jumps(previous: Option<MtcTime>, direction: Direction, raw: MtcTime) -> bool
 const TWO_FRAMES: u32 = 0x200_0000;
 
 // True only for a steady label.
+#[tactic(auto, using(crate::proofs::SteadyLabels::word_fits, crate::proofs::SteadyLabels::word_room, crate::proofs::SteadyLabels::told_forward, crate::proofs::SteadyLabels::told_reverse))]
 fn is_steady(words: [u32; 15], raw: MtcTime, direction: Direction) -> bool
     ensures { result ≡ true → SteadyLabel words raw direction }
 {

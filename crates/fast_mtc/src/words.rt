@@ -132,6 +132,7 @@ pub(crate) fn time_in(mark: u32, w: u32) -> Option<MtcTime>
 }
 
 // The word of a label, a byte for each number.
+#[tactic(auto, using(crate::proofs::LabelWords::label_back))]
 pub fn label_word(t: MtcTime) -> u32
     ensures { label_in t.rate result ≡ t }
 {
@@ -281,6 +282,7 @@ fn stopped(order: u32) -> u32
 }
 
 // `MtcReader::full_message`, with the message's label.
+#[tactic(auto, using(crate::proofs::PassedPieces::informs))]
 pub fn full_message(r: &mut [u32; 15], time: MtcTime)
     ensures { reader_in r.new ≡ after_full_message (reader_in r.old) time }
 {
