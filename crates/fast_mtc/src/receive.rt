@@ -9,7 +9,9 @@ ghost use Rattle.fast_mtc.specs.Reader.{reader_in, flat_event};
 ghost use Rattle.fast_mtc.specs.Clauses.{Received, FirstKept, PassedPiece, InSequence, OutOfSequence, order_in, order_out, order_begun, opposite, turning, passing};
 
 use crate::report::{complete, quiet};
-use crate::words::{FIRST, LOCKED, ORDER};
+use crate::words::{
+    BEGUN_AT_0, BEGUN_AT_7, FIRST, LOCKED, ORDER, STOPPED_FORWARD, STOPPED_REVERSE,
+};
 use mtc::Direction;
 
 // In a sequence forward the order is below this one, in reverse below the next.
@@ -21,16 +23,6 @@ const OUT_FORWARD: u32 = 16;
 const OUT_REVERSE: u32 = 24;
 
 const OUT_UNDIRECTED: u32 = 32;
-
-// Without a direction, piece 0 or 7 has begun a sequence.
-const BEGUN_AT_0: u32 = 40;
-
-const BEGUN_AT_7: u32 = 41;
-
-// Forward, and in reverse, after no piece; above them no direction either.
-const STOPPED_FORWARD: u32 = 42;
-
-const STOPPED_REVERSE: u32 = 43;
 
 // ---- the two directions
 
@@ -91,6 +83,8 @@ fn turning(way: Direction, order: u32) -> u32
 }
 
 // ---- a data byte
+//
+// The words, the piece and the byte go on as they are: a struct of a `&mut` array and two numbers is no plainer.
 
 // `MtcReader::receive` on the words.
 pub fn receive(r: &mut [u32; 15], byte: u8) -> u64
