@@ -89,12 +89,15 @@ pub fn report_in(words: [u32; 15], report: u64) -> FlatMaybeSequence
     }
 }
 
-// A label, or all zeros.
+// A label, or all zeros. By `map_or` or `map_or_else` a report takes 15 more instructions.
 #[tactic(auto, unfolding(crate::specs::Time::flat_time))]
 fn label_or(t: Option<MtcTime>) -> FlatTime
     ensures { result ≡ flat_time (label_or t) }
 {
-    t.map_or(no_time(), flat_time)
+    match t {
+        None => no_time(),
+        Some(time) => flat_time(time),
+    }
 }
 
 // ---- the end of a sequence

