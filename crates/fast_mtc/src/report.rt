@@ -150,7 +150,6 @@ fn complete_any(r: &mut [u32; 15], raw: MtcTime, direction: Direction) -> u64
 }
 
 // The report of a full sequence, and the words with both labels.
-#[tactic(auto, using(crate::proofs::SteadyLabels::words_complete))]
 fn keep(r: &mut [u32; 15], s: MtcSequence, direction: Direction) -> u64
     ensures { s ≡ sequence_of (reader_in r.old) → SequenceEnded (final direction) r.old result r.new }
 {
@@ -187,7 +186,7 @@ fn jumps(previous: Option<MtcTime>, direction: Direction, raw: MtcTime) -> bool
 const TWO_FRAMES: u32 = 0x200_0000;
 
 // True only for a steady label.
-#[tactic(auto, using(crate::proofs::SteadyLabels::word_fits, crate::proofs::SteadyLabels::word_room, crate::proofs::SteadyLabels::told_forward, crate::proofs::SteadyLabels::told_reverse))]
+#[tactic(auto, using(crate::proofs::SteadyLabels::word_fits, crate::proofs::SteadyLabels::word_room))]
 fn is_steady(words: [u32; 15], raw: MtcTime, direction: Direction) -> bool
     ensures { result ≡ true → SteadyLabel words raw direction }
 {
@@ -211,13 +210,15 @@ fn steady(raw: MtcTime, direction: Direction) -> MtcSequence
     requires { (raw.frames ≤ 27) × (1 ≤ raw.frames) }
     ensures { result ≡ steady direction raw }
 {
-    let frames = match direction {
+    // Changed in place: as `MtcTime { frames, ..raw }` a piece of a steady stream takes one more instruction.
+    let mut current = raw;
+    current.frames = match direction {
         Direction::Forward => raw.frames + 2,
         Direction::Reverse => raw.frames - 1,
     };
     MtcSequence {
         raw,
-        current: MtcTime { frames, ..raw },
+        current,
         direction,
         discontinuity: false,
     }
