@@ -1,6 +1,6 @@
 -- A label that comes a sequence after the previous one, with the current one, all in one second; and the words with both labels of a
 -- report. Assumes nothing.
-use Rattle.std.specs.Prelude.{Option, Some, None}
+use Rattle.std.specs.Prelude.{Option, Some}
 use Prim.Native.Nat.{ℕ, ◌+◌, ◌-◌, ◌*◌, ◌/◌, ◌%◌, ◌≤◌, ◌<◌}
 use mathlib.Core.Bool.{true}
 use mathlib.Core.List.{List}
@@ -11,9 +11,7 @@ use lib.Dec.{lit≤}
 use lib.IntN.{pos, negsuc}
 use lib.ListN.{length, get_or, set}
 use Rattle.fast_mtc.specs.Clauses.{SequenceEnded, SteadyLabel, steady}
-use Rattle.fast_mtc.specs.Reader.{label_in, time_in, nibbles_in, reader_in, flat_event, label_or}
-use Rattle.fast_mtc.specs.Time.{flat_time, no_time}
-use Rattle.fast_mtc.specs.declared.time.FlatTime.{FlatTime}
+use Rattle.fast_mtc.specs.Reader.{label_in, time_in, nibbles_in, reader_in, flat_event}
 use Rattle.fast_mtc.proofs.LabelWords.{marked}
 use Rattle.fast_mtc.proofs.LabelShortWays.{two_fit, frames_earlier}
 use Rattle.fast_mtc.proofs.SpelledLists.{by_words}
@@ -158,11 +156,3 @@ words_complete ws d s x a b c w e ea eb ec ew ex es =
       event = ex ∙ ap (λ (q : MtcSequence). flat_event (event_with (final d) (Some q))) es;
       reader = with_labels ws a b c w s.raw s.current e (marked s.raw a b ea eb) (marked s.current c w ec ew) ∙ rw es;
     }
-
--- ---- what the words hold
-
--- ---- a report as a record
-
-pub no_label : (m : Option MtcTime) (r : FlatTime) → m ≡ None → r ≡ no_time → r ≡ flat_time (label_or m)
-unfolding flat_time
-no_label m r em er = rw (em, er)
