@@ -1,10 +1,10 @@
 -- Flat time codes, commands and fields stand for one value each: what is flattened and read back is the same. So does a message's
--- kind, with its device. Assumes nothing.
+-- kind, with its device. The bytes of a record are those of the answer, zeros on a refusal. Assumes nothing.
 use Rattle.std.specs.Prelude.{None}
 use Prim.Native.Nat.{ℕ}
 use mathlib.Core.Path.{◌≡◌, refl, ap, ap₂}
-use mathlib.Core.Bool.{Bool, true, false}
-use mathlib.Core.List.{List}
+use mathlib.Core.Bool.{Bool, true, false, cond}
+use mathlib.Core.List.{List, [], ◌∷◌}
 use lib.Dec.{eqb}
 use lib.ListN.{length}
 use Rattle.fast_mmc.specs.Message.{flat_mmc_message, mmc_kind, mmc_of}
@@ -12,10 +12,11 @@ use Rattle.mmc.specs.Message.{message_from, message_by}
 use Rattle.mmc.proofs.StringLaws.{message_by_lem}
 use Rattle.universal.specs.Message.{header}
 use Rattle.universal.specs.declared.message.Universal.{Universal}
-use Rattle.fast_mmc.specs.Code.{final_of, is_status, code_of, flat_code, short_of, flat_short}
+use Rattle.fast_mmc.specs.Code.{final_of, is_status, code_of, flat_code, short_of, flat_short, five_bytes, two_bytes, standard_left, short_left}
 use Rattle.fast_mmc.specs.Word.{command_word, plain_command}
 use Rattle.fast_mmc.specs.String.{part_at, flat_part, command_of, flat_command, field_of, flat_field}
-use Rattle.codes.specs.TimeCode.{read_status, status_byte, final_value}
+use Rattle.codes.specs.TimeCode.{read_status, status_byte, final_value, standard_fits, standard_list, standard_bytes, short_fits, short_list, short_bytes}
+use Rattle.universal.specs.Refusals.{gives, refused, refusal}
 use Rattle.mmc.specs.declared.command.MmcCommand.{MmcCommand}
 use Rattle.mmc.specs.declared.command.MmcCommand.TheVariants.{Stop, Play, DeferredPlay, FastForward, Rewind, RecordStrobe, RecordExit, Pause, Reset, Write, LocateField, LocateTarget, Move, Other}
 use Rattle.mmc.specs.declared.field.InfoField.{InfoField}
@@ -108,3 +109,18 @@ kind_says u d =
     go true false true false device = refl
     go true false false e device = refl
     go false c r e device = refl
+
+-- The bytes of a record are those of the answer, zeros on a refusal.
+pub standard_left_lem : (c : StandardTimeCode) → five_bytes (standard_bytes c) ≡ standard_left c
+standard_left_lem c = five_bytes_cond (standard_fits c) (standard_list c)
+  where
+    five_bytes_cond : (b : Bool) (bs : List ℕ) → five_bytes (cond b (gives bs) (refused (refusal 3))) ≡ cond b bs (0 ∷ 0 ∷ 0 ∷ 0 ∷ 0 ∷ [])
+    five_bytes_cond true bs = refl
+    five_bytes_cond false bs = refl
+
+pub short_left_lem : (c : ShortTimeCode) → two_bytes (short_bytes c) ≡ short_left c
+short_left_lem c = two_bytes_cond (short_fits c) (short_list c)
+  where
+    two_bytes_cond : (b : Bool) (bs : List ℕ) → two_bytes (cond b (gives bs) (refused (refusal 3))) ≡ cond b bs (0 ∷ 0 ∷ [])
+    two_bytes_cond true bs = refl
+    two_bytes_cond false bs = refl

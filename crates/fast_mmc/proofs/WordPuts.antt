@@ -9,7 +9,6 @@ use borrow.Author.Tests.{le-leb, lt-leb}
 use lib.Dec.{lit≤}
 use lib.ListN.{length, drop, get_or, drop_of_length-le}
 use lib.Seq.{drop-cons}
-use Rattle.mmc.specs.declared.command.MmcCommand.{MmcCommand}
 use Rattle.fast_mmc.specs.declared.numbers.WrittenNumbers.{WrittenNumbers}
 use Rattle.mmc.specs.Item.{command_item}
 use Rattle.fast_mmc.specs.Numbers.{written_numbers}
@@ -20,8 +19,7 @@ use Rattle.fast_mmc.specs.Write.{checked_at, writer_of, writing_at, flat_writer}
 use Rattle.fast_mmc.specs.Words.{after_words, closed_out, words_state, words_answer, words_left}
 use Rattle.mmc.specs.Length.{within}
 use Rattle.mmc.specs.Named.{extent_of}
-use Rattle.mmc.specs.declared.write.Writer.{Writer}
-use Rattle.mmc.specs.Write.{Writing, writing_of, opened_commands, begun, admitted, item_count_after, writing_past, writing_after, or_failed, closed_message, whole_message}
+use Rattle.mmc.specs.Write.{Writing, opened_commands, begun, admitted, item_count_after, writing_past, writing_after, or_failed, closed_message, whole_message}
 use Rattle.mmc.specs.Writings.{State}
 use Rattle.universal.specs.Emission.{Emission, sent, refusing, check, resume, ◌then◌, answer_in}
 use Rattle.universal.specs.Overlay.{overlay}
@@ -31,15 +29,6 @@ use Rattle.fast_mmc.proofs.WordItems.{word_name, Usual, usual_sent}
 use Rattle.mmc.proofs.WritingSteps.{as_it_is, ready_kept, ready_failed, repeats, takes, close_repeats, close_empty, close_long, close_sent, commands_refused, commands_opened, begun_after, writing_after_moves, closed_after, whole_answer}
 
 -- ---- by the writer
-
--- A command that goes out as the word does is given as it.
-pub word_after : (w v : Writing) (word : ℕ) (out left : List ℕ) (c : MmcCommand) → command_item [] c ≡ word_item word
-    → v ≡ writing_after w (command_item [] c) → left ≡ overlay out w.at (admitted w (command_item [] c)).bytes
-    → (v ≡ writing_after w (word_item word)) × (left ≡ overlay out w.at (admitted w (word_item word)).bytes)
-word_after w v word out left c q p l = (
-  p ∙ ap (writing_after w) q,
-  l ∙ ap (λ (e : Emission). overlay out w.at (admitted w e).bytes) q,
-)
 
 -- ---- what is put of a word
 
@@ -106,9 +95,6 @@ pub record Gone (w₀ : Writing) (out₀ : List ℕ) (from : ℕ) (ws : List ℕ
   pub room : length out ≡ length out₀
 
 module _ (w₀ : Writing) (out₀ : List ℕ) (from : ℕ) (ws : List ℕ) where
-  pub gone_none : Gone w₀ out₀ from ws w₀ out₀ from
-  gone_none = record { rest = refl; room = refl }
-
   module _ (w : Writing) (out : List ℕ) (i : ℕ) (g : Gone w₀ out₀ from ws w out i) where
     -- One more word, by its emission.
     pub gone_word : (v : Writing) (left : List ℕ) → i < length ws → v ≡ writing_after w (word_item (get_or ws i 0))
@@ -198,33 +184,9 @@ put_one word v at next after out left z p h k n q (went_whole s l e) =
         let i : (v / 4294967296 + 1) % 65536 ≡ v / 4294967296 + 1 = omega (arith, z) in
         rw (n, i) (omega (arith, p, q))
 
--- A word after which the number is the same was left, and the buffer is as found.
-pub one_still : (word v after : ℕ) (out left : List ℕ) → PutOne word v out after left → after ≡ v → out ≡ left
-one_still word v after out left stayed e = refl
-one_still word v after out left (went_out l p q) e = absurd (omega (arith, l, e))
-
 -- A word that was left leaves the buffer as found.
 pub left_still : (word v : ℕ) (out left : List ℕ) → out ≡ left → PutOne word v out v left
 left_still word v out left e = subst (PutOne word v out v) e stayed
-
--- By the writer it is put from where nothing was.
-pub one_by_writer : (word v after : ℕ) (w : Writer) (out found left : List ℕ) (x : Writing) → out ≡ found → after ≡ flat_writer x
-    → w ≡ writer_of v → x ≡ writing_after (writing_of w) (word_item word)
-    → left ≡ overlay found w.at (admitted (writing_of w) (word_item word)).bytes
-    → (after ≡ flat_writer (writing_after (writing_at v) (word_item word)))
-    × (left ≡ overlay out (writing_at v).at (admitted (writing_at v) (word_item word)).bytes)
-one_by_writer word v after w out found left x o p q r l = (
-  p ∙ ap flat_writer (r ∙ ap (λ (y : Writer). writing_after (writing_of y) (word_item word)) q),
-  l
-      ∙ ap₂ (λ (b : List ℕ) (y : Writer). overlay b y.at (admitted (writing_of y) (word_item word)).bytes) (sym o) q,
-)
-
--- Any other was put.
-pub one_put : (word v after : ℕ) (out left : List ℕ) → PutOne word v out after left → (after ≡ v → ⊥)
-    → (after ≡ flat_writer (writing_after (writing_at v) (word_item word)))
-    × (left ≡ overlay out (writing_at v).at (admitted (writing_at v) (word_item word)).bytes)
-one_put word v after out left stayed n = absurd (n refl)
-one_put word v after out left (went_out l p q) n = (p, q)
 
 -- A word of which nothing went out leaves it where it was.
 pub gone_still : (w₀ : Writing) (out₀ : List ℕ) (from : ℕ) (ws : List ℕ) (w : Writing) (out left : List ℕ) (i word next : ℕ)

@@ -184,21 +184,6 @@ counted_bounds name h = let p = and_parts (leb 64 name) (ltb name 120) h in (leb
 
 -- ---- a name with a count
 
--- By what its byte is read as.
-pub byte_word : (d : List ℕ) (n a : Part) (x k : ℕ) (m : CommandCase) → x ≡ k → command_by_name k d ≡ m
-    → command_word (command_of_case m n a) ≡ command_word (command_of_case (command_by_name x d) n a)
-byte_word d n a x k m e r =
-    ap (λ (c : CommandCase). command_word (command_of_case c n a)) (sym r ∙ ap (λ (y : ℕ). command_by_name y d) (sym e))
-
-pub counted_other : (d : List ℕ) (n a : Part) (x : ℕ) → 64 ≤ x → (x ≡ 64 → ⊥) → (x ≡ 68 → ⊥) → (x ≡ 76 → ⊥)
-    → command_word (Other n a) ≡ command_word (command_of_case (command_by_name x d) n a)
-counted_other d n a x h p q r =
-    let apart : (k : ℕ) → k < 64 → x ≡ k → ⊥ = λ k l e. omega (arith, h, l, e) in
-    let other : command_by_name x d ≡ K.other =
-    unknown_byte d n a x
-    (((((((((((((tt, apart 1 (lit≤ tt)), apart 2 (lit≤ tt)), apart 3 (lit≤ tt)), apart 4 (lit≤ tt)), apart 5 (lit≤ tt)), apart 6 (lit≤ tt)), apart 7 (lit≤ tt)), apart 9 (lit≤ tt)), apart 13 (lit≤ tt)), p), q), r)) in
-    sym (ap (λ (c : CommandCase). command_word (command_of_case c n a)) other)
-
 -- ---- the next command of a string
 
 module _ (body : List ℕ) (place : ℕ) (l : place < length body) where

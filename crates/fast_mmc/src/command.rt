@@ -154,6 +154,7 @@ fn word_code(word: u64) -> StandardTimeCode
 // ---- any word
 
 // The Locate or the Move that a word above the names says, where it is its word.
+#[tactic(auto, using(crate::proofs::CommandWords::field_is, crate::proofs::CommandWords::field_not, crate::proofs::CommandWords::target_is, crate::proofs::CommandWords::target_not, crate::proofs::CommandWords::move_is, crate::proofs::CommandWords::move_not, crate::proofs::CommandWords::no_word, crate::proofs::CommandWords::said_none))]
 fn counted_command(word: u64) -> Option<MmcCommand>
     requires { 9 ≤ word % 256 }
     ensures { result ≡ word_command word }

@@ -17,6 +17,7 @@ const MORE_ITEMS: u64 = 0x100_0000_0000;
 const MOST_POSITION: u64 = 40_000;
 
 // A usual word, and the writer after it; any other is left, and the writer stays.
+#[tactic(auto, using(crate::specs::Clauses::stayed, crate::proofs::WordPuts::left_still, crate::proofs::WordPuts::put_nothing, crate::proofs::WordPuts::put_one))]
 fn put_usual(writer: FlatWriter, out: &mut [u8], word: u64) -> FlatWriter
     ensures { PutOne word writer out.old result out.new }
 {

@@ -45,6 +45,7 @@ fn refused_command() -> MmcCommand
 }
 
 // The command that a word is given to the writer as.
+#[tactic(auto, using(crate::proofs::CommandWords::item_of, crate::proofs::CommandWords::item_none))]
 fn given_command(word: u64) -> MmcCommand
     ensures { command_item [] result ≡ word_item word }
 {
@@ -122,6 +123,7 @@ fn is_kept(word: u64) -> bool
 }
 
 // A Locate to a usual time that fits, and the position after it; any other is left, and the position stays.
+#[tactic(auto, using(crate::proofs::WordPuts::put_usual, crate::specs::Clauses::nothing_went, crate::proofs::WordRanges::usual_of))]
 fn put_locate(out: &mut [u8], at: usize, word: u64) -> usize
     requires { (at ≤ 40000) × (word % 256 ≡ 11) }
     ensures upper_bound { result ≤ at + 8 }
@@ -143,6 +145,7 @@ fn put_locate(out: &mut [u8], at: usize, word: u64) -> usize
 }
 
 // A Locate to a register that may be written, and the position after it; any other is left, and the position stays.
+#[tactic(auto, using(crate::proofs::WordPuts::put_four, crate::specs::Clauses::nothing_went, crate::proofs::WordItems::field_sent))]
 fn put_register(out: &mut [u8], at: usize, word: u64) -> usize
     requires { (at ≤ 40000) × (word % 256 ≡ 10) }
     ensures upper_bound { result ≤ at + 8 }
@@ -157,6 +160,7 @@ fn put_register(out: &mut [u8], at: usize, word: u64) -> usize
 }
 
 // A Move that may be written, likewise.
+#[tactic(auto, using(crate::proofs::WordPuts::put_four, crate::specs::Clauses::nothing_went, crate::proofs::WordItems::word_move_sent))]
 fn put_move(out: &mut [u8], at: usize, word: u64) -> usize
     requires { (at ≤ 40000) × (word % 256 ≡ 12) }
     ensures upper_bound { result ≤ at + 8 }
@@ -178,6 +182,7 @@ fn put_move(out: &mut [u8], at: usize, word: u64) -> usize
 
 // A name alone, or a Locate to a register or a Move that may be written, and the position after it; any other is left, and the
 // position stays.
+#[tactic(auto, using(crate::proofs::WordPuts::put_name, crate::specs::Clauses::nothing_went))]
 pub(crate) fn put_small(out: &mut [u8], at: usize, word: u64) -> usize
     requires { at ≤ 40000 }
     ensures upper_bound { result ≤ at + 8 }
@@ -197,6 +202,7 @@ pub(crate) fn put_small(out: &mut [u8], at: usize, word: u64) -> usize
 }
 
 // A usual word, and the position after it; any other is left, and the position stays.
+#[tactic(auto, using(crate::proofs::WordPuts::put_name, crate::proofs::WordItems::low_sent))]
 fn put_whole(out: &mut [u8], at: usize, word: u64) -> usize
     requires { at ≤ 40000 }
     ensures upper_bound { result ≤ at + 8 }

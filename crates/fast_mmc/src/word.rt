@@ -103,7 +103,7 @@ fn other_word(item: ItemPlace) -> u64
 }
 
 // The command of a name that has a count, and of its data, which lie at this place of the string.
-#[tactic(auto, unfolding(crate::specs::Word::command_word))]
+#[tactic(auto, unfolding(crate::specs::Word::command_word, mmc::specs::Command::command_by_name))]
 fn read_word(name: u8, data: &[u8], item: ItemPlace) -> u64
     requires { (64 ≤ name) × (name < 120) }
     ensures { result ≡ command_word (command_of_case (command_by_name name «data».now) item.name item.«data») }
@@ -149,6 +149,7 @@ fn refusal_word(error: SysexError) -> u64
 }
 
 // The command of a name without prefixes and data, or `MORE` where it has either.
+#[tactic(auto, using(crate::specs::Clauses::longer, crate::proofs::WordReading::short_known, crate::proofs::WordReading::short_pause, crate::proofs::WordReading::short_reset, crate::proofs::WordReading::short_other, mmc::proofs::ReadingLaws::within_range, mmc::proofs::ReadingLaws::below_range, mmc::proofs::ReadingLaws::above_range))]
 fn short_word(name: u8) -> u64
     ensures { ShortWord name result }
 {
@@ -169,6 +170,7 @@ fn short_word(name: u8) -> u64
 }
 
 // A command with a count byte and no prefix.
+#[tactic(auto, using(crate::proofs::WordReading::no_count_word, crate::proofs::WordReading::few_data_word, crate::proofs::WordReading::counted_word, crate::proofs::WordReading::counted_name, mmc::proofs::ReadingLaws::within_range, mmc::proofs::ReadingLaws::part_inside))]
 fn counted_word(body: &[u8], place: usize) -> NextWord
     requires { (place < length body.now) × ((64 ≤ get_or body.now place 0) × (get_or body.now place 0 < 120)) }
     ensures { result ≡ next_word (next_command body.now place) }
@@ -216,7 +218,7 @@ fn prefixed_word(body: &[u8], place: usize) -> NextWord
 }
 
 // `next_command` as one number.
-#[tactic(auto, using(crate::proofs::WordReading::end_word))]
+#[tactic(auto, using(crate::proofs::WordReading::end_word, crate::proofs::WordReading::short_counted, crate::proofs::WordReading::counted_bounds))]
 pub fn next_word(body: &[u8], place: usize) -> NextWord
     ensures { result ≡ next_word (next_command body.now place) }
 {
