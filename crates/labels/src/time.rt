@@ -35,7 +35,7 @@ pub enum TimeCodeType {
 }
 
 impl TimeCodeType {
-    // The two bits.
+    // The two bits. Both ways go by the source's names: every number has a rate, and a `From` would not say that six bits are passed over.
     pub fn into_bits(self) -> u8
         ensures { result ≡ bits_of self }
     {
@@ -150,14 +150,6 @@ fn drop_with_skipped(n: u32) -> u32
     n + 18 * tens + 2 * ((rest - 2) / DROP_MINUTE)
 }
 
-// The start of a minute at which drop-frame skips a frame number.
-#[tactic(auto, unfolding(crate::specs::St12::is_skipped))]
-fn starts_dropped(minutes: u8, seconds: u8, frames: u8) -> bool
-    ensures { result ≡ is_skipped (label TimeCodeType.Fps30Drop 0 minutes seconds frames) }
-{
-    seconds == 0 && frames < 2 && minutes % 10 != 0
-}
-
 impl MtcTime {
     // The label, or refusal 3 for one that is not valid.
     pub fn new(
@@ -199,7 +191,7 @@ impl MtcTime {
     fn skipped(self) -> bool
         ensures { result ≡ is_skipped self }
     {
-        self.rate.is_drop_frame() && starts_dropped(self.minutes, self.seconds, self.frames)
+        self.rate.is_drop_frame() && self.seconds == 0 && self.frames < 2 && self.minutes % 10 != 0
     }
 
     // A skipped label with frames 02, or the label itself (RP-013, Drop Frame Notes).

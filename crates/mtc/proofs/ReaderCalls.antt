@@ -85,7 +85,6 @@ fit_all n h =
 -- ---- sound records
 
 module _ (r : MtcReader) where
-
   pub or_fresh_sound : true ≡ is_sound r → (r ≡ or_fresh r) × T (is_sound r)
   unfolding or_fresh
   or_fresh_sound h = (rw (← h), rw (← h) tt)
@@ -126,7 +125,6 @@ module _ (r : MtcReader) where
 -- ---- how a piece stands to those before it
 
 module _ (r : Control) (d f : Option Direction) where
-
   pub turned : {x y : Direction} → d ≡ Some x → f ≡ Some y → ordered false (Some y) false ≡ out_of_order r d f
   turned e g = rw (e, g)
 
@@ -135,7 +133,6 @@ module _ (r : Control) (d f : Option Direction) where
   second e g h i = rw (e, g, i, lt-ltb 0 r.count (omega (arith, h)))
 
 module _ (r : Control) (p : ℕ) where
-
   module _ {l : ℕ} (e : r.last ≡ Some l) where
     pub order_second : {f : Option Direction} → f ≡ direction_between l p → r.direction ≡ None → out_of_order r r.direction f ≡ order_of r p
     unfolding order_of
@@ -155,7 +152,6 @@ module _ (r : Control) (p : ℕ) where
 -- ---- one byte
 
 module _ (q : QuarterFrame) (b : ℕ) (e : q ≡ from_byte b) where
-
   pub value_small : q.value ≤ 15
   value_small = rw e (omega arith)
 

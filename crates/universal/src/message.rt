@@ -62,70 +62,12 @@ fn class_id(real_time: bool) -> u8
     if real_time { REAL_TIME } else { NON_REAL_TIME }
 }
 
-// F0H, the class and the device.
-fn put_start(out: &mut [u8], real_time: bool, device_id: u8)
-    ensures { out.new ≡ overlay out.old 0 (240 ∷ class_id real_time ∷ device_id ∷ []) }
-{
-    put(out, 0, SOX);
-    put(out, 1, class_id(real_time));
-    put(out, 2, device_id);
-}
-
 // True when each byte is at most 7FH.
 #[tactic(auto, unfolding(crate::specs::Message::all_low))]
 pub fn all_low(bytes: &[u8]) -> bool
     ensures { result ≡ all_low bytes.now }
 {
     bytes.iter().all(|&byte| byte <= 0x7F)
-}
-
-// The opening of a family that carries no sub-ID 2.
-fn open_family(
-    out: &mut [u8],
-    real_time: bool,
-    device_id: u8,
-    sub_id1: u8,
-) -> Result<usize, SysexError>
-    requires { device_id < 128 }
-    ensures result_value { answer_of result ≡ reached (opening (header real_time device_id sub_id1 None)) }
-    ensures out_after { out.new ≡ overlay out.old 0 (opening (header real_time device_id sub_id1 None)).bytes }
-{
-    if has_sub_id2(real_time, sub_id1) {
-        return Err(SysexError::OutOfRange);
-    }
-    put_start(out, real_time, device_id);
-    if sub_id1 > 0x7F {
-        return Err(SysexError::OutOfRange);
-    }
-    put(out, 3, sub_id1);
-    Ok(4)
-}
-
-// The opening of a family that carries one.
-fn open_with_sub_id2(
-    out: &mut [u8],
-    real_time: bool,
-    device_id: u8,
-    sub_id1: u8,
-    sub_id2: u8,
-) -> Result<usize, SysexError>
-    requires { device_id < 128 }
-    ensures result_value { answer_of result ≡ reached (opening (header real_time device_id sub_id1 (Some sub_id2))) }
-    ensures out_after { out.new ≡ overlay out.old 0 (opening (header real_time device_id sub_id1 (Some sub_id2))).bytes }
-{
-    if !has_sub_id2(real_time, sub_id1) {
-        return Err(SysexError::OutOfRange);
-    }
-    put_start(out, real_time, device_id);
-    if sub_id1 > 0x7F {
-        return Err(SysexError::OutOfRange);
-    }
-    put(out, 3, sub_id1);
-    if sub_id2 > 0x7F {
-        return Err(SysexError::OutOfRange);
-    }
-    put(out, 4, sub_id2);
-    Ok(5)
 }
 
 // Puts F7H at a position, and answers the whole length, or that the buffer is too small for it.
@@ -144,21 +86,64 @@ pub fn close(out: &mut [u8], at: usize) -> Result<usize, SysexError>
 }
 
 impl Universal {
+    // F0H, the class and the device.
+    fn put_start(self, out: &mut [u8])
+        ensures { out.new ≡ overlay out.old 0 (240 ∷ class_id self.real_time ∷ self.device_id ∷ []) }
+    {
+        put(out, 0, SOX);
+        put(out, 1, class_id(self.real_time));
+        put(out, 2, self.device_id);
+    }
+
+    // The opening of a family that carries no sub-ID 2.
+    fn open_family(self, out: &mut [u8]) -> Result<usize, SysexError>
+        requires { (self.device_id < 128) × (self.sub_id2 ≡ None) }
+        ensures result_value { answer_of result ≡ reached (opening self) }
+        ensures out_after { out.new ≡ overlay out.old 0 (opening self).bytes }
+    {
+        if has_sub_id2(self.real_time, self.sub_id1) {
+            return Err(SysexError::OutOfRange);
+        }
+        self.put_start(out);
+        if self.sub_id1 > 0x7F {
+            return Err(SysexError::OutOfRange);
+        }
+        put(out, 3, self.sub_id1);
+        Ok(4)
+    }
+
+    // The opening of a family that carries one.
+    fn open_with_sub_id2(self, sub_id2: u8, out: &mut [u8]) -> Result<usize, SysexError>
+        requires { (self.device_id < 128) × (self.sub_id2 ≡ Some sub_id2) }
+        ensures result_value { answer_of result ≡ reached (opening self) }
+        ensures out_after { out.new ≡ overlay out.old 0 (opening self).bytes }
+    {
+        if !has_sub_id2(self.real_time, self.sub_id1) {
+            return Err(SysexError::OutOfRange);
+        }
+        self.put_start(out);
+        if self.sub_id1 > 0x7F {
+            return Err(SysexError::OutOfRange);
+        }
+        put(out, 3, self.sub_id1);
+        if sub_id2 > 0x7F {
+            return Err(SysexError::OutOfRange);
+        }
+        put(out, 4, sub_id2);
+        Ok(5)
+    }
+
     // Puts the opening bytes, F0H to the last sub-ID, at the start of the buffer.
     pub fn open(self, out: &mut [u8]) -> Result<usize, SysexError>
         ensures result_value { answer_of result ≡ reached (opening self) }
         ensures out_after { out.new ≡ overlay out.old 0 (opening self).bytes }
     {
-        let real_time = self.real_time;
-        let device_id = self.device_id;
-        let sub_id1 = self.sub_id1;
-        let sub_id2 = self.sub_id2;
-        if device_id > 0x7F {
+        if self.device_id > 0x7F {
             return Err(SysexError::Device);
         }
-        match sub_id2 {
-            None => open_family(out, real_time, device_id, sub_id1),
-            Some(s) => open_with_sub_id2(out, real_time, device_id, sub_id1, s),
+        match self.sub_id2 {
+            None => self.open_family(out),
+            Some(sub_id2) => self.open_with_sub_id2(sub_id2, out),
         }
     }
 

@@ -3,5 +3,5 @@ use native.Mathlib.Omega.{arith}
 use Rattle.universal.proofs.Openings.{device_against}
 use Rattle.universal.proofs.message.Universal.open.Goals as goal
 
-pub returns-then-device_id-gt127 : goal.returns-then-device_id-gt127
-returns-then-device_id-gt127 c = device_against _ _ (omega arith)
+pub returns-then-self-gt127 : goal.returns-then-self-gt127
+returns-then-self-gt127 c = device_against _ _ (omega arith)

@@ -1,8 +1,8 @@
--- `universal::message::put_start` meets its contract: three bytes, one after the other. Assumes nothing.
+-- `universal::message::Universal::put_start` meets its contract: three bytes, one after the other. Assumes nothing.
 use mathlib.Core.Path.{refl, ◌∙◌}
 use mathlib.Core.List.{[], ◌∷◌}
 use Rattle.universal.proofs.Laws.{overlay_then}
-use Rattle.universal.proofs.message.put_start.Goals as goal
+use Rattle.universal.proofs.message.Universal.put_start.Goals as goal
 
 pub returns : goal.returns
 returns c =
