@@ -1,78 +1,56 @@
 // The formats of RP-013 (commands pp. 20 to 32, fields pp. 8, 9, 44 and 47, as the source cites them), with values chosen here: no
 // published example. Each is written as these bytes, and these bytes are read as what is written as them again.
-use crate::strings::{is_message, locate, time_code, write};
+use crate::strings::{is_message, locate, time_code};
 use crate::tally::Tally;
 use crate::times::label;
 use mmc::{
-    FinalByte, InfoField, MmcCommand, Part, ShortTimeCode, StandardTimeCode, TimeCodeStatus,
-    next_command, next_field, open_responses,
+    FinalByte, InfoField, Item, Kind, MmcCommand, Part, ShortTimeCode, StandardTimeCode,
+    TimeCodeStatus, next_item, open_commands, open_responses,
 };
 use mtc::{MtcTime, TimeCodeType};
 use universal::SysexError;
 
-// An item of a string.
-trait Item: Copy {
-    // Writes a string of this item alone, whose name and data stand in `source`.
-    fn write(self, out: &mut [u8], source: &[u8]) -> Result<usize, SysexError>;
-
-    // The item that is all of a body.
-    fn read(body: &[u8]) -> Option<Self>;
+// A string of this item alone, whose name and data stand in `source`: of commands to all devices, or of responses of device 01H.
+fn write_alone<T: Item + Copy>(
+    item: T,
+    out: &mut [u8],
+    source: &[u8],
+) -> Result<usize, SysexError> {
+    let opened = match T::kind() {
+        Kind::Commands => open_commands(out, 0x7F),
+        Kind::Fields => open_responses(out, 0x01),
+    };
+    opened.put(out, source, item).writer.close_message(out)
 }
 
-// Commands to all devices.
-impl Item for MmcCommand {
-    fn write(self, out: &mut [u8], source: &[u8]) -> Result<usize, SysexError> {
-        write(out, 0x7F, source, &[self])
+// The item that is all of a body.
+fn read_alone<T: Item + Copy>(body: &[u8]) -> Option<T> {
+    let next = next_item(body, 0);
+    if next.place != body.len() {
+        return None;
     }
-
-    fn read(body: &[u8]) -> Option<Self> {
-        let next = next_command(body, 0);
-        match next.answer {
-            Ok(command) if next.place == body.len() => Some(command),
-            Ok(_) => None,
-            Err(_) => None,
-        }
-    }
+    next.answer.ok()
 }
 
-// Responses of device 01H.
-impl Item for InfoField {
-    fn write(self, out: &mut [u8], source: &[u8]) -> Result<usize, SysexError> {
-        open_responses(out, 0x01)
-            .put_field(out, source, self)
-            .writer
-            .close_message(out)
-    }
-
-    fn read(body: &[u8]) -> Option<Self> {
-        let next = next_field(body, 0);
-        match next.answer {
-            Ok(field) if next.place == body.len() => Some(field),
-            Ok(_) => None,
-            Err(_) => None,
-        }
-    }
-}
-
-fn is_written<T: Item>(item: T, source: &[u8], message: &[u8]) -> bool {
+fn is_written<T: Item + Copy>(item: T, source: &[u8], message: &[u8]) -> bool {
     let mut out = [0xEEu8; 16];
-    let written = item.write(&mut out, source);
+    let written = write_alone(item, &mut out, source);
     is_message(written, &out, message)
 }
 
 // What the message's body reads as is written as the message.
-fn is_read<T: Item>(message: &[u8]) -> bool {
+fn is_read<T: Item + Copy>(message: &[u8]) -> bool {
     let [_, _, _, _, body @ .., _] = message else {
         return false;
     };
-    match T::read(body) {
+    match read_alone::<T>(body) {
         Some(item) => is_written(item, body, message),
         None => false,
     }
 }
 
 // Both ways.
-fn add<T: Item>(tally: &mut Tally, item: T, source: &[u8], message: &[u8]) {
+fn add<T: Item + Copy>(tally: &mut Tally, item: T, source: &[u8], message: &[u8]) {
     tally.add(is_written(item, source, message));
     tally.add(is_read::<T>(message));
 }

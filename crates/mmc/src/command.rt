@@ -4,9 +4,9 @@ ghost use Rattle.std.specs.Prelude.{◌≡◌, ◌<◌, ◌≤◌, length, List,
 ghost use Rattle.mmc.specs.Split.{parts_as};
 ghost use Rattle.mmc.specs.Command.{read_command, read_locate, read_move, command_of_case, next_command};
 
-use crate::length::Kind;
+use crate::item::next_item;
 use crate::part::Part;
-use crate::split::{ItemPlace, NextItem, next_parts};
+use crate::split::{ItemPlace, NextItem};
 use codes::StandardTimeCode;
 
 // The names of the transport tier's commands (p. 14).
@@ -60,7 +60,7 @@ pub enum MmcCommand {
 
 // The command of an item of a string.
 #[tactic(auto, unfolding(crate::specs::Command::read_command, crate::specs::Command::command_by_name))]
-fn read(body: &[u8], item: ItemPlace) -> MmcCommand
+pub(crate) fn read(body: &[u8], item: ItemPlace) -> MmcCommand
     ensures { result ≡ parts_as (λ (x y : List ℕ). command_of_case (read_command x y)) body.now item }
 {
     let data = item.data.of(body);
@@ -127,9 +127,5 @@ fn read_move(data: &[u8], item: ItemPlace) -> MmcCommand
 pub fn next_command(body: &[u8], place: usize) -> NextItem<MmcCommand>
     ensures { next_item_of result ≡ next_command body.now place }
 {
-    let next = next_parts(body, place, Kind::Commands);
-    NextItem {
-        answer: next.answer.map(|item| read(body, item)),
-        place: next.place,
-    }
+    next_item(body, place)
 }

@@ -3,9 +3,9 @@ ghost use Rattle.mmc.specs.Split.{next_item_of, parts_as};
 ghost use Rattle.std.specs.Prelude.{◌≡◌, List, ℕ};
 ghost use Rattle.mmc.specs.Field.{read_field, field_of_case, next_field};
 
-use crate::length::Kind;
+use crate::item::next_item;
 use crate::part::Part;
-use crate::split::{ItemPlace, NextItem, next_parts};
+use crate::split::{ItemPlace, NextItem};
 use codes::{ShortTimeCode, StandardTimeCode};
 
 // One information field.
@@ -21,7 +21,7 @@ pub enum InfoField {
 
 // The field of an item of a string.
 #[tactic(auto, unfolding(crate::specs::Field::read_field, crate::specs::Field::field_by_name))]
-fn read(body: &[u8], item: ItemPlace) -> InfoField
+pub(crate) fn read(body: &[u8], item: ItemPlace) -> InfoField
     ensures { result ≡ parts_as (λ (x y : List ℕ). field_of_case (read_field x y)) body.now item }
 {
     let &[byte] = item.name.of(body) else {
@@ -55,9 +55,5 @@ fn other(item: ItemPlace) -> InfoField
 pub fn next_field(body: &[u8], place: usize) -> NextItem<InfoField>
     ensures { next_item_of result ≡ next_field body.now place }
 {
-    let next = next_parts(body, place, Kind::Fields);
-    NextItem {
-        answer: next.answer.map(|item| read(body, item)),
-        place: next.place,
-    }
+    next_item(body, place)
 }

@@ -3,6 +3,12 @@ ghost use Rattle.std.specs.Prelude.{◌≡◌, ◌≤◌, List, ℕ};
 ghost use Rattle.universal.specs.Overlay.{overlay};
 ghost use Rattle.universal.specs.Refusals.{answer_of};
 ghost use Rattle.universal.specs.Emission.{Emission};
+ghost use Rattle.mmc.specs.declared.length.Kind.{Kind};
+ghost use Rattle.mmc.specs.declared.length.Kind.TheVariants.{Commands, Fields};
+ghost use Rattle.mmc.specs.declared.part.Part.{Part};
+ghost use Rattle.mmc.specs.Command.{command_of_case, read_command};
+ghost use Rattle.mmc.specs.Field.{field_of_case, read_field};
+ghost use Rattle.mmc.specs.Split.{next, next_as, next_item_of, parts_as};
 ghost use Rattle.mmc.specs.Length.{within};
 ghost use Rattle.mmc.specs.Named.{put_of, extent_of};
 ghost use Rattle.mmc.specs.Item.{code_item, other_item, write_item, locate_field_item, locate_target_item, move_item, command_item, form_fits, code_fits, time_code_item, short_code_item, field_item};
@@ -15,6 +21,8 @@ use crate::field::InfoField;
 use crate::length::Kind;
 use crate::named::{Put, put_all, put_byte, put_named};
 use crate::part::Part;
+use crate::split::{ItemPlace, NextItem, next_parts};
+use crate::{command, field};
 use codes::{FinalByte, ShortTimeCode, StandardTimeCode};
 use universal::{SysexError, put, put_part};
 
@@ -196,9 +204,18 @@ fn put_field(out: &mut [u8], at: usize, source: &[u8], field: InfoField) -> Put
     }
 }
 
-// What a string is made of, a command or a field: what goes out of one before the check that refuses it.
+// What a string is made of: a command or a field. `emission` is what goes out of one before the check that refuses it, `meaning` what a
+// name and data are read as.
 pub trait Item {
+    ghost kind: { Kind };
+
     ghost emission: { List ℕ → Self → Emission };
+
+    ghost meaning: { List ℕ → List ℕ → Part → Part → Self };
+
+    // The kind of the strings that it stands in.
+    fn kind() -> Kind
+        ensures { result ≡ kind };
 
     // Puts it into a buffer. Its parts lie in the lent source.
     fn put(self, out: &mut [u8], at: usize, source: &[u8]) -> Put
@@ -207,20 +224,59 @@ pub trait Item {
         ensures out_after { out.new ≡ overlay out.old at (emission source.now self).bytes }
         // A name of three bytes at most, a count byte and 127 bytes of data.
         ensures length_at_most { result.len ≤ 131 };
+
+    // The one that stands at a place of a string.
+    fn read(body: &[u8], place: ItemPlace) -> Self
+        ensures { result ≡ parts_as meaning body.now place };
 }
 
 impl Item for MmcCommand {
+    ghost kind = { Commands };
+
     ghost emission = { command_item };
+
+    ghost meaning = { λ (x y : List ℕ). command_of_case (read_command x y) };
+
+    fn kind() -> Kind {
+        Kind::Commands
+    }
 
     fn put(self, out: &mut [u8], at: usize, source: &[u8]) -> Put {
         put_command(out, at, source, self)
     }
+
+    fn read(body: &[u8], place: ItemPlace) -> MmcCommand {
+        command::read(body, place)
+    }
 }
 
 impl Item for InfoField {
+    ghost kind = { Fields };
+
     ghost emission = { field_item };
+
+    ghost meaning = { λ (x y : List ℕ). field_of_case (read_field x y) };
+
+    fn kind() -> Kind {
+        Kind::Fields
+    }
 
     fn put(self, out: &mut [u8], at: usize, source: &[u8]) -> Put {
         put_field(out, at, source, self)
+    }
+
+    fn read(body: &[u8], place: ItemPlace) -> InfoField {
+        field::read(body, place)
+    }
+}
+
+// The item at a place of a string and the place after it; 2 and the end where the string is cut short; 9 at or past it.
+pub fn next_item<I: Item>(body: &[u8], place: usize) -> NextItem<I>
+    ensures { next_item_of result ≡ next_as (parts_as I.meaning body.now) (next I.kind body.now place) }
+{
+    let next = next_parts(body, place, I::kind());
+    NextItem {
+        answer: next.answer.map(|item| I::read(body, item)),
+        place: next.place,
     }
 }

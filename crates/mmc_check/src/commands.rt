@@ -212,7 +212,7 @@ impl<'a> Run<'a> {
         if let MmcCommand::Write(data) = command {
             self.good &= read_write(body.of_write(data));
         }
-        self.writing.put_command(command, place);
+        self.writing.put(command, place);
     }
 
     // The string is cut short: what was read before it has acted.

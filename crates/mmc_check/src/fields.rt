@@ -51,7 +51,7 @@ fn read_fields(body: Body<'_>, writing: &mut Writing<'_>) -> bool {
             Ok(field) => {
                 body.say_place(place);
                 say_field(body, field);
-                writing.put_field(field, place);
+                writing.put(field, place);
             }
         }
         place = next.place;

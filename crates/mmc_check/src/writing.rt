@@ -2,7 +2,7 @@
 use crate::body::{Body, FIRST};
 use crate::refusals::Refusal;
 use crate::say::{Count, say};
-use mmc::{InfoField, MmcCommand, Writer, open_commands, open_fields, open_responses};
+use mmc::{Item, Writer, open_commands, open_fields, open_responses};
 use universal::SysexError;
 
 // The body that is read, the writer, and the number of the byte where the item stands that the writer got last.
@@ -40,27 +40,15 @@ impl<'a> Writing<'a> {
     }
 
     fn has_refused(&self) -> bool {
-        matches!(self.writer.checked, Err(_))
+        self.writer.checked.is_err()
     }
 
-    // A command that was read at a place of the body goes to the writer, unless it has refused one.
-    pub(crate) fn put_command(&mut self, command: MmcCommand, place: usize) {
+    // An item that was read at a place of the body goes to the writer, unless it has refused one.
+    pub(crate) fn put<I: Item + Copy>(&mut self, item: I, place: usize) {
         if self.has_refused() {
             return;
         }
-        let wrote = self
-            .writer
-            .put_command(&mut [0; 4], self.body.bytes, command);
-        self.writer = wrote.writer;
-        self.at = self.body.number_of(place);
-    }
-
-    // A field, likewise.
-    pub(crate) fn put_field(&mut self, field: InfoField, place: usize) {
-        if self.has_refused() {
-            return;
-        }
-        let wrote = self.writer.put_field(&mut [0; 4], self.body.bytes, field);
+        let wrote = self.writer.put(&mut [0; 4], self.body.bytes, item);
         self.writer = wrote.writer;
         self.at = self.body.number_of(place);
     }
