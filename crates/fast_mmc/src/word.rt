@@ -175,20 +175,17 @@ fn counted_word(body: &[u8], place: usize) -> NextWord
     requires { (place < length body.now) × ((64 ≤ get_or body.now place 0) × (get_or body.now place 0 < 120)) }
     ensures { result ≡ next_word (next_command body.now place) }
 {
-    let after = place + 1;
-    if after >= body.len() {
-        return NextWord {
-            word: CUT,
-            place: body.len(),
-        };
-    }
-    let start = after + 1;
-    let count = body[after] as usize;
+    let cut = NextWord {
+        word: CUT,
+        place: body.len(),
+    };
+    let Some(&count) = body.get(place + 1) else {
+        return cut;
+    };
+    let start = place + 2;
+    let count = usize::from(count);
     if count > body.len() - start {
-        return NextWord {
-            word: CUT,
-            place: body.len(),
-        };
+        return cut;
     }
     let end = start + count;
     let item = ItemPlace {
