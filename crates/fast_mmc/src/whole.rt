@@ -265,7 +265,7 @@ pub fn write_words(out: &mut [u8], device_id: u8, words: &[u64]) -> WrittenNumbe
             length: 0,
         };
     }
-    // Where the four bytes fit, none is checked for room.
+    // The two calls are the same: where the four bytes fit, none is checked for room. With one call a message takes 19 instructions more.
     if out.len() < 4 {
         put_start(out, device_id);
         return put_rest(out, words, 4, 0);
