@@ -6,14 +6,12 @@ use mathlib.Core.Path.{◌≡◌, refl}
 use native.Mathlib.Omega.{arith}
 use borrow.Author.Tests.{ne_eqb}
 use lib.Dec.{lit≤}
-use mir.Val.{bool_byte}
 use Rattle.fast_mtc.specs.Generator.{direction_at, flat_direction, is_set}
 use Rattle.fast_mtc.specs.Reader.{bit_of, flat_report, flat_event, report_in}
 use Rattle.mtc.proofs.Laws.{report_labels}
 use Rattle.mtc.specs.Reader.{event_with, ReportLabels, after_byte, event_of, or_fresh}
 use Rattle.mtc.specs.declared.generator.Direction.{Direction}
 use Rattle.mtc.specs.declared.generator.Direction.TheVariants.{Forward, Reverse}
-use Rattle.mtc.specs.declared.reader.MtcEvent.{MtcEvent}
 use Rattle.mtc.specs.declared.reader.MtcReader.{MtcReader}
 use Rattle.mtc.specs.declared.reader.MtcSequence.{MtcSequence}
 use Rattle.fast_mtc.proofs.FlatBack.{direction_back}
@@ -24,10 +22,6 @@ direction_small : (d : Direction) → flat_direction d ≤ 1
 unfolding flat_direction
 direction_small Forward = lit≤ tt
 direction_small Reverse = lit≤ tt
-
-pub bit_is : (b : Bool) → bool_byte b ≡ bit_of b
-bit_is true = refl
-bit_is false = refl
 
 bit_small : (b : Bool) → bit_of b ≤ 1
 bit_small true = lit≤ tt
@@ -44,15 +38,6 @@ report_is s d b ed eb =
     let ld : d ≤ 1 = rw ed (direction_small s.direction) in
     let lb : b ≤ 1 = rw eb (bit_small s.discontinuity) in
     (rw (ed, eb), omega (arith, ld, lb))
-
-pub quiet : (e : MtcEvent) (b : ℕ) → b ≡ bit_of e.boundary → e.sequence ≡ None → e.piece + b * 256 ≡ flat_event e
-unfolding flat_event flat_report
-quiet e b eb es = rw (eb, es) (omega arith)
-
-pub said : (e : MtcEvent) (s : MtcSequence) (b r : ℕ) → b ≡ bit_of e.boundary → e.sequence ≡ Some s → r ≡ flat_report (Some s)
-    → e.piece + b * 256 + r * 512 ≡ flat_event e
-unfolding flat_event
-said e s b r eb es er = rw (eb, er, es)
 
 -- ---- what is read off them
 

@@ -60,10 +60,6 @@ even_frame_count t n k h = h ∙ ap (λ (x : ℕ). x % day_of t.rate) (go t.rate
     go Fps30Drop k = absurd (k refl)
     go Fps30 k = refl
 
-pub even_told : (a n f d : ℕ) (r : TimeCodeType) → n ≡ frames_per_second r → d ≡ day_of r
-    → (a * n + f) % d ≡ (a * frames_per_second r + f) % day_of r
-even_told a n f d r e h = rw (e, h)
-
 -- ---- labels
 
 -- At drop-frame by the minute that the quotient gives, at a place past the first two.

@@ -5,13 +5,13 @@ use Prim.Native.Nat.{ℕ, zero, suc, ◌+◌, ◌%◌, ◌≤◌, ◌<◌}
 use mathlib.Core.Bool.{Bool, true, false, cond, ◌&&◌}
 use mathlib.Core.Path.{◌≡◌, refl}
 use native.Mathlib.Omega.{arith}
-use borrow.Author.Tests.{ltb-true, ltb-false, lt-ltb, le-ltb, eqb-true, eqb-false, eq-eqb, ne_eqb}
+use borrow.Author.Tests.{ltb-true, ltb-false, lt-ltb, le-ltb, eqb-true, eqb-false, ne_eqb}
 use lib.Dec.{T, ltb, eqb, lit≤, le→leb}
 use Rattle.mtc.specs.Reader.{Control, Standing, ordered, order_after, piece_fits}
 use Rattle.mtc.specs.Generator.{first, after, final}
 use Rattle.mtc.specs.declared.generator.Direction.{Direction}
 use Rattle.mtc.specs.declared.generator.Direction.TheVariants.{Forward, Reverse}
-use Rattle.fast_mtc.specs.Clauses.{order_in, order_out, order_begun, InSequence, OutOfSequence, opposite, turning, passing}
+use Rattle.fast_mtc.specs.Clauses.{order_in, order_out, order_begun, InSequence, OutOfSequence, opposite, passing}
 use Rattle.fast_mtc.specs.Reader.{way_in, last_in, count_in, first_in}
 
 -- ---- how a piece stands, as the code finds it
@@ -48,9 +48,6 @@ stands_outside Reverse k p h = rw (le-ltb k 8 (omega (arith, h.0)), le-ltb k 16 
 pub stands_begun : (d : Direction) (p : ℕ) → standing_in (order_begun d) p ≡ after_first d p
 stands_begun Forward p = refl
 stands_begun Reverse p = refl
-
-pub turned : (d : Direction) (k p : ℕ) → turning d k ≡ p → passing d k p ≡ Some (opposite d)
-turned d k p h = rw (eq-eqb (turning d k) p h)
 
 -- ---- the test
 

@@ -1,27 +1,23 @@
 -- A label that comes a sequence after the previous one, with the current one, all in one second; and the words with both labels of a
 -- report. Assumes nothing.
-use Rattle.std.specs.Prelude.{Option, Some, None}
+use Rattle.std.specs.Prelude.{Option, Some}
 use Prim.Native.Nat.{ℕ, ◌+◌, ◌-◌, ◌*◌, ◌/◌, ◌%◌, ◌≤◌, ◌<◌}
-use mathlib.Core.Bool.{true, false}
+use mathlib.Core.Bool.{true}
 use mathlib.Core.List.{List}
 use mathlib.Core.Path.{◌≡◌, refl, sym, ap, ◌∙◌}
 use native.Mathlib.Omega.{arith}
-use borrow.Author.Tests.{eq-eqb, ne_eqb}
+use borrow.Author.Tests.{eq-eqb}
 use lib.Dec.{lit≤}
 use lib.IntN.{pos, negsuc}
 use lib.ListN.{length, get_or, set}
-use Rattle.fast_mtc.specs.Generator.{is_set}
 use Rattle.fast_mtc.specs.Clauses.{SequenceEnded, SteadyLabel, steady}
-use Rattle.fast_mtc.specs.Reader.{label_in, time_in, nibbles_in, reader_in, flat_event, label_or, report_in, flat_sequence, flat_maybe_sequence}
-use Rattle.fast_mtc.specs.Time.{flat_time, no_time}
-use Rattle.fast_mtc.specs.declared.time.FlatTime.{FlatTime}
-use Rattle.fast_mtc.proofs.Events.{direction_low}
+use Rattle.fast_mtc.specs.Reader.{label_in, time_in, nibbles_in, reader_in, flat_event}
 use Rattle.fast_mtc.proofs.LabelWords.{marked}
 use Rattle.fast_mtc.proofs.LabelShortWays.{two_fit, frames_earlier}
 use Rattle.fast_mtc.proofs.SpelledLists.{by_words}
 use Rattle.labels.proofs.Laws.{fps_small, two_later}
 use Rattle.labels.specs.St12.{label, frames_per_second}
-use Rattle.labels.specs.Time.{add_frames, bits_of, raw_time}
+use Rattle.labels.specs.Time.{add_frames, bits_of}
 use Rattle.labels.specs.declared.time.MtcTime.{MtcTime}
 use Rattle.mtc.proofs.Laws.{sequence_of_lem}
 use Rattle.mtc.specs.Generator.{final}
@@ -160,32 +156,3 @@ words_complete ws d s x a b c w e ea eb ec ew ex es =
       event = ex ∙ ap (λ (q : MtcSequence). flat_event (event_with (final d) (Some q))) es;
       reader = with_labels ws a b c w s.raw s.current e (marked s.raw a b ea eb) (marked s.current c w ec ew) ∙ rw es;
     }
-
--- ---- what the words hold
-
-pub previous_at : (ws : List ℕ) → time_in (get_or ws 11 0) (get_or ws 12 0) ≡ (reader_in ws).previous
-unfolding reader_in
-previous_at ws = refl
-
-pub raw_is : (ws : List ℕ)
-    → raw_time (get_or ws 6 0 % 16 + get_or ws 7 0 % 16 * 16) (get_or ws 4 0 % 16 + get_or ws 5 0 % 16 * 16) (get_or ws 2 0 % 16 + get_or ws 3 0 % 16 * 16) (get_or ws 0 0 % 16 + get_or ws 1 0 % 16 * 16)
-    ≡ raw_of (nibbles_in ws)
-unfolding nibbles_in
-raw_is ws = refl
-
--- ---- a report as a record
-
-pub no_label : (m : Option MtcTime) (r : FlatTime) → m ≡ None → r ≡ no_time → r ≡ flat_time (label_or m)
-unfolding flat_time
-no_label m r em er = rw (em, er)
-
-pub not_reported : (ws : List ℕ) (n : ℕ) (a b : FlatTime) → n % 2 ≡ 0 → a ≡ no_time → b ≡ no_time
-    → record { present = false; sequence = record { raw = a; current = b; direction = 0; discontinuity = false } } ≡ flat_maybe_sequence (report_in (reader_in ws) n)
-unfolding flat_maybe_sequence report_in
-not_reported ws n a b h ea eb = rw (ea, eb, eq-eqb (n % 2) 0 h)
-
-pub is_reported : (ws : List ℕ) (n : ℕ) (m u : Option MtcTime) (a b : FlatTime) → (n % 2 ≡ 0 → ⊥) → m ≡ (reader_in ws).previous → a ≡ flat_time (label_or m)
-    → u ≡ (reader_in ws).time → b ≡ flat_time (label_or u)
-    → record { present = true; sequence = record { raw = a; current = b; direction = n / 2 % 2; discontinuity = is_set (n / 4 % 2) } } ≡ flat_maybe_sequence (report_in (reader_in ws) n)
-unfolding flat_maybe_sequence flat_sequence report_in
-is_reported ws n m u a b h em ea eu eb = rw (ea, eb, em, eu, ne_eqb (n % 2) 0 h, direction_low n)

@@ -9,6 +9,7 @@ ghost use Rattle.fast_mtc.specs.Generator.{direction_at, flat_direction, piece_a
 use crate::label::next_time;
 use crate::time::{FlatTime, flat_time, time_in, time_of};
 use mtc::{Direction, MtcGenerator, QuarterFrame};
+use universal::SysexError;
 
 // The places of a generator's record, after its label.
 const DIRECTION: usize = 5;
@@ -102,7 +103,7 @@ pub fn next_byte(g: &mut [u8; 8]) -> FlatByte
 {
     if g[RUNNING] == 0 {
         return FlatByte {
-            refusal: 8,
+            refusal: SysexError::Stopped.number(),
             byte: 0,
         };
     }
@@ -119,6 +120,7 @@ pub fn next_byte(g: &mut [u8; 8]) -> FlatByte
 }
 
 // The time of the next sequence.
+#[tactic(auto, using(crate::proofs::GeneratorBytes::moved_in), unfolding(crate::specs::Generator::generator_in))]
 fn move_on(g: &mut [u8; 8], direction: Direction)
     ensures { generator_in g.new ≡ moved_to (generator_in g.old) (add_frames (generator_in g.old).time (sequence_frames direction)) }
 {
@@ -131,6 +133,7 @@ fn move_on(g: &mut [u8; 8], direction: Direction)
 }
 
 // One piece of the time. Of the record only the label is read: a read of all eight bytes would wait for the store of the last piece.
+#[tactic(auto, using(crate::proofs::GeneratorBytes::sent_in), unfolding(crate::specs::Generator::flat_byte, crate::specs::Generator::generator_in))]
 fn send(g: &mut [u8; 8], piece: u8) -> FlatByte
     requires { piece ≤ 7 }
     ensures { (result ≡ flat_byte (gives (get_or (pieces (generator_in g.old).time) piece 0))) × (generator_in g.new ≡ sent_by (generator_in g.old) piece) }

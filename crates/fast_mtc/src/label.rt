@@ -41,6 +41,7 @@ fn within(n: u32, day: u32) -> u32
 }
 
 // A signed distance modulo a day.
+#[tactic(auto, using(labels::proofs::Laws::back_mod, labels::proofs::Laws::ahead_mod))]
 fn reduced(delta: i32, day: u32) -> u32
     requires { 0 < day }
     ensures { result ≡ mod_z delta day }
@@ -53,6 +54,7 @@ fn reduced(delta: i32, day: u32) -> u32
 }
 
 // A count of a drop-frame day moved by a signed distance, round midnight.
+#[tactic(auto, using(crate::proofs::LabelShortWays::moved_once))]
 fn drop_moved(count: u32, delta: i32) -> u32
     requires { count < 2589408 }
     ensures { result ≡ (count + mod_z delta 2589408) % 2589408 }
@@ -78,6 +80,7 @@ fn number_of(t: MtcTime) -> u64
 
 // The number of the label of a minute of the day and a place in it, at the rate of two bits and its frames of a second. An hour takes
 // 60 minutes off and adds itself, a second its frames.
+#[tactic(auto, using(crate::proofs::LabelShortWays::in_number))]
 #[inline(always)]
 fn number_in<const FRAMES: u32, const BITS: u8>(minutes: u32, place: u32) -> u64
     requires { RateOf FRAMES BITS × ((minutes < 1440) × (place < 60 * FRAMES)) }
@@ -92,6 +95,7 @@ fn number_in<const FRAMES: u32, const BITS: u8>(minutes: u32, place: u32) -> u64
 
 // The number of the label of a count of a drop-frame day. Ten minutes have 17,982 frames, so a quotient by their tenth is the minute,
 // but for the last frame before each of the minutes 1 to 5 of ten. That frame and the first two of a tenth minute go the plain way.
+#[tactic(auto, using(crate::proofs::LabelShortWays::by_quotient))]
 fn drop_number(n: u32) -> u64
     requires { n < 2589408 }
     ensures { result ≡ label_number (label_at n TimeCodeType.Fps30Drop) }
@@ -106,6 +110,7 @@ fn drop_number(n: u32) -> u64
 
 // The number of the label of a count at a rate that skips none, by its frames of a second and its bits: likewise by the minute and the
 // place in it.
+#[tactic(auto, using(crate::proofs::LabelShortWays::by_minute))]
 #[inline(always)]
 fn even_number_at<const FRAMES: u32, const BITS: u8>(count: u32) -> u64
     requires { RateOf FRAMES BITS × (is_drop_frame (type_of BITS) ≡ false) }
@@ -131,6 +136,7 @@ fn even_number(count: u32, rate: TimeCodeType) -> u64
 }
 
 // `MtcTime::to_frame_count`.
+#[tactic(auto, using(crate::proofs::LabelShortWays::drop_frame_count, crate::proofs::LabelShortWays::even_frame_count))]
 pub fn frame_count(t: MtcTime) -> u32
     ensures { result ≡ frame_count t }
 {
@@ -149,6 +155,7 @@ pub fn frame_count(t: MtcTime) -> u32
 }
 
 // The number of `MtcTime::from_frame_count`.
+#[tactic(auto, using(crate::proofs::LabelShortWays::drop_at))]
 pub fn number_at(count: u32, rate: TimeCodeType) -> u64
     ensures { result ≡ label_number (label_at count rate) }
 {
@@ -159,6 +166,7 @@ pub fn number_at(count: u32, rate: TimeCodeType) -> u64
 }
 
 // The number of `MtcTime::add_frames`.
+#[tactic(auto, using(labels::proofs::Laws::passed_mod, labels::proofs::Laws::sum_fits, crate::proofs::LabelShortWays::drop_count_below, crate::proofs::LabelShortWays::drop_added, crate::proofs::LabelShortWays::added))]
 pub fn number_after(t: MtcTime, delta: i32) -> u64
     ensures { result ≡ label_number (add_frames t delta) }
 {
@@ -171,6 +179,7 @@ pub fn number_after(t: MtcTime, delta: i32) -> u64
 }
 
 // `MtcTime::add_frames`. The rate, too, is read off the number: its caller then keeps nothing of `t`.
+#[tactic(auto, using(crate::proofs::FlatBack::moved_numbered))]
 pub fn add_frames(t: MtcTime, delta: i32) -> MtcTime
     ensures { result ≡ add_frames t delta }
 {

@@ -9,7 +9,9 @@ ghost use Rattle.fast_mtc.specs.Reader.{reader_in, flat_event};
 ghost use Rattle.fast_mtc.specs.Clauses.{Received, FirstKept, PassedPiece, InSequence, OutOfSequence, order_in, order_out, order_begun, opposite, turning, passing};
 
 use crate::report::{complete, quiet};
-use crate::words::{FIRST, LOCKED, ORDER};
+use crate::words::{
+    BEGUN_AT_0, BEGUN_AT_7, FIRST, LOCKED, ORDER, STOPPED_FORWARD, STOPPED_REVERSE,
+};
 use mtc::Direction;
 
 // In a sequence forward the order is below this one, in reverse below the next.
@@ -21,16 +23,6 @@ const OUT_FORWARD: u32 = 16;
 const OUT_REVERSE: u32 = 24;
 
 const OUT_UNDIRECTED: u32 = 32;
-
-// Without a direction, piece 0 or 7 has begun a sequence.
-const BEGUN_AT_0: u32 = 40;
-
-const BEGUN_AT_7: u32 = 41;
-
-// Forward, and in reverse, after no piece; above them no direction either.
-const STOPPED_FORWARD: u32 = 42;
-
-const STOPPED_REVERSE: u32 = 43;
 
 // ---- the two directions
 
@@ -91,6 +83,8 @@ fn turning(way: Direction, order: u32) -> u32
 }
 
 // ---- a data byte
+//
+// The words, the piece and the byte go on as they are: a struct of a `&mut` array and two numbers is no plainer.
 
 // `MtcReader::receive` on the words.
 pub fn receive(r: &mut [u32; 15], byte: u8) -> u64
@@ -111,6 +105,7 @@ pub fn receive(r: &mut [u32; 15], byte: u8) -> u64
 }
 
 // The next piece of a sequence.
+#[tactic(auto, using(crate::proofs::ReceivedPieces::next_on, crate::proofs::ReceivedPieces::next_going, crate::proofs::ReceivedPieces::next_ends))]
 fn next<W: Way>(r: &mut [u32; 15], p: u32, byte: u8) -> u64
     requires { (p ≡ piece_of byte) × (get_or r.old 8 0 ≡ order_in W.WAY p) }
     ensures { Received r.old byte result r.new }
@@ -126,6 +121,7 @@ fn next<W: Way>(r: &mut [u32; 15], p: u32, byte: u8) -> u64
 // ---- a piece that is not the next one of a sequence, in the direction that it leaves
 
 // In a direction only its first piece begins a sequence.
+#[tactic(auto, using(crate::proofs::PassedPieces::way_passed, crate::proofs::PassedPieces::way_begun))]
 fn go<W: Way>(r: &mut [u32; 15], p: u32, byte: u8) -> u64
     requires { (p ≤ 7) × FirstKept r.old }
     ensures { PassedPiece (Some W.WAY) r.old p (value_of byte) result r.new }
@@ -152,6 +148,7 @@ fn turn<W: Way>(r: &mut [u32; 15], p: u32, byte: u8) -> u64
 }
 
 // Without a direction the first piece of either does.
+#[tactic(auto, using(crate::proofs::PassedPieces::none_begun_0, crate::proofs::PassedPieces::none_begun_7, crate::proofs::PassedPieces::none_passed))]
 fn go_nowhere(r: &mut [u32; 15], p: u32, byte: u8) -> u64
     requires { (p ≤ 7) × FirstKept r.old }
     ensures { PassedPiece None r.old p (value_of byte) result r.new }
@@ -192,6 +189,7 @@ fn dropped(r: &mut [u32; 15], byte: u8) -> u64
     broken::<Reverse>(r, byte)
 }
 
+#[tactic(auto, using(crate::proofs::PassedPieces::kept_inside))]
 fn broken<W: Way>(r: &mut [u32; 15], byte: u8) -> u64
     requires { InSequence W.WAY (get_or r.old 8 0) × (get_or r.old 8 0 ≡ order_in W.WAY (piece_of byte) → ⊥) }
     ensures { Received r.old byte result r.new }
@@ -222,6 +220,7 @@ fn outside(r: &mut [u32; 15], byte: u8) -> u64
 }
 
 // In a direction.
+#[tactic(auto, using(crate::proofs::PassedPieces::kept_outside))]
 fn directed<W: Way>(r: &mut [u32; 15], byte: u8) -> u64
     requires { OutOfSequence W.WAY (get_or r.old 8 0) }
     ensures { Received r.old byte result r.new }
@@ -236,6 +235,7 @@ fn directed<W: Way>(r: &mut [u32; 15], byte: u8) -> u64
 }
 
 // The first piece of all, or after a full message.
+#[tactic(auto, using(crate::proofs::PassedPieces::kept_none))]
 fn after_none(r: &mut [u32; 15], byte: u8) -> u64
     requires { 42 ≤ get_or r.old 8 0 }
     ensures { Received r.old byte result r.new }
@@ -252,6 +252,7 @@ fn after_none(r: &mut [u32; 15], byte: u8) -> u64
 }
 
 // The second piece gives the direction, where it comes right after the first either way.
+#[tactic(auto, using(crate::proofs::PassedPieces::kept_undirected))]
 fn undirected(r: &mut [u32; 15], byte: u8) -> u64
     requires { (32 ≤ get_or r.old 8 0) × (get_or r.old 8 0 < 42) }
     ensures { Received r.old byte result r.new }

@@ -36,14 +36,14 @@ pub struct FlatMaybeSequence {
 
 // ---- events as numbers
 
-#[tactic(auto, unfolding(crate::specs::Reader::flat_report))]
+#[tactic(auto, using(crate::proofs::Events::report_is), unfolding(crate::specs::Reader::flat_report))]
 fn flat_report(s: MtcSequence) -> u64
     ensures { (result ≡ flat_report (Some s)) × (result ≤ 7) }
 {
     1 + flat_direction(s.direction) as u64 * 2 + s.discontinuity as u64 * 4
 }
 
-#[tactic(auto, unfolding(crate::specs::Reader::flat_event))]
+#[tactic(auto, unfolding(crate::specs::Reader::flat_event, crate::specs::Reader::flat_report))]
 fn flat_event(e: MtcEvent) -> u64
     ensures { result ≡ flat_event e }
 {
@@ -63,6 +63,7 @@ pub(crate) fn quiet(p: u32) -> u64
 }
 
 // The report of a number and of the reader that it left.
+#[tactic(auto, using(crate::proofs::Events::direction_low), unfolding(crate::specs::Reader::flat_maybe_sequence, crate::specs::Reader::flat_sequence, crate::specs::Reader::report_in))]
 pub fn report_in(words: [u32; 15], report: u64) -> FlatMaybeSequence
     ensures { result ≡ flat_maybe_sequence (report_in (reader_in words) report) }
 {
@@ -88,17 +89,21 @@ pub fn report_in(words: [u32; 15], report: u64) -> FlatMaybeSequence
     }
 }
 
-// A label, or all zeros.
+// A label, or all zeros. By `map_or` or `map_or_else` a report takes 15 more instructions.
 #[tactic(auto, unfolding(crate::specs::Time::flat_time))]
 fn label_or(t: Option<MtcTime>) -> FlatTime
     ensures { result ≡ flat_time (label_or t) }
 {
-    t.map_or(no_time(), flat_time)
+    match t {
+        None => no_time(),
+        Some(time) => flat_time(time),
+    }
 }
 
 // ---- the end of a sequence
 
 // The label of eight nibbles.
+#[tactic(auto, unfolding(crate::specs::Reader::nibbles_in))]
 fn raw_in(words: [u32; 15]) -> MtcTime
     ensures { result ≡ raw_of (nibbles_in words) }
 {
@@ -111,6 +116,7 @@ fn raw_in(words: [u32; 15]) -> MtcTime
 }
 
 // The end of a sequence, at its last piece.
+#[tactic(auto, using(crate::proofs::SteadyLabels::reports_sequence), unfolding(crate::specs::Reader::reader_in))]
 pub(crate) fn complete(r: &mut [u32; 15], direction: Direction) -> u64
     requires { (reader_in r.old).direction ≡ Some direction }
     ensures { SequenceEnded (final direction) r.old result r.new }
@@ -128,6 +134,7 @@ pub(crate) fn complete(r: &mut [u32; 15], direction: Direction) -> u64
 }
 
 // The same of any label.
+#[tactic(auto, using(crate::proofs::SteadyLabels::reports_sequence))]
 fn complete_any(r: &mut [u32; 15], raw: MtcTime, direction: Direction) -> u64
     requires { ((reader_in r.old).direction ≡ Some direction) × (raw ≡ raw_of (nibbles_in r.old)) }
     ensures { SequenceEnded (final direction) r.old result r.new }
@@ -179,6 +186,7 @@ fn jumps(previous: Option<MtcTime>, direction: Direction, raw: MtcTime) -> bool
 const TWO_FRAMES: u32 = 0x200_0000;
 
 // True only for a steady label.
+#[tactic(auto, using(crate::proofs::SteadyLabels::word_fits, crate::proofs::SteadyLabels::word_room))]
 fn is_steady(words: [u32; 15], raw: MtcTime, direction: Direction) -> bool
     ensures { result ≡ true → SteadyLabel words raw direction }
 {
@@ -202,13 +210,15 @@ fn steady(raw: MtcTime, direction: Direction) -> MtcSequence
     requires { (raw.frames ≤ 27) × (1 ≤ raw.frames) }
     ensures { result ≡ steady direction raw }
 {
-    let frames = match direction {
+    // Changed in place: as `MtcTime { frames, ..raw }` a piece of a steady stream takes one more instruction.
+    let mut current = raw;
+    current.frames = match direction {
         Direction::Forward => raw.frames + 2,
         Direction::Reverse => raw.frames - 1,
     };
     MtcSequence {
         raw,
-        current: MtcTime { frames, ..raw },
+        current,
         direction,
         discontinuity: false,
     }

@@ -7,6 +7,9 @@ ghost use Rattle.fast_mtc.specs.Time.{time_of, time_at, time_numbered, flat_time
 use mtc::{MtcTime, QuarterFrame, TimeCodeType};
 use universal::SysexError;
 
+// These are C's records. C has none of the library's types, and any numbers may stand in a record, so each is read
+// and made field by field.
+
 // A label. Rates: 0 is 24, 1 is 25, 2 is 30 drop-frame, 3 is 30 frames per second. Only the two low bits of a rate are read.
 #[repr(C)]
 #[derive(Clone, Copy)]

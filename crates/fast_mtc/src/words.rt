@@ -10,6 +10,7 @@ use crate::time::{FlatTime, flat_time, no_time};
 use mtc::{Direction, MtcReader, MtcTime, TimeCodeType};
 
 // A time, where `present` is true. Where it is false the time is all zeros in an answer, and is not read in an argument.
+// C has no Option, so a flag stands beside the value.
 #[repr(C)]
 #[derive(Clone, Copy)]
 pub struct FlatMaybeTime {
@@ -58,13 +59,40 @@ pub(crate) const TIME: usize = 14;
 
 // ---- the order
 
+// Without a direction, piece 0 or 7 has begun a sequence.
+pub(crate) const BEGUN_AT_0: u32 = 40;
+
+pub(crate) const BEGUN_AT_7: u32 = 41;
+
+// After no piece: forward, in reverse, without a direction. From the first one on no order runs.
+pub(crate) const STOPPED_FORWARD: u32 = 42;
+
+pub(crate) const STOPPED_REVERSE: u32 = 43;
+
+const STOPPED_UNDIRECTED: u32 = 44;
+
+// The tables test one range after another, the usual orders first: as a `match` over ranges they take more instructions, 9 in
+// `full_message` and 22 in `reader_in` with `reader_fields`.
+
 #[tactic(auto, unfolding(crate::specs::Reader::way_in))]
 fn way_in(order: u32) -> Option<Direction>
     ensures { result ≡ way_in order }
 {
+    if order < 8 {
+        return Some(Direction::Forward);
+    }
+    if order < 16 {
+        return Some(Direction::Reverse);
+    }
+    if order < 24 {
+        return Some(Direction::Forward);
+    }
+    if order < 32 {
+        return Some(Direction::Reverse);
+    }
     match order {
-        0..=7 | 16..=23 | 42 => Some(Direction::Forward),
-        8..=15 | 24..=31 | 43 => Some(Direction::Reverse),
+        STOPPED_FORWARD => Some(Direction::Forward),
+        STOPPED_REVERSE => Some(Direction::Reverse),
         _ => None,
     }
 }
@@ -73,12 +101,24 @@ fn way_in(order: u32) -> Option<Direction>
 fn last_in(order: u32) -> Option<u8>
     ensures { result ≡ last_in order }
 {
+    if order < 8 {
+        return Some(((order + 7) % 8) as u8);
+    }
+    if order < 16 {
+        return Some(((order + 1) % 8) as u8);
+    }
+    if order < 24 {
+        return Some(((order + 7) % 8) as u8);
+    }
+    if order < 32 {
+        return Some(((order + 1) % 8) as u8);
+    }
+    if order < 40 {
+        return Some((order % 8) as u8);
+    }
     match order {
-        0..=7 | 16..=23 => Some(((order + 7) % 8) as u8),
-        8..=15 | 24..=31 => Some(((order + 1) % 8) as u8),
-        32..=39 => Some((order % 8) as u8),
-        40 => Some(0),
-        41 => Some(7),
+        BEGUN_AT_0 => Some(0),
+        BEGUN_AT_7 => Some(7),
         _ => None,
     }
 }
@@ -87,10 +127,14 @@ fn last_in(order: u32) -> Option<u8>
 fn count_in(order: u32) -> u8
     ensures { result ≡ count_in order }
 {
+    if order < 8 {
+        return order as u8;
+    }
+    if order < 16 {
+        return (15 - order) as u8;
+    }
     match order {
-        0..=7 => order as u8,
-        8..=15 => (15 - order) as u8,
-        40 | 41 => 1,
+        BEGUN_AT_0 | BEGUN_AT_7 => 1,
         _ => 0,
     }
 }
@@ -99,9 +143,15 @@ fn count_in(order: u32) -> u8
 fn first_in(order: u32, kept: u32) -> u8
     ensures { result ≡ first_in order kept }
 {
+    if order < 8 {
+        return 0;
+    }
+    if order < 16 {
+        return 7;
+    }
     match order {
-        0..=7 | 40 => 0,
-        8..=15 | 41 => 7,
+        BEGUN_AT_0 => 0,
+        BEGUN_AT_7 => 7,
         _ => (kept % 8) as u8,
     }
 }
@@ -132,6 +182,7 @@ pub(crate) fn time_in(mark: u32, w: u32) -> Option<MtcTime>
 }
 
 // The word of a label, a byte for each number.
+#[tactic(auto, using(crate::proofs::LabelWords::label_back))]
 pub fn label_word(t: MtcTime) -> u32
     ensures { label_in t.rate result ≡ t }
 {
@@ -181,7 +232,7 @@ pub fn is_locked(words: [u32; 15]) -> bool
 pub fn is_running(words: [u32; 15]) -> bool
     ensures { result ≡ (reader_in words).running }
 {
-    words[ORDER] < 42
+    words[ORDER] < STOPPED_FORWARD
 }
 
 #[tactic(auto, unfolding(crate::specs::Reader::reader_in))]
@@ -234,7 +285,7 @@ pub fn reader_in(words: [u32; 15]) -> MtcReader
         last: last_in(order),
         direction: way_in(order),
         locked: words[LOCKED] != 0,
-        running: order < 42,
+        running: order < STOPPED_FORWARD,
         previous: previous(words),
         time: time(words),
     }
@@ -265,7 +316,7 @@ pub fn reader_fields(r: MtcReader) -> FlatReaderFields
 pub fn fresh() -> [u32; 15]
     ensures { reader_in result ≡ fresh }
 {
-    [0, 0, 0, 0, 0, 0, 0, 0, 44, 0, 0, 0, 0, 0, 0]
+    [0, 0, 0, 0, 0, 0, 0, 0, STOPPED_UNDIRECTED, 0, 0, 0, 0, 0, 0]
 }
 
 // The order that keeps the direction and forgets the pieces.
@@ -274,13 +325,14 @@ fn stopped(order: u32) -> u32
     ensures { StoppedOrder order result }
 {
     match way_in(order) {
-        Some(Direction::Forward) => 42,
-        Some(Direction::Reverse) => 43,
-        None => 44,
+        Some(Direction::Forward) => STOPPED_FORWARD,
+        Some(Direction::Reverse) => STOPPED_REVERSE,
+        None => STOPPED_UNDIRECTED,
     }
 }
 
 // `MtcReader::full_message`, with the message's label.
+#[tactic(auto, using(crate::proofs::PassedPieces::informs))]
 pub fn full_message(r: &mut [u32; 15], time: MtcTime)
     ensures { reader_in r.new ≡ after_full_message (reader_in r.old) time }
 {

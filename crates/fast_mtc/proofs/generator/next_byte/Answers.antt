@@ -3,8 +3,7 @@ use Rattle.fast_mtc.proofs.GeneratorBytes.{stopped_in, starts_over, piece_goes_o
 use Rattle.fast_mtc.proofs.generator.next_byte.Goals as goal
 
 pub returns-then-g-eq0 : goal.returns-then-g-eq0
-returns-then-g-eq0 c =
-    stopped_in _ c.if-g-eq0.true
+returns-then-g-eq0 c = rw c.number.ensures (stopped_in _ c.if-g-eq0.true)
 
 pub returns-then-last-gt7 : goal.returns-then-last-gt7
 returns-then-last-gt7 c =

@@ -7,9 +7,6 @@ use Rattle.fast_mtc.proofs.Orders.{outside_small}
 use Rattle.fast_mtc.proofs.PassedPieces.{kept_outside, kept_unlocked, outside_on, outside_off}
 use Rattle.fast_mtc.proofs.receive.directed.Goals as goal
 
-pub go-requires : goal.go-requires
-go-requires g c = (search rules, kept_outside _ c.told-r g.W.Way.WAY c.requires)
-
 pub returns-then-order-order_out : goal.returns-then-order-order_out
 returns-then-order-order_out g c =
     outside_on _ _ _ _ c.told-r g.W.Way.WAY c.requires (c.if-order-order_out.true ∙ c.order_out.ensures ∙ ap (λ d. order_out d (piece_of c.args.byte)) c.WAY.ensures) c.go.ensures

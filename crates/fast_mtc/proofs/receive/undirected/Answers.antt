@@ -3,15 +3,9 @@ use Rattle.fast_mtc.proofs.PassedPieces.{below_40, kept_undirected, kept_unlocke
 use borrow.Author.Rules.{rules}
 use Rattle.fast_mtc.proofs.receive.undirected.Goals as goal
 
-pub go-requires : goal.go-requires
-go-requires c = (search rules, (kept_undirected c.args.r.now c.told-r c.requires.0 (below_40 _ c.requires.1 c.if-order-eq-BEGUN_AT_0.false c.if-order-eq-BEGUN_AT_7.false)))
-
 pub returns-then-order-p : goal.returns-then-order-p
 returns-then-order-p c =
     second_forward _ _ _ _ c.told-r c.requires.0 (below_40 _ c.requires.1 c.if-order-eq-BEGUN_AT_0.false c.if-order-eq-BEGUN_AT_7.false) c.if-order-p.true c.go.ensures
-
-pub go-requires-then-order-p-2 : goal.go-requires-then-order-p-2
-go-requires-then-order-p-2 c = (search rules, (kept_undirected c.args.r.now c.told-r c.requires.0 (below_40 _ c.requires.1 c.if-order-eq-BEGUN_AT_0.false c.if-order-eq-BEGUN_AT_7.false)))
 
 pub returns-then-order-p-2 : goal.returns-then-order-p-2
 returns-then-order-p-2 c =
