@@ -11,12 +11,12 @@ ghost use Rattle.fast_mmc.specs.Words.{after_words, closed_out, words_answer, wo
 ghost use Rattle.fast_mmc.specs.Clauses.{open_writing, PutWhole, LowBytes, WordInRange, AtRate};
 
 use crate::command::{LOCATE_FIELD, LOCATE_TARGET, MOVE, NAMES, plain_name, word_command};
-use crate::locate::{put_four, put_locate_bytes};
+use crate::locate::put_locate_bytes;
 use crate::numbers::{WrittenNumbers, written_numbers};
 use codes::{FinalByte, StandardTimeCode, TimeCodeStatus};
 use labels::{MtcTime, TimeCodeType};
 use mmc::{MmcCommand, Writer};
-use universal::{SysexError, put};
+use universal::{SysexError, put, put_part};
 
 // 104, 68, 68, 98 and 28 in their bytes: above 23 hours, 59 minutes, 59 seconds, 29 frames and 99 subframes they make 128 or more.
 const ABOVE_RANGE: u64 = 0x1C62_4444_6800;
@@ -122,16 +122,14 @@ fn is_kept(word: u64) -> bool
     in_minute / 512 != 0 || in_minute % 256 != 0
 }
 
-// A Locate to a usual time that fits, and the position after it; any other is left, and the position stays.
-#[tactic(auto, using(crate::proofs::WordPuts::put_usual, crate::specs::Clauses::nothing_went, crate::proofs::WordRanges::usual_of))]
-fn put_locate(out: &mut [u8], at: usize, word: u64) -> usize
+// A Locate to a usual time that fits, and the position after it, or none: any other is left.
+fn put_locate(out: &mut [u8], at: usize, word: u64) -> Option<usize>
     requires { (at ≤ 40000) × (word % 256 ≡ 11) }
-    ensures upper_bound { result ≤ at + 8 }
-    ensures put_whole { PutWhole word at out.old result out.new }
+    ensures { PutWhole word at out.old result out.new }
 {
     let next = at + 8;
     if out.len() < next || !is_in_range(word) || !is_kept(word) {
-        return at;
+        return None;
     }
     let hours = (word / 0x100 % 256) as u8;
     let minutes = (word / 0x1_0000 % 256) as u8;
@@ -141,30 +139,28 @@ fn put_locate(out: &mut [u8], at: usize, word: u64) -> usize
     let marks = (word / 0x1_0000_0000_0000 % 256) as u8;
     let bytes = [hours + marks * 32, minutes, seconds, frames, last];
     put_locate_bytes(out, at, bytes);
-    next
+    Some(next)
 }
 
-// A Locate to a register that may be written, and the position after it; any other is left, and the position stays.
-#[tactic(auto, using(crate::proofs::WordPuts::put_four, crate::specs::Clauses::nothing_went, crate::proofs::WordItems::field_sent))]
-fn put_register(out: &mut [u8], at: usize, word: u64) -> usize
+// A Locate to a register that may be written, and the position after it, or none: any other is left.
+#[tactic(auto, using(crate::proofs::WordPuts::put_four, crate::proofs::WordItems::field_sent))]
+fn put_register(out: &mut [u8], at: usize, word: u64) -> Option<usize>
     requires { (at ≤ 40000) × (word % 256 ≡ 10) }
-    ensures upper_bound { result ≤ at + 8 }
-    ensures put_whole { PutWhole word at out.old result out.new }
+    ensures { PutWhole word at out.old result out.new }
 {
     let register = (word / 0x100 % 256) as u8;
     if word / 0x1_0000 != 0 || register < 8 || register > 15 {
-        return at;
+        return None;
     }
-    put_four(out, at, [0x44, 2, 0, register]);
-    at + 4
+    put_part(out, at, &[0x44, 2, 0, register]);
+    Some(at + 4)
 }
 
 // A Move that may be written, likewise.
-#[tactic(auto, using(crate::proofs::WordPuts::put_four, crate::specs::Clauses::nothing_went, crate::proofs::WordItems::word_move_sent))]
-fn put_move(out: &mut [u8], at: usize, word: u64) -> usize
+#[tactic(auto, using(crate::proofs::WordPuts::put_four, crate::proofs::WordItems::word_move_sent))]
+fn put_move(out: &mut [u8], at: usize, word: u64) -> Option<usize>
     requires { (at ≤ 40000) × (word % 256 ≡ 12) }
-    ensures upper_bound { result ≤ at + 8 }
-    ensures put_whole { PutWhole word at out.old result out.new }
+    ensures { PutWhole word at out.old result out.new }
 {
     let destination = (word / 0x100 % 256) as u8;
     let source = (word / 0x1_0000 % 256) as u8;
@@ -174,23 +170,21 @@ fn put_move(out: &mut [u8], at: usize, word: u64) -> usize
         || source == 0
         || source > 31
     {
-        return at;
+        return None;
     }
-    put_four(out, at, [0x4C, 2, destination, source]);
-    at + 4
+    put_part(out, at, &[0x4C, 2, destination, source]);
+    Some(at + 4)
 }
 
-// A name alone, or a Locate to a register or a Move that may be written, and the position after it; any other is left, and the
-// position stays.
-#[tactic(auto, using(crate::proofs::WordPuts::put_name, crate::specs::Clauses::nothing_went))]
-pub(crate) fn put_small(out: &mut [u8], at: usize, word: u64) -> usize
+// A name alone, or a Locate to a register or a Move that may be written, and the position after it, or none: any other
+// is left.
+pub(crate) fn put_small(out: &mut [u8], at: usize, word: u64) -> Option<usize>
     requires { at ≤ 40000 }
-    ensures upper_bound { result ≤ at + 8 }
-    ensures put_whole { PutWhole word at out.old result out.new }
+    ensures { PutWhole word at out.old result out.new }
 {
     if word < NAMES {
         put(out, at, plain_name(word as u8));
-        return at + 1;
+        return Some(at + 1);
     }
     if word % 256 == LOCATE_FIELD {
         return put_register(out, at, word);
@@ -198,20 +192,18 @@ pub(crate) fn put_small(out: &mut [u8], at: usize, word: u64) -> usize
     if word % 256 == MOVE {
         return put_move(out, at, word);
     }
-    at
+    None
 }
 
-// A usual word, and the position after it; any other is left, and the position stays.
-#[tactic(auto, using(crate::proofs::WordPuts::put_name, crate::proofs::WordItems::low_sent))]
-fn put_whole(out: &mut [u8], at: usize, word: u64) -> usize
+// A usual word, and the position after it, or none: any other is left.
+fn put_whole(out: &mut [u8], at: usize, word: u64) -> Option<usize>
     requires { at ≤ 40000 }
-    ensures upper_bound { result ≤ at + 8 }
-    ensures put_whole { PutWhole word at out.old result out.new }
+    ensures { PutWhole word at out.old result out.new }
 {
     // Stop to Record Exit, whose names are one more, and a Locate to a time come most often.
     if word < 7 {
         put(out, at, word as u8 + 1);
-        return at + 1;
+        return Some(at + 1);
     }
     if word % 256 == LOCATE_TARGET {
         return put_locate(out, at, word);
@@ -227,10 +219,9 @@ fn put_words(out: &mut [u8], words: &[u64]) -> WrittenNumbers
 {
     let mut at = 4;
     for (i, &word) in words.iter().enumerate() {
-        let next = put_whole(out, at, word);
-        if next == at {
+        let Some(next) = put_whole(out, at, word) else {
             return put_rest(out, &words[i..], at, i);
-        }
+        };
         at = next;
     }
     close_at(out, at)
@@ -260,10 +251,7 @@ fn close_at(out: &mut [u8], at: usize) -> WrittenNumbers
 fn put_start(out: &mut [u8], device_id: u8)
     ensures { out.new ≡ overlay out.old 0 (240 ∷ 127 ∷ device_id ∷ 6 ∷ []) }
 {
-    put(out, 0, 0xF0);
-    put(out, 1, 0x7F);
-    put(out, 2, device_id);
-    put(out, 3, 0x06);
+    put_part(out, 0, &[0xF0, 0x7F, device_id, 0x06]);
 }
 
 // Writes a whole command message: opened, given the commands of the words, and closed.
@@ -277,7 +265,7 @@ pub fn write_words(out: &mut [u8], device_id: u8, words: &[u64]) -> WrittenNumbe
             length: 0,
         };
     }
-    // Where the four bytes fit, none is checked for room.
+    // The two calls are the same: where the four bytes fit, none is checked for room. With one call a message takes 19 instructions more.
     if out.len() < 4 {
         put_start(out, device_id);
         return put_rest(out, words, 4, 0);
