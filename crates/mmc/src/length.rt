@@ -9,7 +9,8 @@ pub enum Kind {
     Fields,
 }
 
-// The data that the last byte of a name asks for: so many bytes, or a count byte and that many.
+// The data that the last byte of a name asks for: so many bytes, or a count byte and that many. It stays an enum of its own, as document
+// 01 asks: an `Option` would not say that none is a count.
 #[derive(Clone, Copy)]
 pub enum Length {
     Fixed(usize),

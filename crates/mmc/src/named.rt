@@ -9,7 +9,9 @@ ghost use Rattle.mmc.specs.Named.{name_fits, by_rule, named_item, put_of, extent
 use crate::length::{Kind, Length, length_of};
 use universal::{SysexError, all_low, put, put_part};
 
-// How many bytes went out, and the check that they passed or that ended them.
+// How many bytes went out, and the check that they passed or that ended them. The buffer, the position and the source stay three
+// parameters, as document 01 has them: the buffer is lent for each call, and the position goes by value. The bound on the position stays a
+// clause: each put adds to it, so a type with the bound in it would need one bound for every depth.
 #[derive(Clone, Copy)]
 pub struct Put {
     pub len: usize,

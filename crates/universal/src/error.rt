@@ -28,6 +28,7 @@ pub enum SysexError {
     ItemLimit,
 }
 
+// Numbers and back are functions, and no `From`: refusal 4 has two numbers, and every number has a refusal.
 impl SysexError {
     // The number of document 01.
     pub fn number(self) -> u8
