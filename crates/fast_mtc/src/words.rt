@@ -1,4 +1,4 @@
-// The reader's record: fifteen words, any of which stand for a reader in its ranges.
+// The reader's record: fifteen words, any of which stand for a reader in its ranges. C has no Option, so in its records a flag stands beside the value.
 ghost use Rattle.std.specs.Prelude.{◌≡◌, ◌+◌, ◌*◌, ◌≤◌};
 ghost use Rattle.labels.specs.Time.{bits_of};
 ghost use Rattle.mtc.specs.Reader.{fresh, after_full_message};
@@ -10,7 +10,6 @@ use crate::time::{FlatTime, flat_time, no_time};
 use mtc::{Direction, MtcReader, MtcTime, TimeCodeType};
 
 // A time, where `present` is true. Where it is false the time is all zeros in an answer, and is not read in an argument.
-// C has no Option, so a flag stands beside the value.
 #[repr(C)]
 #[derive(Clone, Copy)]
 pub struct FlatMaybeTime {
