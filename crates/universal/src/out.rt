@@ -21,5 +21,8 @@ pub fn put_part(out: &mut [u8], at: usize, bytes: &[u8])
     }
     let room = out.len() - at;
     let end = bytes.len().min(room);
-    out[at..at + end].copy_from_slice(&bytes[..end]);
+    // Most parts have a few bytes: `copy_from_slice` would call the C library's copy for each, at some twelve instructions more.
+    for i in 0..end {
+        out[at + i] = bytes[i];
+    }
 }
