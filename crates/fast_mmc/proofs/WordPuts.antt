@@ -2,18 +2,19 @@
 use Rattle.std.specs.Prelude.{Option, Some, None}
 use Prim.Native.Nat.{ℕ, ◌+◌, ◌-◌, ◌*◌, ◌/◌, ◌%◌, ◌≤◌, ◌<◌}
 use mathlib.Core.Path.{◌≡◌, refl, sym, ap, ap₂, subst, ◌∙◌}
-use mathlib.Core.List.{List, [], ◌∷◌}
+use mathlib.Core.List.{List, [], ◌∷◌, append_assoc}
 use native.Mathlib.Numerals.{add-one}
 use native.Mathlib.Omega.{arith}
+use borrow.Rule.Slice.PartMut.{put_mid}
 use borrow.Author.Tests.{le-leb, lt-leb}
 use lib.Dec.{lit≤}
-use lib.ListN.{length, drop, get_or, drop_of_length-le}
-use lib.Seq.{drop-cons}
+use lib.ListN.{length, take, drop, get_or, drop_of_length-le}
+use lib.Seq.{drop-cons, drop-drop}
 use Rattle.fast_mmc.specs.declared.numbers.WrittenNumbers.{WrittenNumbers}
 use Rattle.mmc.specs.Item.{command_item}
 use Rattle.fast_mmc.specs.Numbers.{written_numbers}
 use Rattle.fast_mmc.specs.Word.{plain_command, byte_at, word_item}
-use Rattle.fast_mmc.specs.Clauses.{open_writing, PutWhole, nothing_went, went_whole, PutOne, stayed, went_out}
+use Rattle.fast_mmc.specs.Clauses.{open_writing, WentWhole, PutOne}
 use Rattle.fast_mmc.specs.Refusal.{flat_stop}
 use Rattle.fast_mmc.specs.Write.{checked_at, writer_of, writing_at, flat_writer}
 use Rattle.fast_mmc.specs.Words.{after_words, closed_out, words_state, words_answer, words_left}
@@ -24,28 +25,30 @@ use Rattle.mmc.specs.Writings.{State}
 use Rattle.universal.specs.Emission.{Emission, sent, refusing, check, resume, ◌then◌, answer_in}
 use Rattle.universal.specs.Overlay.{overlay}
 use Rattle.universal.specs.Refusals.{Refusal, Answer, gives, refused, refusal, too_small}
-use Rattle.universal.proofs.Laws.{length_overlay, overlay_none}
+use Rattle.universal.proofs.Laws.{length_overlay, overlay_none, overlay_fits}
 use Rattle.fast_mmc.proofs.WordItems.{word_name, Usual, usual_sent}
 use Rattle.mmc.proofs.WritingSteps.{as_it_is, ready_kept, ready_failed, repeats, takes, close_repeats, close_empty, close_long, close_sent, commands_refused, commands_opened, begun_after, writing_after_moves, closed_after, whole_answer}
-
--- ---- by the writer
 
 -- ---- what is put of a word
 
 module _ (word at : ℕ) (out left : List ℕ) where
-  put_known : (bs : List ℕ) → word_item word ≡ sent bs → left ≡ overlay out at bs
-      → PutWhole word at out (at + length bs) left
-  put_known bs e p =
-      went_whole (ap (λ (x : Emission). x.stop) e) (ap (λ (x : Emission). at + length x.bytes) (sym e))
-      (p ∙ ap (λ (x : Emission). overlay out at x.bytes) (sym e))
+  put_known : (bs : List ℕ) → length bs ≤ 8 → word_item word ≡ sent bs → left ≡ overlay out at bs
+      → WentWhole word at out (at + length bs) left
+  put_known bs h e p =
+      record {
+        whole = ap (λ (x : Emission). x.stop) e;
+        moves = ap (λ (x : Emission). at + length x.bytes) (sym e);
+        near = omega (arith, h);
+        bytes = p ∙ ap (λ (x : Emission). overlay out at x.bytes) (sym e);
+      }
 
   pub put_name : (k : ℕ) → word < 9 → command_item [] (plain_command word) ≡ sent (k ∷ []) → left ≡ overlay out at (k ∷ [])
-      → PutWhole word at out (at + 1) left
-  put_name k h e p = put_known (k ∷ []) (word_name word k h e) p
+      → WentWhole word at out (at + 1) left
+  put_name k h e p = put_known (k ∷ []) (lit≤ tt) (word_name word k h e) p
 
   pub put_four : (a b c d : ℕ) → word_item word ≡ sent (a ∷ b ∷ c ∷ d ∷ []) → left ≡ overlay out at (a ∷ b ∷ c ∷ d ∷ [])
-      → PutWhole word at out (at + 4) left
-  put_four a b c d e p = put_known (a ∷ b ∷ c ∷ d ∷ []) e p
+      → WentWhole word at out (at + 4) left
+  put_four a b c d e p = put_known (a ∷ b ∷ c ∷ d ∷ []) (lit≤ tt) e p
 
   pub put_usual : word % 256 ≡ 11 → word / 1125899906842624 ≡ 0
       → Usual (byte_at 256 word) (byte_at 65536 word) (byte_at 16777216 word) (byte_at 4294967296 word) (byte_at 1099511627776 word)
@@ -61,17 +64,15 @@ module _ (word at : ℕ) (out left : List ℕ) where
       ∷ byte_at 4294967296 word
       ∷ byte_at 1099511627776 word
       ∷ [])
-      → PutWhole word at out (at + 8) left
-  put_usual n z u p = put_known _ (usual_sent word n z u) p
+      → WentWhole word at out (at + 8) left
+  put_usual n z u p = put_known _ (lit≤ tt) (usual_sent word n z u) p
 
-no_bytes_put : (bs out : List ℕ) (at : ℕ) → at ≡ at + length bs → overlay out at bs ≡ out
-no_bytes_put [] out at e = overlay_none out at
-no_bytes_put (b ∷ bs) out at e = absurd (omega arith)
-
--- Where the position stays the buffer is as found.
-pub put_nothing : (word at next : ℕ) (out left : List ℕ) → PutWhole word at out next left → next ≡ at → out ≡ left
-put_nothing word at next out left nothing_went e = refl
-put_nothing word at next out left (went_whole s l p) e = sym (p ∙ no_bytes_put _ out at (sym e ∙ l))
+-- As many bytes in the place of a part of a buffer are put there.
+pub put_there : (out : List ℕ) (at k : ℕ) (bytes part : List ℕ) → at + length bytes ≤ length out → k ≡ length bytes → part ≡ bytes
+    → put_mid at k out part ≡ overlay out at bytes
+put_there out at k bytes part h e p =
+    rw (p, e, drop-drop)
+    (sym (append_assoc (take at out) bytes (drop (at + length bytes) out)) ∙ sym (overlay_fits out at bytes h))
 
 -- ---- the list
 
@@ -140,12 +141,11 @@ module _ (at i : ℕ) (few : i < 256) (near : at ≤ 40000) where
 
   -- A word that went out whole moves the position.
   pub gone_whole : (w₀ : Writing) (out₀ : List ℕ) (from : ℕ) (ws out left : List ℕ) (next : ℕ) → Gone w₀ out₀ from ws (open_writing at i) out i
-      → i < length ws → PutWhole (get_or ws i 0) at out next left → (next ≡ at → ⊥) → Gone w₀ out₀ from ws (open_writing next (i + 1)) left (i + 1)
-  gone_whole w₀ out₀ from ws out left next g h nothing_went n = absurd (n refl)
-  gone_whole w₀ out₀ from ws out left next g h (went_whole s l p) n =
+      → i < length ws → WentWhole (get_or ws i 0) at out next left → Gone w₀ out₀ from ws (open_writing next (i + 1)) left (i + 1)
+  gone_whole w₀ out₀ from ws out left next g h p =
       gone_word w₀ out₀ from ws (open_writing at i) out i g (open_writing next (i + 1)) left h
-      (ap (λ (k : ℕ). open_writing k (i + 1)) l ∙ going_on _ s)
-      (p ∙ ap (λ (x : Emission). overlay out at x.bytes) (sym (going_takes _)))
+      (ap (λ (k : ℕ). open_writing k (i + 1)) p.moves ∙ going_on _ p.whole)
+      (p.bytes ∙ ap (λ (x : Emission). overlay out at x.bytes) (sym (going_takes _)))
 
 -- ---- with the writer as one number
 
@@ -158,41 +158,32 @@ writing_open v z =
     rw (r, i)
 
 -- A word that went out whole moves the position and counts an item.
-pub put_one : (word v at next after : ℕ) (out left : List ℕ) → v / 1099511627776 ≡ 0 → at ≡ v % 4294967296 → at ≤ 40000 → next ≤ at + 8
-    → (next ≡ at → ⊥) → after ≡ v - at + next + 4294967296 → PutWhole word at out next left → PutOne word v out after left
+pub put_one : (word v at next after : ℕ) (out left : List ℕ) → v / 1099511627776 ≡ 0 → at ≡ v % 4294967296 → at ≤ 40000
+    → after ≡ v - at + next + 4294967296 → WentWhole word at out next left → PutOne word v out (Some after) left
 unfolding flat_writer flat_stop
-put_one word v at next after out left z p h k n q nothing_went = absurd (n refl)
-put_one word v at next after out left z p h k n q (went_whole s l e) =
+put_one word v at next after out left z p h q s =
     let w : writing_at v ≡ open_writing at (v / 4294967296) =
     writing_open v z ∙ ap (λ (x : ℕ). open_writing x (v / 4294967296)) (sym p) in
     let few : v / 4294967296 < 256 = omega (arith, z) in
     let g : open_writing next (v / 4294967296 + 1) ≡ writing_after (open_writing at (v / 4294967296)) (word_item word) =
-    ap (λ (x : ℕ). open_writing x (v / 4294967296 + 1)) l ∙ going_on at (v / 4294967296) few h (word_item word) s in
-    went_out {after = after} {left = left} (more (at + length (word_item word).bytes) l)
-    (number v at next after z p h k q ∙ ap flat_writer (g ∙ ap (λ (x : Writing). writing_after x (word_item word)) (sym w)))
-    (e
-    ∙ ap (λ (x : Emission). overlay out at x.bytes) (sym (going_takes at (v / 4294967296) few h (word_item word)))
-    ∙ ap (λ (x : Writing). overlay out x.at (admitted x (word_item word)).bytes) (sym w))
+    ap (λ (x : ℕ). open_writing x (v / 4294967296 + 1)) s.moves ∙ going_on at (v / 4294967296) few h (word_item word) s.whole in (
+      number z p h s.near q ∙ ap flat_writer (g ∙ ap (λ (x : Writing). writing_after x (word_item word)) (sym w)),
+      s.bytes
+          ∙ ap (λ (x : Emission). overlay out at x.bytes) (sym (going_takes at (v / 4294967296) few h (word_item word)))
+          ∙ ap (λ (x : Writing). overlay out x.at (admitted x (word_item word)).bytes) (sym w),
+    )
   where
-    more : (m : ℕ) → next ≡ m → v < after
-    more m l = omega (arith, p, q, n, k, l)
-
-    number : (v at next after : ℕ) → v / 1099511627776 ≡ 0 → at ≡ v % 4294967296 → at ≤ 40000 → next ≤ at + 8
+    number : v / 1099511627776 ≡ 0 → at ≡ v % 4294967296 → at ≤ 40000 → next ≤ at + 8
         → after ≡ v - at + next + 4294967296 → after ≡ flat_writer (open_writing next (v / 4294967296 + 1))
-    number v at next after z p h k q =
+    number z p h k q =
         let n : next % 4294967296 ≡ next = omega (arith, h, k) in
         let i : (v / 4294967296 + 1) % 65536 ≡ v / 4294967296 + 1 = omega (arith, z) in
         rw (n, i) (omega (arith, p, q))
 
--- A word that was left leaves the buffer as found.
-pub left_still : (word v : ℕ) (out left : List ℕ) → out ≡ left → PutOne word v out v left
-left_still word v out left e = subst (PutOne word v out v) e stayed
-
 -- A word of which nothing went out leaves it where it was.
-pub gone_still : (w₀ : Writing) (out₀ : List ℕ) (from : ℕ) (ws : List ℕ) (w : Writing) (out left : List ℕ) (i word next : ℕ)
-    → Gone w₀ out₀ from ws w out i → PutWhole word w.at out next left → next ≡ w.at → Gone w₀ out₀ from ws w left i
-gone_still w₀ out₀ from ws w out left i word next g p e =
-    subst (λ (l : List ℕ). Gone w₀ out₀ from ws w l i) (put_nothing word w.at next out left p e) g
+pub gone_still : (w₀ : Writing) (out₀ : List ℕ) (from : ℕ) (ws : List ℕ) (w : Writing) (out left : List ℕ) (i : ℕ)
+    → Gone w₀ out₀ from ws w out i → left ≡ out → Gone w₀ out₀ from ws w left i
+gone_still w₀ out₀ from ws w out left i g e = subst (λ (l : List ℕ). Gone w₀ out₀ from ws w l i) (sym e) g
 
 -- ---- the close, by the position
 

@@ -1,5 +1,5 @@
 -- What only the contracts of inner functions need, on the way to `next_word` and `write_words`. Assumes nothing.
-use Rattle.std.specs.Prelude.{ℕ, ◌+◌, ◌*◌, ◌/◌, ◌%◌, ◌≤◌, ◌<◌, ◌≡◌, List, true, false, ◌⊎◌, length, None}
+use Rattle.std.specs.Prelude.{ℕ, ◌+◌, ◌*◌, ◌/◌, ◌%◌, ◌≤◌, ◌<◌, ◌≡◌, List, true, false, ◌⊎◌, length, Option, Some, None}
 use Rattle.mmc.specs.declared.part.Part.{Part}
 use Rattle.mmc.specs.Command.{command_by_name, command_of_case}
 use Rattle.mmc.specs.Length.{within}
@@ -26,12 +26,17 @@ pub data ShortWord (name : ℕ) : ℕ → Type 0 where
 abbrev pub open_writing : ℕ → ℕ → Writing
 open_writing at items = record { at = at; items = items; stop = None }
 
--- A word whose command went out whole, from a position to the next, or of which nothing did, where the position stays.
-pub data PutWhole (word at : ℕ) (out : List ℕ) : ℕ → List ℕ → Type 0 where
-  nothing_went : PutWhole word at out at out
-  went_whole : {next : ℕ} {left : List ℕ} → (word_item word).stop ≡ None
-      → next ≡ at + length (word_item word).bytes
-      → left ≡ overlay out at (word_item word).bytes → PutWhole word at out next left
+-- A word whose command went out whole, from a position to the next.
+pub record WentWhole (word at : ℕ) (out : List ℕ) (next : ℕ) (left : List ℕ) : Type 0 where
+  pub whole : (word_item word).stop ≡ None
+  pub moves : next ≡ at + length (word_item word).bytes
+  pub near : next ≤ at + 8
+  pub bytes : left ≡ overlay out at (word_item word).bytes
+
+-- A word whose command went out whole, or of which nothing did.
+abbrev pub PutWhole : ℕ → ℕ → List ℕ → Option ℕ → List ℕ → Type 0
+PutWhole word at out None left = left ≡ out
+PutWhole word at out (Some next) left = WentWhole word at out next left
 
 -- The five bytes above the case, each below 128, and no more than two bits above them.
 pub record LowBytes (n : ℕ) : Type 0 where
@@ -57,9 +62,8 @@ pub record AtRate (m s f rate : ℕ) : Type 0 where
   pub slow : rate < 2 → f < 24 + rate
   pub fast : 2 ≤ rate → (rate ≡ 3 → ⊥) → (m % 10 ≡ 0) ⊎ (2 ≤ s * 30 + f)
 
--- A word that was put whole, from a writer's number to one above it, or of which nothing was put, where the number stays.
-pub data PutOne (word writer : ℕ) (out : List ℕ) : ℕ → List ℕ → Type 0 where
-  stayed : PutOne word writer out writer out
-  went_out : {after : ℕ} {left : List ℕ} → writer < after → after ≡ writer_after writer (word_item word)
-      → left ≡ out_after (writing_at writer) out (word_item word)
-      → PutOne word writer out after left
+-- A word after which the writer has this number, or of which nothing was put.
+abbrev pub PutOne : ℕ → ℕ → List ℕ → Option ℕ → List ℕ → Type 0
+PutOne word writer out None left = left ≡ out
+PutOne word writer out (Some after) left =
+    (after ≡ writer_after writer (word_item word)) × (left ≡ out_after (writing_at writer) out (word_item word))

@@ -16,21 +16,16 @@ const MORE_ITEMS: u64 = 0x100_0000_0000;
 // A position that no writing passes.
 const MOST_POSITION: u64 = 40_000;
 
-// A usual word, and the writer after it; any other is left, and the writer stays.
-#[tactic(auto, using(crate::specs::Clauses::stayed, crate::proofs::WordPuts::left_still, crate::proofs::WordPuts::put_nothing, crate::proofs::WordPuts::put_one))]
-fn put_usual(writer: FlatWriter, out: &mut [u8], word: u64) -> FlatWriter
+// A usual word, and the writer after it, or none: any other is left.
+fn put_usual(writer: FlatWriter, out: &mut [u8], word: u64) -> Option<FlatWriter>
     ensures { PutOne word writer out.old result out.new }
 {
     let place = writer % ONE_ITEM;
     if writer / MORE_ITEMS != 0 || place > MOST_POSITION {
-        return writer;
+        return None;
     }
-    let at = place as usize;
-    let next = put_small(out, at, word);
-    if next == at {
-        return writer;
-    }
-    writer - place + next as u64 + ONE_ITEM
+    let next = put_small(out, place as usize, word)?;
+    Some(writer - place + next as u64 + ONE_ITEM)
 }
 
 // One word.
@@ -38,11 +33,10 @@ pub fn put_word(writer: FlatWriter, out: &mut [u8], word: u64) -> FlatWriter
     ensures value { result ≡ writer_after writer (word_item word) }
     ensures out_after { out.new ≡ out_after (writing_at writer) out.old (word_item word) }
 {
-    let after = put_usual(writer, out, word);
-    if after != writer {
-        return after;
+    match put_usual(writer, out, word) {
+        Some(after) => after,
+        None => flat_writer(give_word(out, writer_of(writer), word)),
     }
-    flat_writer(give_word(out, writer_of(writer), word))
 }
 
 // A Write of these fields.

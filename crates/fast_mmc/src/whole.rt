@@ -122,16 +122,14 @@ fn is_kept(word: u64) -> bool
     in_minute / 512 != 0 || in_minute % 256 != 0
 }
 
-// A Locate to a usual time that fits, and the position after it; any other is left, and the position stays.
-#[tactic(auto, using(crate::proofs::WordPuts::put_usual, crate::specs::Clauses::nothing_went, crate::proofs::WordRanges::usual_of))]
-fn put_locate(out: &mut [u8], at: usize, word: u64) -> usize
+// A Locate to a usual time that fits, and the position after it, or none: any other is left.
+fn put_locate(out: &mut [u8], at: usize, word: u64) -> Option<usize>
     requires { (at ≤ 40000) × (word % 256 ≡ 11) }
-    ensures upper_bound { result ≤ at + 8 }
-    ensures put_whole { PutWhole word at out.old result out.new }
+    ensures { PutWhole word at out.old result out.new }
 {
     let next = at + 8;
     if out.len() < next || !is_in_range(word) || !is_kept(word) {
-        return at;
+        return None;
     }
     let hours = (word / 0x100 % 256) as u8;
     let minutes = (word / 0x1_0000 % 256) as u8;
@@ -141,30 +139,28 @@ fn put_locate(out: &mut [u8], at: usize, word: u64) -> usize
     let marks = (word / 0x1_0000_0000_0000 % 256) as u8;
     let bytes = [hours + marks * 32, minutes, seconds, frames, last];
     put_locate_bytes(out, at, bytes);
-    next
+    Some(next)
 }
 
-// A Locate to a register that may be written, and the position after it; any other is left, and the position stays.
-#[tactic(auto, using(crate::proofs::WordPuts::put_four, crate::specs::Clauses::nothing_went, crate::proofs::WordItems::field_sent))]
-fn put_register(out: &mut [u8], at: usize, word: u64) -> usize
+// A Locate to a register that may be written, and the position after it, or none: any other is left.
+#[tactic(auto, using(crate::proofs::WordPuts::put_four, crate::proofs::WordItems::field_sent))]
+fn put_register(out: &mut [u8], at: usize, word: u64) -> Option<usize>
     requires { (at ≤ 40000) × (word % 256 ≡ 10) }
-    ensures upper_bound { result ≤ at + 8 }
-    ensures put_whole { PutWhole word at out.old result out.new }
+    ensures { PutWhole word at out.old result out.new }
 {
     let register = (word / 0x100 % 256) as u8;
     if word / 0x1_0000 != 0 || register < 8 || register > 15 {
-        return at;
+        return None;
     }
     put_four(out, at, [0x44, 2, 0, register]);
-    at + 4
+    Some(at + 4)
 }
 
 // A Move that may be written, likewise.
-#[tactic(auto, using(crate::proofs::WordPuts::put_four, crate::specs::Clauses::nothing_went, crate::proofs::WordItems::word_move_sent))]
-fn put_move(out: &mut [u8], at: usize, word: u64) -> usize
+#[tactic(auto, using(crate::proofs::WordPuts::put_four, crate::proofs::WordItems::word_move_sent))]
+fn put_move(out: &mut [u8], at: usize, word: u64) -> Option<usize>
     requires { (at ≤ 40000) × (word % 256 ≡ 12) }
-    ensures upper_bound { result ≤ at + 8 }
-    ensures put_whole { PutWhole word at out.old result out.new }
+    ensures { PutWhole word at out.old result out.new }
 {
     let destination = (word / 0x100 % 256) as u8;
     let source = (word / 0x1_0000 % 256) as u8;
@@ -174,23 +170,21 @@ fn put_move(out: &mut [u8], at: usize, word: u64) -> usize
         || source == 0
         || source > 31
     {
-        return at;
+        return None;
     }
     put_four(out, at, [0x4C, 2, destination, source]);
-    at + 4
+    Some(at + 4)
 }
 
-// A name alone, or a Locate to a register or a Move that may be written, and the position after it; any other is left, and the
-// position stays.
-#[tactic(auto, using(crate::proofs::WordPuts::put_name, crate::specs::Clauses::nothing_went))]
-pub(crate) fn put_small(out: &mut [u8], at: usize, word: u64) -> usize
+// A name alone, or a Locate to a register or a Move that may be written, and the position after it, or none: any other
+// is left.
+pub(crate) fn put_small(out: &mut [u8], at: usize, word: u64) -> Option<usize>
     requires { at ≤ 40000 }
-    ensures upper_bound { result ≤ at + 8 }
-    ensures put_whole { PutWhole word at out.old result out.new }
+    ensures { PutWhole word at out.old result out.new }
 {
     if word < NAMES {
         put(out, at, plain_name(word as u8));
-        return at + 1;
+        return Some(at + 1);
     }
     if word % 256 == LOCATE_FIELD {
         return put_register(out, at, word);
@@ -198,20 +192,18 @@ pub(crate) fn put_small(out: &mut [u8], at: usize, word: u64) -> usize
     if word % 256 == MOVE {
         return put_move(out, at, word);
     }
-    at
+    None
 }
 
-// A usual word, and the position after it; any other is left, and the position stays.
-#[tactic(auto, using(crate::proofs::WordPuts::put_name, crate::proofs::WordItems::low_sent))]
-fn put_whole(out: &mut [u8], at: usize, word: u64) -> usize
+// A usual word, and the position after it, or none: any other is left.
+fn put_whole(out: &mut [u8], at: usize, word: u64) -> Option<usize>
     requires { at ≤ 40000 }
-    ensures upper_bound { result ≤ at + 8 }
-    ensures put_whole { PutWhole word at out.old result out.new }
+    ensures { PutWhole word at out.old result out.new }
 {
     // Stop to Record Exit, whose names are one more, and a Locate to a time come most often.
     if word < 7 {
         put(out, at, word as u8 + 1);
-        return at + 1;
+        return Some(at + 1);
     }
     if word % 256 == LOCATE_TARGET {
         return put_locate(out, at, word);
@@ -227,10 +219,9 @@ fn put_words(out: &mut [u8], words: &[u64]) -> WrittenNumbers
 {
     let mut at = 4;
     for (i, &word) in words.iter().enumerate() {
-        let next = put_whole(out, at, word);
-        if next == at {
+        let Some(next) = put_whole(out, at, word) else {
             return put_rest(out, &words[i..], at, i);
-        }
+        };
         at = next;
     }
     close_at(out, at)
