@@ -18,18 +18,12 @@ pub(crate) const LOCATE_TARGET: u64 = 11;
 // The case of a Move.
 pub(crate) const MOVE: u64 = 12;
 
-pub(crate) fn wide(byte: u8) -> u64
-    ensures { result ≡ byte }
-{
-    byte as u64
-}
-
 // A case with two bytes above it.
 pub(crate) fn with_bytes(case: u64, first: u8, second: u8) -> u64
     requires { case < 256 }
     ensures { result ≡ with_bytes case first second }
 {
-    case + wide(first) * 0x100 + wide(second) * 0x1_0000
+    case + u64::from(first) * 0x100 + u64::from(second) * 0x1_0000
 }
 
 // ---- names alone
@@ -99,12 +93,12 @@ fn target_word(code: StandardTimeCode) -> u64
 {
     let time = code.time;
     LOCATE_TARGET
-        + wide(time.hours) * 0x100
-        + wide(time.minutes) * 0x1_0000
-        + wide(time.seconds) * 0x100_0000
-        + wide(time.frames) * 0x1_0000_0000
-        + wide(flat_final(code.final_byte)) * 0x100_0000_0000
-        + (wide(time.rate.into_bits()) + four_marks(code) * 8) * 0x1_0000_0000_0000
+        + u64::from(time.hours) * 0x100
+        + u64::from(time.minutes) * 0x1_0000
+        + u64::from(time.seconds) * 0x100_0000
+        + u64::from(time.frames) * 0x1_0000_0000
+        + u64::from(flat_final(code.final_byte)) * 0x100_0000_0000
+        + (u64::from(time.rate.into_bits()) + four_marks(code) * 8) * 0x1_0000_0000_0000
 }
 
 // A time code by its rate, its counts, its last byte and its four marks.

@@ -2,19 +2,6 @@
 ghost use Rattle.std.specs.Prelude.{◌≡◌, ◌∷◌, [], get_or, length, ◌+◌, ◌≤◌};
 ghost use Rattle.universal.specs.Overlay.{overlay};
 
-use universal::put;
-
-// Four bytes: a Locate to a register, or a Move.
-pub(crate) fn put_four(out: &mut [u8], at: usize, bytes: [u8; 4])
-    requires { at ≤ 40000 }
-    ensures { out.new ≡ overlay out.old at (get_or bytes 0 0 ∷ get_or bytes 1 0 ∷ get_or bytes 2 0 ∷ get_or bytes 3 0 ∷ []) }
-{
-    put(out, at, bytes[0]);
-    put(out, at + 1, bytes[1]);
-    put(out, at + 2, bytes[2]);
-    put(out, at + 3, bytes[3]);
-}
-
 // A whole Locate to a time, where all of it fits.
 pub(crate) fn put_locate_bytes(out: &mut [u8], at: usize, bytes: [u8; 5])
     requires { (at ≤ 40000) × (at + 8 ≤ length out.now) }

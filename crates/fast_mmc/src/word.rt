@@ -7,7 +7,7 @@ ghost use Rattle.codes.specs.TimeCode.{read_final, final_value, read_standard};
 ghost use Rattle.fast_mmc.specs.Word.{target_word, command_word, next_word};
 ghost use Rattle.fast_mmc.specs.Clauses.{ShortWord};
 
-use crate::command::{LOCATE_FIELD, LOCATE_TARGET, MOVE, wide, with_bytes};
+use crate::command::{LOCATE_FIELD, LOCATE_TARGET, MOVE, with_bytes};
 use codes::TimeCodeStatus;
 use mmc::{ItemPlace, Kind, NextItem, Part, next_parts};
 use universal::SysexError;
@@ -56,7 +56,7 @@ fn last_byte(fr: u8, ff: u8) -> u8
 fn four_bytes(hr: u8, mn: u8, sc: u8, fr: u8) -> u64
     ensures { (result ≡ hr + mn * 256 + sc * 65536 + fr * 16777216) × (result < 4294967296) }
 {
-    wide(hr) + wide(mn) * 0x100 + wide(sc) * 0x1_0000 + wide(fr) * 0x100_0000
+    u64::from(hr) + u64::from(mn) * 0x100 + u64::from(sc) * 0x1_0000 + u64::from(fr) * 0x100_0000
 }
 
 // The counts of four such bytes.
@@ -86,7 +86,7 @@ fn target_read(hr: u8, mn: u8, sc: u8, fr: u8, ff: u8) -> u64
     let four = four_bytes(hr, mn, sc, fr);
     LOCATE_TARGET
         + counts_read(four) * 0x100
-        + wide(last_byte(fr, ff)) * 0x100_0000_0000
+        + u64::from(last_byte(fr, ff)) * 0x100_0000_0000
         + marks_read(four) * 0x1_0000_0000_0000
 }
 
@@ -145,7 +145,7 @@ fn move_word(data: &[u8], item: ItemPlace) -> u64
 fn refusal_word(error: SysexError) -> u64
     ensures { result ≡ 128 + (refusal_of error).number }
 {
-    128 + wide(error.number())
+    128 + u64::from(error.number())
 }
 
 // The command of a name without prefixes and data, or `MORE` where it has either.
@@ -175,20 +175,17 @@ fn counted_word(body: &[u8], place: usize) -> NextWord
     requires { (place < length body.now) × ((64 ≤ get_or body.now place 0) × (get_or body.now place 0 < 120)) }
     ensures { result ≡ next_word (next_command body.now place) }
 {
-    let after = place + 1;
-    if after >= body.len() {
-        return NextWord {
-            word: CUT,
-            place: body.len(),
-        };
-    }
-    let start = after + 1;
-    let count = body[after] as usize;
+    let cut = NextWord {
+        word: CUT,
+        place: body.len(),
+    };
+    let Some(&count) = body.get(place + 1) else {
+        return cut;
+    };
+    let start = place + 2;
+    let count = usize::from(count);
     if count > body.len() - start {
-        return NextWord {
-            word: CUT,
-            place: body.len(),
-        };
+        return cut;
     }
     let end = start + count;
     let item = ItemPlace {
