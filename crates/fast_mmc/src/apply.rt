@@ -4,7 +4,7 @@ ghost use Rattle.std.specs.Prelude.{◌≡◌};
 ghost use Rattle.transport.specs.Transport.{applied_of};
 ghost use Rattle.fast_mmc.specs.Apply.{flat_reply, flat_applied};
 
-use fast_mtc::generator::{FlatGenerator, flat_generator};
+use fast_mtc::generator::FlatGenerator;
 use transport::{Applied, Reply};
 use universal::SysexError;
 
@@ -32,7 +32,7 @@ pub fn flat_applied(a: Applied) -> FlatApplied
     ensures { result ≡ flat_applied (applied_of a) }
 {
     FlatApplied {
-        generator: flat_generator(a.generator),
+        generator: FlatGenerator::from(a.generator),
         answer: flat_reply(a.answer),
     }
 }

@@ -5,7 +5,8 @@ ghost use Rattle.codes.specs.TimeCode.{final_value};
 ghost use Rattle.fast_mtc.specs.Refusal.{refusal_in};
 ghost use Rattle.fast_mmc.specs.Code.{status_of, flat_status, final_of, is_status, code_of, flat_code, no_code, short_of, flat_short, no_short, flat_name, five_bytes, two_bytes};
 
-use fast_mtc::time::{FlatTime, flat_time, no_time, time_of};
+use fast_mtc::time::{FlatTime, no_time};
+use labels::MtcTime;
 use mmc::{FinalByte, ShortTimeCode, StandardTimeCode, TimeCodeStatus};
 use universal::SysexError;
 
@@ -129,7 +130,7 @@ pub fn code_of(c: FlatCode) -> StandardTimeCode
     ensures { result ≡ code_of c }
 {
     StandardTimeCode {
-        time: time_of(c.time),
+        time: MtcTime::from(c.time),
         color_frame: c.color_frame,
         blank: c.blank,
         negative: c.negative,
@@ -143,7 +144,7 @@ pub fn flat_code(c: StandardTimeCode) -> FlatCode
 {
     let last = c.final_byte;
     FlatCode {
-        time: flat_time(c.time),
+        time: FlatTime::from(c.time),
         color_frame: c.color_frame,
         blank: c.blank,
         negative: c.negative,

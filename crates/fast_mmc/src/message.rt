@@ -3,7 +3,7 @@ ghost use Rattle.universal.specs.Refusals.{answer_of};
 ghost use Rattle.std.specs.Prelude.{◌≡◌};
 ghost use Rattle.fast_mmc.specs.Message.{sub_id2_of, universal_of, user_bits_of, flat_bits, no_bits, no_message, flat_full_message, flat_user_bits, flat_mmc, flat_mmc_message, mmc_kind};
 
-use fast_mtc::time::{FlatTime, flat_time, no_time};
+use fast_mtc::time::{FlatTime, no_time};
 use mmc::MmcMessage;
 use mtc::{FullMessage, UserBits};
 use universal::{SysexError, Universal};
@@ -124,7 +124,7 @@ pub fn flat_full_message(read: Result<Option<FullMessage>, SysexError>) -> FlatF
         Ok(Some(m)) => FlatFullMessage {
             answer: 0,
             device_id: m.device_id,
-            time: flat_time(m.time),
+            time: FlatTime::from(m.time),
         },
         Ok(None) => no_message(255),
         Err(e) => no_message(e.number()),

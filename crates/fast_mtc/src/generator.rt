@@ -7,8 +7,8 @@ ghost use Rattle.universal.specs.Refusals.{gives};
 ghost use Rattle.fast_mtc.specs.Generator.{direction_at, flat_direction, piece_at, flat_piece, generator_of, flat_generator, generator_in, moved_to, sent_by, flat_byte};
 
 use crate::label::next_time;
-use crate::time::{FlatTime, flat_time, time_in, time_of};
-use mtc::{Direction, MtcGenerator, QuarterFrame};
+use crate::time::{FlatTime, time_at_front};
+use mtc::{Direction, MtcGenerator, MtcTime, QuarterFrame};
 use universal::SysexError;
 
 // The places of a generator's record, after its label.
@@ -35,6 +35,8 @@ pub struct FlatByte {
     pub refusal: u8,
     pub byte: u8,
 }
+
+// No `From` for these four: neither a number nor a direction is a type of this crate.
 
 #[tactic(auto, unfolding(crate::specs::Generator::direction_at))]
 pub fn direction_at(n: u8) -> Direction
@@ -73,27 +75,31 @@ pub fn flat_piece(p: Option<u8>) -> u8
     p.unwrap_or(255)
 }
 
-#[tactic(auto, unfolding(crate::specs::Generator::generator_of))]
-pub fn generator_of(g: FlatGenerator) -> MtcGenerator
-    ensures { result ≡ generator_of g }
-{
-    MtcGenerator {
-        time: time_of(g.time),
-        direction: direction_at(g.direction),
-        last: piece_at(g.last),
-        running: g.running,
+impl From<FlatGenerator> for MtcGenerator {
+    ghost from_gives = { λ g r. r ≡ generator_of g };
+
+    #[tactic(auto, unfolding(crate::specs::Generator::generator_of))]
+    fn from(g: FlatGenerator) -> MtcGenerator {
+        MtcGenerator {
+            time: MtcTime::from(g.time),
+            direction: direction_at(g.direction),
+            last: piece_at(g.last),
+            running: g.running,
+        }
     }
 }
 
-#[tactic(auto, unfolding(crate::specs::Generator::flat_generator))]
-pub fn flat_generator(g: MtcGenerator) -> FlatGenerator
-    ensures { result ≡ flat_generator g }
-{
-    FlatGenerator {
-        time: flat_time(g.time),
-        direction: flat_direction(g.direction),
-        last: flat_piece(g.last),
-        running: g.running,
+impl From<MtcGenerator> for FlatGenerator {
+    ghost from_gives = { λ g f. f ≡ flat_generator g };
+
+    #[tactic(auto, unfolding(crate::specs::Generator::flat_generator))]
+    fn from(g: MtcGenerator) -> FlatGenerator {
+        FlatGenerator {
+            time: FlatTime::from(g.time),
+            direction: flat_direction(g.direction),
+            last: flat_piece(g.last),
+            running: g.running,
+        }
     }
 }
 
@@ -124,7 +130,7 @@ pub fn next_byte(g: &mut [u8; 8]) -> FlatByte
 fn move_on(g: &mut [u8; 8], direction: Direction)
     ensures { generator_in g.new ≡ moved_to (generator_in g.old) (add_frames (generator_in g.old).time (sequence_frames direction)) }
 {
-    let time = flat_time(next_time(time_in(g), direction));
+    let time = FlatTime::from(next_time(time_at_front(g), direction));
     g[0] = time.hours;
     g[1] = time.minutes;
     g[2] = time.seconds;
@@ -138,7 +144,7 @@ fn send(g: &mut [u8; 8], piece: u8) -> FlatByte
     requires { piece ≤ 7 }
     ensures { (result ≡ flat_byte (gives (get_or (pieces (generator_in g.old).time) piece 0))) × (generator_in g.new ≡ sent_by (generator_in g.old) piece) }
 {
-    let time = time_in(g);
+    let time = time_at_front(g);
     g[LAST] = piece;
     FlatByte {
         refusal: 0,

@@ -9,7 +9,7 @@ ghost use Rattle.mtc.specs.Generator.{sequence_frames};
 ghost use Rattle.fast_mtc.specs.Clauses.{RateOf};
 ghost use Rattle.fast_mtc.specs.Label.{label_number};
 
-use crate::time::{time_numbered, time_of};
+use crate::time::time_numbered;
 use mtc::{Direction, MtcTime, TimeCodeType};
 
 // The frames of a minute that drops two numbers. `labels` keeps its constants to itself.
@@ -183,7 +183,7 @@ pub fn number_after(t: MtcTime, delta: i32) -> u64
 pub fn add_frames(t: MtcTime, delta: i32) -> MtcTime
     ensures { result ≡ add_frames t delta }
 {
-    time_of(time_numbered(number_after(t, delta)))
+    MtcTime::from(time_numbered(number_after(t, delta)))
 }
 
 // True only where hours, minutes and seconds are in their ranges.

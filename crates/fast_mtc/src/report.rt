@@ -9,7 +9,7 @@ ghost use Rattle.fast_mtc.specs.Clauses.{SequenceEnded, SteadyLabel, steady};
 
 use crate::generator::flat_direction;
 use crate::label;
-use crate::time::{FlatTime, flat_time, no_time};
+use crate::time::{FlatTime, no_time};
 use crate::words::{
     LOCKED, PREVIOUS, PREVIOUS_MARK, TIME, TIME_MARK, label_word, previous, rate_mark, time,
 };
@@ -34,7 +34,7 @@ pub struct FlatMaybeSequence {
     pub sequence: FlatSequence,
 }
 
-// ---- events as numbers
+// ---- events as numbers: no `From`, as neither a number nor an event is a type of this crate
 
 #[tactic(auto, using(crate::proofs::Events::report_is), unfolding(crate::specs::Reader::flat_report))]
 fn flat_report(s: MtcSequence) -> u64
@@ -89,14 +89,14 @@ pub fn report_in(words: [u32; 15], report: u64) -> FlatMaybeSequence
     }
 }
 
-// A label, or all zeros. By `map_or` or `map_or_else` a report takes 15 more instructions.
+// A label, or all zeros: no `From`, as none and a midnight become the same. By `map_or` or `map_or_else` a report takes 15 more instructions.
 #[tactic(auto, unfolding(crate::specs::Time::flat_time))]
 fn label_or(t: Option<MtcTime>) -> FlatTime
     ensures { result ≡ flat_time (label_or t) }
 {
     match t {
         None => no_time(),
-        Some(time) => flat_time(time),
+        Some(time) => FlatTime::from(time),
     }
 }
 

@@ -36,22 +36,31 @@ pub struct EightBytes {
     pub bytes: [u8; 8],
 }
 
-#[tactic(auto, unfolding(crate::specs::Time::time_of))]
-pub fn time_of(t: FlatTime) -> MtcTime
-    ensures { result ≡ time_of t }
-{
-    MtcTime {
-        hours: t.hours,
-        minutes: t.minutes,
-        seconds: t.seconds,
-        frames: t.frames,
-        rate: TimeCodeType::from_bits(t.rate),
+impl From<FlatTime> for MtcTime {
+    ghost from_gives = { λ t r. r ≡ time_of t };
+
+    #[tactic(auto, unfolding(crate::specs::Time::time_of))]
+    fn from(t: FlatTime) -> MtcTime {
+        MtcTime {
+            hours: t.hours,
+            minutes: t.minutes,
+            seconds: t.seconds,
+            frames: t.frames,
+            rate: TimeCodeType::from_bits(t.rate),
+        }
     }
+}
+
+// The label of five bytes: no `From`, as neither is a type of this crate.
+pub fn time_in(bytes: &[u8; 5]) -> MtcTime
+    ensures { result ≡ time_at bytes.now 0 }
+{
+    time_at_front(bytes)
 }
 
 // The label in the first five bytes. No other is read.
 #[tactic(auto, unfolding(crate::specs::Time::time_at))]
-pub fn time_in<const N: usize>(bytes: &[u8; N]) -> MtcTime
+pub(crate) fn time_at_front<const N: usize>(bytes: &[u8; N]) -> MtcTime
     requires { 5 ≤ N }
     ensures { result ≡ time_at bytes.now 0 }
 {
@@ -64,20 +73,22 @@ pub fn time_in<const N: usize>(bytes: &[u8; N]) -> MtcTime
     }
 }
 
-#[tactic(auto, unfolding(crate::specs::Time::flat_time))]
-pub fn flat_time(t: MtcTime) -> FlatTime
-    ensures { result ≡ flat_time t }
-{
-    FlatTime {
-        hours: t.hours,
-        minutes: t.minutes,
-        seconds: t.seconds,
-        frames: t.frames,
-        rate: t.rate.into_bits(),
+impl From<MtcTime> for FlatTime {
+    ghost from_gives = { λ t r. r ≡ flat_time t };
+
+    #[tactic(auto, unfolding(crate::specs::Time::flat_time))]
+    fn from(t: MtcTime) -> FlatTime {
+        FlatTime {
+            hours: t.hours,
+            minutes: t.minutes,
+            seconds: t.seconds,
+            frames: t.frames,
+            rate: t.rate.into_bits(),
+        }
     }
 }
 
-// The label of a number, a byte for each count and one for the rate.
+// The label of a number, a byte for each count and one for the rate: no `From`, as a number alone does not say that it is such a one.
 #[tactic(auto, unfolding(crate::specs::Time::time_numbered))]
 pub fn time_numbered(n: u64) -> FlatTime
     ensures { result ≡ time_numbered n }
@@ -91,6 +102,7 @@ pub fn time_numbered(n: u64) -> FlatTime
     }
 }
 
+// The refusal, 0 for none: no `From`, as neither is a type of this crate.
 #[tactic(auto, unfolding(crate::specs::Refusal::refusal_in))]
 pub fn flat_new(answer: Result<MtcTime, SysexError>) -> u8
     ensures { result ≡ refusal_in (answer_of answer) }
@@ -114,22 +126,26 @@ pub fn no_time() -> FlatTime
     }
 }
 
-#[tactic(auto, unfolding(crate::specs::Time::frame_of))]
-pub fn frame_of(q: FlatFrame) -> QuarterFrame
-    ensures { result ≡ frame_of q }
-{
-    QuarterFrame {
-        piece: q.piece,
-        value: q.value,
+impl From<FlatFrame> for QuarterFrame {
+    ghost from_gives = { λ q r. r ≡ frame_of q };
+
+    #[tactic(auto, unfolding(crate::specs::Time::frame_of))]
+    fn from(q: FlatFrame) -> QuarterFrame {
+        QuarterFrame {
+            piece: q.piece,
+            value: q.value,
+        }
     }
 }
 
-#[tactic(auto, unfolding(crate::specs::Time::flat_frame))]
-pub fn flat_frame(q: QuarterFrame) -> FlatFrame
-    ensures { result ≡ flat_frame q }
-{
-    FlatFrame {
-        piece: q.piece,
-        value: q.value,
+impl From<QuarterFrame> for FlatFrame {
+    ghost from_gives = { λ q r. r ≡ flat_frame q };
+
+    #[tactic(auto, unfolding(crate::specs::Time::flat_frame))]
+    fn from(q: QuarterFrame) -> FlatFrame {
+        FlatFrame {
+            piece: q.piece,
+            value: q.value,
+        }
     }
 }

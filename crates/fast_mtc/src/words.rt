@@ -6,7 +6,7 @@ ghost use Rattle.fast_mtc.specs.Reader.{way_in, last_in, count_in, first_in, fla
 ghost use Rattle.fast_mtc.specs.Clauses.{StoppedOrder};
 
 use crate::generator::{flat_direction, flat_piece};
-use crate::time::{FlatTime, flat_time, no_time};
+use crate::time::{FlatTime, no_time};
 use mtc::{Direction, MtcReader, MtcTime, TimeCodeType};
 
 // A time, where `present` is true. Where it is false the time is all zeros in an answer, and is not read in an argument.
@@ -71,7 +71,7 @@ pub(crate) const STOPPED_REVERSE: u32 = 43;
 const STOPPED_UNDIRECTED: u32 = 44;
 
 // The tables test one range after another, the usual orders first: as a `match` over ranges they take more instructions, 9 in
-// `full_message` and 22 in `reader_in` with `reader_fields`.
+// `full_message` and 22 in a reader made of its words and then of its fields.
 
 #[tactic(auto, unfolding(crate::specs::Reader::way_in))]
 fn way_in(order: u32) -> Option<Direction>
@@ -180,6 +180,8 @@ pub(crate) fn time_in(mark: u32, w: u32) -> Option<MtcTime>
     Some(label_in(TimeCodeType::from_bits((mark / 2 % 4) as u8), w))
 }
 
+// No `From` for these three: neither a number nor a label, a rate or a direction is a type of this crate.
+
 // The word of a label, a byte for each number.
 #[tactic(auto, using(crate::proofs::LabelWords::label_back))]
 pub fn label_word(t: MtcTime) -> u32
@@ -202,19 +204,21 @@ pub fn flat_way(d: Option<Direction>) -> u8
     d.map_or(255, flat_direction)
 }
 
-#[tactic(auto, unfolding(crate::specs::Reader::flat_maybe_time))]
-pub fn flat_maybe_time(t: Option<MtcTime>) -> FlatMaybeTime
-    ensures { result ≡ flat_maybe_time t }
-{
-    match t {
-        None => FlatMaybeTime {
-            present: false,
-            time: no_time(),
-        },
-        Some(time) => FlatMaybeTime {
-            present: true,
-            time: flat_time(time),
-        },
+impl From<Option<MtcTime>> for FlatMaybeTime {
+    ghost from_gives = { λ t r. r ≡ flat_maybe_time t };
+
+    #[tactic(auto, unfolding(crate::specs::Reader::flat_maybe_time))]
+    fn from(t: Option<MtcTime>) -> FlatMaybeTime {
+        match t {
+            None => FlatMaybeTime {
+                present: false,
+                time: no_time(),
+            },
+            Some(time) => FlatMaybeTime {
+                present: true,
+                time: FlatTime::from(time),
+            },
+        }
     }
 }
 
@@ -272,39 +276,44 @@ fn nibbles_in(words: [u32; 15]) -> [u8; 8]
 }
 
 // The reader of fifteen words.
-#[tactic(auto, unfolding(crate::specs::Reader::reader_in))]
-pub fn reader_in(words: [u32; 15]) -> MtcReader
-    ensures { result ≡ reader_in words }
-{
-    let order = words[ORDER];
-    MtcReader {
-        nibbles: nibbles_in(words),
-        count: count_in(order),
-        first: first_in(order, words[FIRST]),
-        last: last_in(order),
-        direction: way_in(order),
-        locked: words[LOCKED] != 0,
-        running: order < STOPPED_FORWARD,
-        previous: previous(words),
-        time: time(words),
+impl From<FlatReader> for MtcReader {
+    ghost from_gives = { λ f r. r ≡ reader_in f.words };
+
+    #[tactic(auto, unfolding(crate::specs::Reader::reader_in))]
+    fn from(f: FlatReader) -> MtcReader {
+        let words = f.words;
+        let order = words[ORDER];
+        MtcReader {
+            nibbles: nibbles_in(words),
+            count: count_in(order),
+            first: first_in(order, words[FIRST]),
+            last: last_in(order),
+            direction: way_in(order),
+            locked: words[LOCKED] != 0,
+            running: order < STOPPED_FORWARD,
+            previous: previous(words),
+            time: time(words),
+        }
     }
 }
 
-#[tactic(auto, unfolding(crate::specs::Reader::reader_fields))]
-pub fn reader_fields(r: MtcReader) -> FlatReaderFields
-    ensures { result ≡ reader_fields r }
-{
-    let nibbles = r.nibbles;
-    FlatReaderFields {
-        nibbles,
-        count: r.count,
-        first: r.first,
-        last: flat_piece(r.last),
-        direction: flat_way(r.direction),
-        locked: r.locked,
-        running: r.running,
-        previous: flat_maybe_time(r.previous),
-        time: flat_maybe_time(r.time),
+impl From<MtcReader> for FlatReaderFields {
+    ghost from_gives = { λ r f. f ≡ reader_fields r };
+
+    #[tactic(auto, unfolding(crate::specs::Reader::reader_fields))]
+    fn from(r: MtcReader) -> FlatReaderFields {
+        let nibbles = r.nibbles;
+        FlatReaderFields {
+            nibbles,
+            count: r.count,
+            first: r.first,
+            last: flat_piece(r.last),
+            direction: flat_way(r.direction),
+            locked: r.locked,
+            running: r.running,
+            previous: FlatMaybeTime::from(r.previous),
+            time: FlatMaybeTime::from(r.time),
+        }
     }
 }
 

@@ -7,7 +7,8 @@ ghost use Rattle.fast_mmc.specs.Apply.{flat_applied};
 
 use fast_mmc::apply::{FlatApplied, flat_applied};
 use fast_mmc::string::{FlatCommand, command_of};
-use fast_mtc::generator::{FlatGenerator, generator_of};
+use fast_mtc::generator::FlatGenerator;
+use mtc::MtcGenerator;
 
 // `apply`: one command of a message for `device_id`, to the generator of the device `own`.
 pub fn fimbrast_apply(
@@ -18,5 +19,10 @@ pub fn fimbrast_apply(
 ) -> FlatApplied
     ensures { result ≡ flat_applied (applied (generator_of generator) device_id own (command_of command)) }
 {
-    flat_applied(transport::apply(generator_of(generator), device_id, own, command_of(command)))
+    flat_applied(transport::apply(
+        MtcGenerator::from(generator),
+        device_id,
+        own,
+        command_of(command),
+    ))
 }

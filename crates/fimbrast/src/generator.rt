@@ -4,22 +4,22 @@ ghost use Rattle.mtc.specs.Generator.{next_byte, after_next_byte, started, with_
 ghost use Rattle.fast_mtc.specs.Time.{time_of, flat_time};
 ghost use Rattle.fast_mtc.specs.Generator.{generator_of, flat_generator, generator_in, flat_byte};
 
-use fast_mtc::generator::{FlatByte, FlatGenerator, flat_generator, generator_of, next_byte};
-use fast_mtc::time::{FlatTime, flat_time, time_of};
-use mtc::{Direction, MtcGenerator};
+use fast_mtc::generator::{FlatByte, FlatGenerator, next_byte};
+use fast_mtc::time::FlatTime;
+use mtc::{Direction, MtcGenerator, MtcTime};
 
 // `MtcGenerator::new`, forward: a running generator, whose first sequence encodes the time.
 pub fn fimbrast_generator_forward(time: FlatTime) -> FlatGenerator
     ensures { result ≡ flat_generator (started (time_of time) Direction.Forward) }
 {
-    flat_generator(MtcGenerator::new(time_of(time), Direction::Forward))
+    FlatGenerator::from(MtcGenerator::new(MtcTime::from(time), Direction::Forward))
 }
 
 // The same in reverse.
 pub fn fimbrast_generator_reverse(time: FlatTime) -> FlatGenerator
     ensures { result ≡ flat_generator (started (time_of time) Direction.Reverse) }
 {
-    flat_generator(MtcGenerator::new(time_of(time), Direction::Reverse))
+    FlatGenerator::from(MtcGenerator::new(MtcTime::from(time), Direction::Reverse))
 }
 
 // `MtcGenerator::next_byte`: the next data byte, or refusal 8 and byte 0 while stopped.
@@ -33,33 +33,33 @@ pub fn fimbrast_next_byte(generator: &mut [u8; 8]) -> FlatByte
 pub fn fimbrast_set_running(generator: FlatGenerator, running: bool) -> FlatGenerator
     ensures { result ≡ flat_generator (with_running (generator_of generator) running) }
 {
-    flat_generator(generator_of(generator).set_running(running))
+    FlatGenerator::from(MtcGenerator::from(generator).set_running(running))
 }
 
 // `MtcGenerator::set_direction`, forward. The next piece is the one beside the last in that direction.
 pub fn fimbrast_set_forward(generator: FlatGenerator) -> FlatGenerator
     ensures { result ≡ flat_generator (with_direction (generator_of generator) Direction.Forward) }
 {
-    flat_generator(generator_of(generator).set_direction(Direction::Forward))
+    FlatGenerator::from(MtcGenerator::from(generator).set_direction(Direction::Forward))
 }
 
 // The same in reverse.
 pub fn fimbrast_set_reverse(generator: FlatGenerator) -> FlatGenerator
     ensures { result ≡ flat_generator (with_direction (generator_of generator) Direction.Reverse) }
 {
-    flat_generator(generator_of(generator).set_direction(Direction::Reverse))
+    FlatGenerator::from(MtcGenerator::from(generator).set_direction(Direction::Reverse))
 }
 
 // `MtcGenerator::locate`: moves to the time. The next piece is the first of the direction.
 pub fn fimbrast_locate(generator: FlatGenerator, time: FlatTime) -> FlatGenerator
     ensures { result ≡ flat_generator (located (generator_of generator) (time_of time)) }
 {
-    flat_generator(generator_of(generator).locate(time_of(time)))
+    FlatGenerator::from(MtcGenerator::from(generator).locate(MtcTime::from(time)))
 }
 
 // `MtcGenerator::time`: what the current or next sequence encodes.
 pub fn fimbrast_generator_time(generator: FlatGenerator) -> FlatTime
     ensures { result ≡ flat_time (generator_of generator).time }
 {
-    flat_time(generator_of(generator).time())
+    FlatTime::from(MtcGenerator::from(generator).time())
 }

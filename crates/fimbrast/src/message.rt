@@ -15,9 +15,9 @@ use fast_mmc::message::{
     flat_full_message, flat_mmc_message, flat_user_bits, mmc_kind, universal_of, user_bits_of,
 };
 use fast_mmc::{WrittenNumbers, written_numbers};
-use fast_mtc::time::{FlatTime, time_of};
+use fast_mtc::time::FlatTime;
 use mmc::MmcMessage;
-use mtc::{FullMessage, UserBits};
+use mtc::{FullMessage, MtcTime, UserBits};
 use universal::Universal;
 
 // `addressed`: a message for `device_id` is for the device `own`.
@@ -60,7 +60,7 @@ pub fn fimbrast_full_message_write(device_id: u8, time: FlatTime, out: &mut [u8]
 {
     let message = FullMessage {
         device_id,
-        time: time_of(time),
+        time: MtcTime::from(time),
     };
     written_numbers(message.write(out))
 }

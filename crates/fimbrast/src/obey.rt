@@ -5,7 +5,8 @@ ghost use Rattle.transport.specs.Obey.{obeyed_of};
 ghost use Rattle.fast_mtc.specs.Generator.{generator_of};
 ghost use Rattle.fimbrast.specs.Obey.{flat_summary, flat_run};
 
-use fast_mtc::generator::{FlatGenerator, flat_generator, generator_of};
+use fast_mtc::generator::FlatGenerator;
+use mtc::MtcGenerator;
 use transport::{Obeyed, obey};
 
 // The generator after all commands of a string, how many were read, how many of those were refused, and the refusal that ended the
@@ -25,7 +26,7 @@ fn flat_run(run: Obeyed) -> FlatRun
     ensures { result ≡ flat_summary (obeyed_of run) }
 {
     FlatRun {
-        generator: flat_generator(run.generator),
+        generator: FlatGenerator::from(run.generator),
         commands: run.commands,
         refused: run.refused,
         stop: run.stop.number(),
@@ -37,5 +38,5 @@ fn flat_run(run: Obeyed) -> FlatRun
 pub fn fimbrast_obey(generator: FlatGenerator, device_id: u8, own: u8, body: &[u8]) -> FlatRun
     ensures { result ≡ flat_run (obey body.now device_id own (generator_of generator)) }
 {
-    flat_run(obey(generator_of(generator), device_id, own, body))
+    flat_run(obey(MtcGenerator::from(generator), device_id, own, body))
 }

@@ -6,11 +6,12 @@ ghost use Rattle.fast_mtc.specs.Reader.{flat_way, flat_maybe_time, reader_in, re
 
 use fast_mtc::receive::receive;
 use fast_mtc::report::{FlatMaybeSequence, report_in};
-use fast_mtc::time::{FlatTime, time_of};
+use fast_mtc::time::FlatTime;
 use fast_mtc::words::{
-    FlatMaybeTime, FlatReader, FlatReaderFields, direction, flat_maybe_time, flat_way, fresh,
-    full_message, is_locked, is_running, reader_fields, reader_in, time,
+    FlatMaybeTime, FlatReader, FlatReaderFields, direction, flat_way, fresh, full_message,
+    is_locked, is_running, time,
 };
+use mtc::{MtcReader, MtcTime};
 
 // A report as one number; 0 is no report. From the lowest bit: 1, the direction, the discontinuity. Its labels stay in the reader;
 // `fimbrast_report_parts` takes both together.
@@ -38,7 +39,7 @@ pub fn fimbrast_receive(reader: &mut [u32; 15], byte: u8) -> FlatEvent
 pub fn fimbrast_reader_full_message(reader: &mut [u32; 15], time: FlatTime)
     ensures { reader_in reader.new ≡ after_full_message (reader_in reader.old) (time_of time) }
 {
-    full_message(reader, time_of(time));
+    full_message(reader, MtcTime::from(time));
 }
 
 // `MtcReader::is_locked`: true after a full sequence, until a broken order, a turn or a full message.
@@ -70,15 +71,14 @@ pub fn fimbrast_reader_time(reader: FlatReader) -> FlatMaybeTime
     ensures { result ≡ flat_maybe_time (reader_in reader.words).time }
 {
     let words = reader.words;
-    flat_maybe_time(time(words))
+    FlatMaybeTime::from(time(words))
 }
 
 // The reader field by field.
 pub fn fimbrast_reader_parts(reader: FlatReader) -> FlatReaderFields
     ensures { result ≡ reader_fields (reader_in reader.words) }
 {
-    let words = reader.words;
-    reader_fields(reader_in(words))
+    FlatReaderFields::from(MtcReader::from(reader))
 }
 
 // The report of a number with the labels of the reader that it left, before the reader gets anything more. It is none where the

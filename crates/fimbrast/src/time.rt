@@ -7,10 +7,7 @@ ghost use Rattle.fast_mtc.specs.Refusal.{refusal_in};
 ghost use Rattle.fast_mtc.specs.Time.{time_of, time_at, flat_time, frame_of, flat_frame};
 
 use fast_mtc::label::{frame_count, number_after, number_at};
-use fast_mtc::time::{
-    EightBytes, FlatFrame, FlatTime, flat_frame, flat_new, flat_time, frame_of, time_in,
-    time_numbered, time_of,
-};
+use fast_mtc::time::{EightBytes, FlatFrame, FlatTime, flat_new, time_in, time_numbered};
 use mtc::{MtcTime, QuarterFrame, TimeCodeType};
 
 // The frames of a counting second: 24, 25 or 30.
@@ -24,7 +21,7 @@ pub fn fimbrast_frames_per_second(rate: u8) -> u8
 pub fn fimbrast_time_new(time: FlatTime) -> u8
     ensures { result ≡ refusal_in (new_time (time_of time)) }
 {
-    let t = time_of(time);
+    let t = MtcTime::from(time);
     let rate = t.rate;
     flat_new(MtcTime::new(t.hours, t.minutes, t.seconds, t.frames, rate))
 }
@@ -33,14 +30,14 @@ pub fn fimbrast_time_new(time: FlatTime) -> u8
 pub fn fimbrast_is_valid(time: FlatTime) -> bool
     ensures { result ≡ is_valid (time_of time) }
 {
-    time_of(time).is_valid()
+    MtcTime::from(time).is_valid()
 }
 
 // `MtcTime::next_valid`: frame 02 for a number that drop-frame skips, else the label itself.
 pub fn fimbrast_next_valid(time: FlatTime) -> FlatTime
     ensures { result ≡ flat_time (next_valid (time_of time)) }
 {
-    flat_time(time_of(time).next_valid())
+    FlatTime::from(MtcTime::from(time).next_valid())
 }
 
 // `MtcTime::to_frame_count`: the frames from 00:00:00:00 to the label.
@@ -61,27 +58,27 @@ pub fn fimbrast_from_frame_count(count: u32, rate: u8) -> FlatTime
 pub fn fimbrast_add_frames(time: FlatTime, delta: i32) -> FlatTime
     ensures { result ≡ flat_time (add_frames (time_of time) delta) }
 {
-    time_numbered(number_after(time_of(time), delta))
+    time_numbered(number_after(MtcTime::from(time), delta))
 }
 
 // `QuarterFrame::from_byte`: the piece and value of a data byte.
 pub fn fimbrast_quarter_frame_read(byte: u8) -> FlatFrame
     ensures { result ≡ flat_frame (from_byte byte) }
 {
-    flat_frame(QuarterFrame::from_byte(byte))
+    FlatFrame::from(QuarterFrame::from_byte(byte))
 }
 
 // `QuarterFrame::to_byte`: the data byte of a piece and value.
 pub fn fimbrast_quarter_frame_byte(frame: FlatFrame) -> u8
     ensures { result ≡ to_byte (frame_of frame) }
 {
-    frame_of(frame).to_byte()
+    QuarterFrame::from(frame).to_byte()
 }
 
 // `QuarterFrame::pieces`: the data bytes of pieces 0 to 7.
 pub fn fimbrast_pieces(time: FlatTime) -> EightBytes
     ensures { result.bytes ≡ pieces (time_of time) }
 {
-    let bytes = QuarterFrame::pieces(time_of(time));
+    let bytes = QuarterFrame::pieces(MtcTime::from(time));
     EightBytes { bytes }
 }

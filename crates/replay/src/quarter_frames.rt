@@ -2,7 +2,7 @@
 use crate::case::{Answer, Held, Input, Taken};
 use fast_mtc::generator::{FlatByte, FlatGenerator};
 use fast_mtc::report::FlatMaybeSequence;
-use fast_mtc::time::{FlatFrame, FlatTime, time_of};
+use fast_mtc::time::{FlatFrame, FlatTime};
 use fast_mtc::words::{FlatMaybeTime, FlatReader, FlatReaderFields, label_word, rate_mark};
 use fimbrast::generator::{
     fimbrast_generator_forward, fimbrast_generator_reverse, fimbrast_next_byte,
@@ -13,6 +13,7 @@ use fimbrast::reader::{
     fimbrast_reader_full_message, fimbrast_reader_parts, fimbrast_reader_time, fimbrast_receive,
     fimbrast_report_parts,
 };
+use mtc::MtcTime;
 
 impl Taken for FlatFrame {
     fn taken(input: &mut Input<'_>) -> Self {
@@ -125,14 +126,14 @@ impl Held for FlatReaderFields {
 // The mark of a label that may be there.
 fn mark_of(maybe: FlatMaybeTime) -> u32 {
     if maybe.present {
-        rate_mark(time_of(maybe.time).rate)
+        rate_mark(MtcTime::from(maybe.time).rate)
     } else {
         0
     }
 }
 
 fn word_of(maybe: FlatMaybeTime) -> u32 {
-    label_word(time_of(maybe.time))
+    label_word(MtcTime::from(maybe.time))
 }
 
 // The order of a reader's words, by its direction, last piece and count.

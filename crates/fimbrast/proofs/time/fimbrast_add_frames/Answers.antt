@@ -12,5 +12,5 @@ returns c =
     c.time_numbered.ensures
     ∙ ap time_numbered
     (c.number_after.ensures
-    ∙ rw (to_z-of_z w32 _ c.ranges.delta, c.time_of.ensures))
+    ∙ rw (to_z-of_z w32 _ c.ranges.delta, c.from.ensures))
     ∙ number_time _ (moved_valid _ _)
