@@ -206,8 +206,8 @@ pub fn two_later(t: MtcTime) -> MtcTime
     }
 }
 
-// `add_frames` of a few frames back, likewise. Below frame 2 it might end on a number that drop-frame skips.
-pub fn earlier<const FRAMES: u8>(t: MtcTime) -> MtcTime
+// `add_frames` of a few frames back, likewise. Up to frame 1 it might end on a number that drop-frame skips.
+fn earlier<const FRAMES: u8>(t: MtcTime) -> MtcTime
     requires { (1 ≤ FRAMES) × (FRAMES ≤ 253) }
     ensures { result ≡ add_frames t (negsuc (FRAMES - 1)) }
 {
@@ -220,6 +220,20 @@ pub fn earlier<const FRAMES: u8>(t: MtcTime) -> MtcTime
     }
 }
 
+// `add_frames(-2)`.
+pub fn two_earlier(t: MtcTime) -> MtcTime
+    ensures { result ≡ add_frames t (negsuc 1) }
+{
+    earlier::<2>(t)
+}
+
+// `add_frames(-1)`.
+pub fn one_earlier(t: MtcTime) -> MtcTime
+    ensures { result ≡ add_frames t (negsuc 0) }
+{
+    earlier::<1>(t)
+}
+
 // `Direction::next_time`: the time of the sequence after that of `t`.
 #[inline(always)]
 pub fn next_time(t: MtcTime, direction: Direction) -> MtcTime
@@ -227,6 +241,6 @@ pub fn next_time(t: MtcTime, direction: Direction) -> MtcTime
 {
     match direction {
         Direction::Forward => two_later(t),
-        Direction::Reverse => earlier::<2>(t),
+        Direction::Reverse => two_earlier(t),
     }
 }

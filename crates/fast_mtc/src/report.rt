@@ -169,7 +169,7 @@ fn current(raw: MtcTime, direction: Direction) -> MtcTime
 {
     match direction {
         Direction::Forward => label::two_later(raw),
-        Direction::Reverse => label::earlier::<1>(raw),
+        Direction::Reverse => label::one_earlier(raw),
     }
 }
 
