@@ -204,6 +204,13 @@ fn put_field(out: &mut [u8], at: usize, source: &[u8], field: InfoField) -> Put
     }
 }
 
+// A position that a writing can have reached: what one item has may be added to it.
+#[derive(Clone, Copy)]
+pub struct Position {
+    pub at: usize,
+    ghost in_range: { at ≤ 40000 },
+}
+
 // What a string is made of: a command or a field. `emission` is what goes out of one before the check that refuses it, `meaning` what a
 // name and data are read as.
 pub trait Item {
@@ -218,10 +225,9 @@ pub trait Item {
         ensures { result ≡ kind };
 
     // Puts it into a buffer. Its parts lie in the lent source.
-    fn put(self, out: &mut [u8], at: usize, source: &[u8]) -> Put
-        requires { at ≤ 40000 }
+    fn put(self, out: &mut [u8], place: Position, source: &[u8]) -> Put
         ensures result_value { put_of result ≡ extent_of (emission source.now self) }
-        ensures out_after { out.new ≡ overlay out.old at (emission source.now self).bytes }
+        ensures out_after { out.new ≡ overlay out.old place.at (emission source.now self).bytes }
         // A name of three bytes at most, a count byte and 127 bytes of data.
         ensures length_at_most { result.len ≤ 131 };
 
@@ -241,8 +247,8 @@ impl Item for MmcCommand {
         Kind::Commands
     }
 
-    fn put(self, out: &mut [u8], at: usize, source: &[u8]) -> Put {
-        put_command(out, at, source, self)
+    fn put(self, out: &mut [u8], place: Position, source: &[u8]) -> Put {
+        put_command(out, place.at, source, self)
     }
 
     fn read(body: &[u8], place: ItemPlace) -> MmcCommand {
@@ -261,8 +267,8 @@ impl Item for InfoField {
         Kind::Fields
     }
 
-    fn put(self, out: &mut [u8], at: usize, source: &[u8]) -> Put {
-        put_field(out, at, source, self)
+    fn put(self, out: &mut [u8], place: Position, source: &[u8]) -> Put {
+        put_field(out, place.at, source, self)
     }
 
     fn read(body: &[u8], place: ItemPlace) -> InfoField {

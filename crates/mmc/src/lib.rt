@@ -16,7 +16,7 @@ pub use codes::{
 };
 pub use command::{MmcCommand, next_command};
 pub use field::{InfoField, next_field};
-pub use item::{Item, next_item};
+pub use item::{Item, Position, next_item};
 pub use length::{Kind, Length, command_length, field_length};
 pub use message::MmcMessage;
 pub use part::Part;

@@ -9,7 +9,7 @@ ghost use Rattle.mmc.specs.Write.{writing_of, opens_at, writing_past, or_failed,
 
 use crate::command::MmcCommand;
 use crate::field::InfoField;
-use crate::item::Item;
+use crate::item::{Item, Position};
 use crate::message::{COMMAND, RESPONSE};
 use crate::named::Put;
 use universal::{SysexError, Universal, close};
@@ -163,7 +163,7 @@ impl Writer {
         ensures out_after { out.new ≡ out_after (writing_of self) out.old (I.emission source.now item) }
     {
         match self.ready() {
-            Ok(()) => self.after(item.put(out, self.at, source)),
+            Ok(()) => self.after(item.put(out, Position { at: self.at }, source)),
             Err(e) => self.failed(e),
         }
     }
