@@ -19,7 +19,7 @@ use crate::command::{
 };
 use crate::field::InfoField;
 use crate::length::Kind;
-use crate::named::{Put, put_all, put_byte, put_named};
+use crate::named::{Position, Put, put_all, put_byte, put_named};
 use crate::part::Part;
 use crate::split::{ItemPlace, NextItem, next_parts};
 use crate::{command, field};
@@ -40,28 +40,33 @@ fn put_code<const N: usize>(out: &mut [u8], at: usize, bytes: Result<[u8; N], Sy
 
 // A name and data of the source.
 #[tactic(auto, using(universal::proofs::Laws::overlay_none), unfolding(crate::specs::Item::other_item))]
-fn put_other(out: &mut [u8], at: usize, source: &[u8], name: Part, data: Part, kind: Kind) -> Put
-    requires { at ≤ 40000 }
+fn put_other(
+    out: &mut [u8],
+    place: Position,
+    source: &[u8],
+    name: Part,
+    data: Part,
+    kind: Kind,
+) -> Put
     ensures result_value { put_of result ≡ extent_of (other_item kind source.now name «data») }
-    ensures out_after { out.new ≡ overlay out.old at (other_item kind source.now name «data»).bytes }
+    ensures out_after { out.new ≡ overlay out.old place.at (other_item kind source.now name «data»).bytes }
 {
     if !name.is_inside(source) || !data.is_inside(source) {
         return Put::refused(SysexError::Source);
     }
-    put_named(out, at, name.of(source), data.of(source), kind)
+    put_named(out, place, name.of(source), data.of(source), kind)
 }
 
 // Write: its data is a part of the source.
 #[tactic(auto, using(universal::proofs::Laws::overlay_none), unfolding(crate::specs::Item::write_item))]
-fn put_write(out: &mut [u8], at: usize, source: &[u8], data: Part) -> Put
-    requires { at ≤ 40000 }
+fn put_write(out: &mut [u8], place: Position, source: &[u8], data: Part) -> Put
     ensures result_value { put_of result ≡ extent_of (write_item source.now «data») }
-    ensures out_after { out.new ≡ overlay out.old at (write_item source.now «data»).bytes }
+    ensures out_after { out.new ≡ overlay out.old place.at (write_item source.now «data»).bytes }
 {
     if !data.is_inside(source) {
         return Put::refused(SysexError::Source);
     }
-    put_named(out, at, &[WRITE], data.of(source), Kind::Commands)
+    put_named(out, place, &[WRITE], data.of(source), Kind::Commands)
 }
 
 // Locate to a register, 08H to 0FH.
@@ -78,16 +83,15 @@ fn put_locate_field(out: &mut [u8], at: usize, register: u8) -> Put
 
 // Locate to a time, in the form with subframes.
 #[tactic(auto, using(universal::proofs::Laws::overlay_none, universal::proofs::Laws::overlay_then, crate::proofs::Writing::ItemPuts::standard_code), unfolding(crate::specs::Item::locate_target_item))]
-fn put_locate_target(out: &mut [u8], at: usize, target: StandardTimeCode) -> Put
-    requires { at ≤ 40000 }
+fn put_locate_target(out: &mut [u8], place: Position, target: StandardTimeCode) -> Put
     ensures result_value { put_of result ≡ extent_of (locate_target_item target) }
-    ensures out_after { out.new ≡ overlay out.old at (locate_target_item target).bytes }
+    ensures out_after { out.new ≡ overlay out.old place.at (locate_target_item target).bytes }
 {
     match target.final_byte {
         FinalByte::Status(_) => Put::refused(SysexError::OutOfRange),
         FinalByte::Subframes(_) => {
-            put_part(out, at, &[LOCATE, 6, 1]);
-            put_code(out, at + 3, target.to_bytes()).behind(3)
+            put_part(out, place.at, &[LOCATE, 6, 1]);
+            put_code(out, place.at + 3, target.to_bytes()).behind(3)
         }
     }
 }
@@ -113,29 +117,35 @@ fn is_time_field(name: u8) -> bool
 
 // One command.
 #[tactic(auto, unfolding(crate::specs::Item::command_item))]
-fn put_command(out: &mut [u8], at: usize, source: &[u8], command: MmcCommand) -> Put
-    requires { at ≤ 40000 }
+fn put_command(out: &mut [u8], place: Position, source: &[u8], command: MmcCommand) -> Put
     ensures result_value { put_of result ≡ extent_of (command_item source.now command) }
-    ensures out_after { out.new ≡ overlay out.old at (command_item source.now command).bytes }
+    ensures out_after { out.new ≡ overlay out.old place.at (command_item source.now command).bytes }
 {
     match command {
-        MmcCommand::Stop => put_byte(out, at, STOP),
-        MmcCommand::Play => put_byte(out, at, PLAY),
-        MmcCommand::DeferredPlay => put_byte(out, at, DEFERRED_PLAY),
-        MmcCommand::FastForward => put_byte(out, at, FAST_FORWARD),
-        MmcCommand::Rewind => put_byte(out, at, REWIND),
-        MmcCommand::RecordStrobe => put_byte(out, at, RECORD_STROBE),
-        MmcCommand::RecordExit => put_byte(out, at, RECORD_EXIT),
-        MmcCommand::Pause => put_byte(out, at, PAUSE),
-        MmcCommand::Reset => put_byte(out, at, MMC_RESET),
-        MmcCommand::Write(data) => put_write(out, at, source, data),
-        MmcCommand::LocateField { register } => put_locate_field(out, at, register),
-        MmcCommand::LocateTarget(target) => put_locate_target(out, at, target),
+        MmcCommand::Stop => put_byte(out, place.at, STOP),
+        MmcCommand::Play => put_byte(out, place.at, PLAY),
+        MmcCommand::DeferredPlay => put_byte(out, place.at, DEFERRED_PLAY),
+        MmcCommand::FastForward => put_byte(out, place.at, FAST_FORWARD),
+        MmcCommand::Rewind => put_byte(out, place.at, REWIND),
+        MmcCommand::RecordStrobe => put_byte(out, place.at, RECORD_STROBE),
+        MmcCommand::RecordExit => put_byte(out, place.at, RECORD_EXIT),
+        MmcCommand::Pause => put_byte(out, place.at, PAUSE),
+        MmcCommand::Reset => put_byte(out, place.at, MMC_RESET),
+        MmcCommand::Write(data) => put_write(out, place, source, data),
+        MmcCommand::LocateField { register } => put_locate_field(out, place.at, register),
+        MmcCommand::LocateTarget(target) => put_locate_target(out, place, target),
         MmcCommand::Move {
             destination,
             source: from,
-        } => put_move(out, at, destination, from),
-        MmcCommand::Other { name, data } => put_other(out, at, source, name, data, Kind::Commands),
+        } => put_move(out, place.at, destination, from),
+        MmcCommand::Other { name, data } => put_other(
+            out,
+            place,
+            source,
+            name,
+            data,
+            Kind::Commands,
+        ),
     }
 }
 
@@ -164,51 +174,41 @@ fn code_fits(field: u8, negative: bool, final_byte: FinalByte) -> bool
 
 // A time code field.
 #[tactic(auto, using(universal::proofs::Laws::overlay_none, universal::proofs::Laws::overlay_then, crate::proofs::Writing::ItemPuts::standard_code), unfolding(crate::specs::Item::time_code_item))]
-fn put_time_code(out: &mut [u8], at: usize, field: u8, code: StandardTimeCode) -> Put
-    requires { at ≤ 40000 }
+fn put_time_code(out: &mut [u8], place: Position, field: u8, code: StandardTimeCode) -> Put
     ensures result_value { put_of result ≡ extent_of (time_code_item field code) }
-    ensures out_after { out.new ≡ overlay out.old at (time_code_item field code).bytes }
+    ensures out_after { out.new ≡ overlay out.old place.at (time_code_item field code).bytes }
 {
     if !code_fits(field, code.negative, code.final_byte) {
         return Put::refused(SysexError::OutOfRange);
     }
-    put(out, at, field);
-    put_code(out, at + 1, code.to_bytes()).behind(1)
+    put(out, place.at, field);
+    put_code(out, place.at + 1, code.to_bytes()).behind(1)
 }
 
 // The short form of one, by the name 20H higher.
 #[tactic(auto, using(universal::proofs::Laws::overlay_none, universal::proofs::Laws::overlay_then, crate::proofs::Writing::ItemPuts::short_code, crate::proofs::Writing::ItemPuts::fits_below), unfolding(crate::specs::Item::short_code_item))]
-fn put_short_code(out: &mut [u8], at: usize, field: u8, code: ShortTimeCode) -> Put
-    requires { at ≤ 40000 }
+fn put_short_code(out: &mut [u8], place: Position, field: u8, code: ShortTimeCode) -> Put
     ensures result_value { put_of result ≡ extent_of (short_code_item field code) }
-    ensures out_after { out.new ≡ overlay out.old at (short_code_item field code).bytes }
+    ensures out_after { out.new ≡ overlay out.old place.at (short_code_item field code).bytes }
 {
     if !code_fits(field, code.negative, code.final_byte) {
         return Put::refused(SysexError::OutOfRange);
     }
-    put(out, at, field + 0x20);
-    put_code(out, at + 1, code.to_bytes()).behind(1)
+    put(out, place.at, field + 0x20);
+    put_code(out, place.at + 1, code.to_bytes()).behind(1)
 }
 
 // One field.
 #[tactic(auto, unfolding(crate::specs::Item::field_item))]
-fn put_field(out: &mut [u8], at: usize, source: &[u8], field: InfoField) -> Put
-    requires { at ≤ 40000 }
+fn put_field(out: &mut [u8], place: Position, source: &[u8], field: InfoField) -> Put
     ensures result_value { put_of result ≡ extent_of (field_item source.now field) }
-    ensures out_after { out.new ≡ overlay out.old at (field_item source.now field).bytes }
+    ensures out_after { out.new ≡ overlay out.old place.at (field_item source.now field).bytes }
 {
     match field {
-        InfoField::TimeCode { field: name, code } => put_time_code(out, at, name, code),
-        InfoField::Short { field: name, code } => put_short_code(out, at, name, code),
-        InfoField::Other { name, data } => put_other(out, at, source, name, data, Kind::Fields),
+        InfoField::TimeCode { field: name, code } => put_time_code(out, place, name, code),
+        InfoField::Short { field: name, code } => put_short_code(out, place, name, code),
+        InfoField::Other { name, data } => put_other(out, place, source, name, data, Kind::Fields),
     }
-}
-
-// A position that a writing can have reached: what one item has may be added to it.
-#[derive(Clone, Copy)]
-pub struct Position {
-    pub at: usize,
-    ghost in_range: { at ≤ 40000 },
 }
 
 // What a string is made of: a command or a field. `emission` is what goes out of one before the check that refuses it, `meaning` what a
@@ -248,7 +248,7 @@ impl Item for MmcCommand {
     }
 
     fn put(self, out: &mut [u8], place: Position, source: &[u8]) -> Put {
-        put_command(out, place.at, source, self)
+        put_command(out, place, source, self)
     }
 
     fn read(body: &[u8], place: ItemPlace) -> MmcCommand {
@@ -268,7 +268,7 @@ impl Item for InfoField {
     }
 
     fn put(self, out: &mut [u8], place: Position, source: &[u8]) -> Put {
-        put_field(out, place.at, source, self)
+        put_field(out, place, source, self)
     }
 
     fn read(body: &[u8], place: ItemPlace) -> InfoField {

@@ -9,9 +9,15 @@ ghost use Rattle.mmc.specs.Named.{name_fits, by_rule, named_item, put_of, extent
 use crate::length::{Kind, Length, length_of};
 use universal::{SysexError, all_low, put, put_part};
 
+// A position that a writing can have reached: what one item has may be added to it.
+#[derive(Clone, Copy)]
+pub struct Position {
+    pub at: usize,
+    ghost in_range: { at ≤ 40000 },
+}
+
 // How many bytes went out, and the check that they passed or that ended them. The buffer, the position and the source stay three
-// parameters, as document 01 has them: the buffer is lent for each call, and the position goes by value. The bound on the position stays a
-// clause: each put adds to it, so a type with the bound in it would need one bound for every depth.
+// parameters, as document 01 has them: the buffer is lent for each call, and the position goes by value.
 #[derive(Clone, Copy)]
 pub struct Put {
     pub len: usize,
@@ -112,10 +118,15 @@ fn put_by_rule(out: &mut [u8], at: usize, rule: Length, data: &[u8]) -> Put
 
 // A name and its data.
 #[tactic(auto, using(universal::proofs::Laws::overlay_none, universal::proofs::Laws::overlay_then, universal::proofs::Laws::data_sent, universal::proofs::Laws::data_refused, crate::proofs::Writing::EmissionPuts::name_length), unfolding(crate::specs::Named::named_item))]
-pub(crate) fn put_named(out: &mut [u8], at: usize, name: &[u8], data: &[u8], kind: Kind) -> Put
-    requires { at ≤ 40000 }
+pub(crate) fn put_named(
+    out: &mut [u8],
+    place: Position,
+    name: &[u8],
+    data: &[u8],
+    kind: Kind,
+) -> Put
     ensures result_value { put_of result ≡ extent_of (named_item kind name.now «data».now) }
-    ensures out_after { out.new ≡ overlay out.old at (named_item kind name.now «data».now).bytes }
+    ensures out_after { out.new ≡ overlay out.old place.at (named_item kind name.now «data».now).bytes }
 {
     if !name_fits(name) {
         return Put::refused(SysexError::Length);
@@ -123,10 +134,10 @@ pub(crate) fn put_named(out: &mut [u8], at: usize, name: &[u8], data: &[u8], kin
     if !all_low(name) {
         return Put::refused(SysexError::DataByte);
     }
-    put_part(out, at, name);
+    put_part(out, place.at, name);
     let n = name.len();
     let rule = length_of(kind, name[n - 1]);
-    put_by_rule(out, at + n, rule, data).behind(n)
+    put_by_rule(out, place.at + n, rule, data).behind(n)
 }
 
 // One byte.

@@ -9,9 +9,9 @@ ghost use Rattle.mmc.specs.Write.{writing_of, opens_at, writing_past, or_failed,
 
 use crate::command::MmcCommand;
 use crate::field::InfoField;
-use crate::item::{Item, Position};
+use crate::item::Item;
 use crate::message::{COMMAND, RESPONSE};
-use crate::named::Put;
+use crate::named::{Position, Put};
 use universal::{SysexError, Universal, close};
 
 // The most items of one writing.
