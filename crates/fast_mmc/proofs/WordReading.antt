@@ -1,14 +1,13 @@
 -- Reading a word: the bytes of a time code, a name alone, and the next command of a string. Assumes nothing.
-use Rattle.std.specs.Prelude.{Result, Ok, Err}
+use Rattle.std.specs.Prelude.{Result, Ok, Err, Some, None}
 use Prim.Native.Nat.{ℕ, zero, suc, ◌+◌, ◌-◌, ◌*◌, ◌/◌, ◌%◌, ◌≤◌, ◌<◌}
 use mathlib.Core.Path.{◌≡◌, refl, sym, ap, subst, ◌∙◌}
 use mathlib.Core.Bool.{Bool, true, false, cond, true≢false}
 use mathlib.Core.Logic.{⊎_elim}
 use mathlib.Core.List.{List, [], ◌∷◌}
-use native.Mathlib.Nat.{lt_irrefl}
 use native.Mathlib.Omega.{arith}
 use borrow.Author.Tests.{leb-true, ltb-true}
-use lib.Dec.{eqb, leb, ltb, lit≤}
+use lib.Dec.{eqb, leb, ltb}
 use Rattle.universal.proofs.Tests.{and_parts}
 use lib.ListN.{length, get_or, take}
 use lib.Seq.{drop-cons}
@@ -151,33 +150,31 @@ alone_other name a₁ a₂ a₃ a₄ a₅ a₆ a₇ p r f d n a l z =
     rw (other, l, z)
 
 -- A name with its word, as the contract says it.
-pub short_known : (r name : ℕ) → name ≡ r + 1 → r < 7 → ShortWord name r
+pub short_known : (r name : ℕ) → name ≡ r + 1 → r < 7 → ShortWord name (Some r)
 short_known r name e h =
-    alone_word {word = r} (omega arith) (λ (z : name ≡ 0). omega (arith, e, z)) (below_range 64 120 name (omega (arith, e, h)))
+    alone_word {word = r} (λ (z : name ≡ 0). omega (arith, e, z)) (below_range 64 120 name (omega (arith, e, h)))
     (alone_first name r (sym e) (omega (arith, e, h)))
 
-pub short_pause : (name : ℕ) → name ≡ 9 → ShortWord name 7
+pub short_pause : (name : ℕ) → name ≡ 9 → ShortWord name (Some 7)
 short_pause name e =
-    alone_word {word = 7} (lit≤ tt) (λ (z : name ≡ 0). omega (arith, e, z)) (below_range 64 120 name (omega (arith, e))) (alone_pause name e)
+    alone_word {word = 7} (λ (z : name ≡ 0). omega (arith, e, z)) (below_range 64 120 name (omega (arith, e))) (alone_pause name e)
 
-pub short_reset : (name : ℕ) → name ≡ 13 → ShortWord name 8
+pub short_reset : (name : ℕ) → name ≡ 13 → ShortWord name (Some 8)
 short_reset name e =
-    alone_word {word = 8} (lit≤ tt) (λ (z : name ≡ 0). omega (arith, e, z)) (below_range 64 120 name (omega (arith, e))) (alone_reset name e)
+    alone_word {word = 8} (λ (z : name ≡ 0). omega (arith, e, z)) (below_range 64 120 name (omega (arith, e))) (alone_reset name e)
 
 pub short_other : (name : ℕ) → (name ≡ 0 → ⊥) → (name ≡ 1 → ⊥) → (name ≡ 2 → ⊥) → (name ≡ 3 → ⊥) → (name ≡ 4 → ⊥) → (name ≡ 5 → ⊥)
-    → (name ≡ 6 → ⊥) → (name ≡ 7 → ⊥) → (name ≡ 9 → ⊥) → (name ≡ 13 → ⊥) → within 64 120 name ≡ false → ShortWord name 269
+    → (name ≡ 6 → ⊥) → (name ≡ 7 → ⊥) → (name ≡ 9 → ⊥) → (name ≡ 13 → ⊥) → within 64 120 name ≡ false → ShortWord name (Some 269)
 short_other name z a b c d e g h p r f =
-    alone_word {word = 269} (lit≤ tt) z f
+    alone_word {word = 269} z f
     (alone_other name a b c d e g h p r f)
 
--- Below 270 it is the whole word, and any other name but 00H has a count.
-pub short_alone : (name r : ℕ) → ShortWord name r → r < 270 → (name ≡ 0 → ⊥) × ((within 64 120 name ≡ false) × AloneWord name r)
-short_alone name r (longer h) l = absurd (lt_irrefl 270 l)
-short_alone name r (alone_word h z f a) l = (z, (f, a))
+-- Where there is one it is the whole word, and any other name but 00H has a count.
+pub short_alone : (name r : ℕ) → ShortWord name (Some r) → (name ≡ 0 → ⊥) × ((within 64 120 name ≡ false) × AloneWord name r)
+short_alone name r (alone_word z f a) = (z, (f, a))
 
-pub short_counted : (name r : ℕ) → ShortWord name r → 270 ≤ r → (name ≡ 0 → ⊥) → within 64 120 name ≡ true
-short_counted name r (longer h) l z = ⊎_elim (λ e. absurd (z e)) (λ t. t) h
-short_counted name r (alone_word h n f a) l z = absurd (omega (arith, h, l))
+pub short_counted : (name : ℕ) → ShortWord name None → (name ≡ 0 → ⊥) → within 64 120 name ≡ true
+short_counted name (longer h) z = ⊎_elim (λ e. absurd (z e)) (λ t. t) h
 
 pub counted_bounds : (name : ℕ) → within 64 120 name ≡ true → (64 ≤ name) × (name < 120)
 counted_bounds name h = let p = and_parts (leb 64 name) (ltb name 120) h in (leb-true _ _ p.0, ltb-true _ _ p.1)

@@ -15,10 +15,10 @@ abbrev pub AloneWord : ℕ → ℕ → Type 0
 AloneWord name word =
     (d : List ℕ) (n a : Part) → n.len ≡ 1 → a.len ≡ 0 → word ≡ command_word (command_of_case (command_by_name name d) n a)
 
--- The word of a name, or 270 where it has prefixes or a count.
-pub data ShortWord (name : ℕ) : ℕ → Type 0 where
-  longer : (name ≡ 0) ⊎ (within 64 120 name ≡ true) → ShortWord name 270
-  alone_word : {word : ℕ} → word < 270 → (name ≡ 0 → ⊥) → within 64 120 name ≡ false → AloneWord name word → ShortWord name word
+-- The word of a name, or none where it has prefixes or a count.
+pub data ShortWord (name : ℕ) : Option ℕ → Type 0 where
+  longer : (name ≡ 0) ⊎ (within 64 120 name ≡ true) → ShortWord name None
+  alone_word : {word : ℕ} → (name ≡ 0 → ⊥) → within 64 120 name ≡ false → AloneWord name word → ShortWord name (Some word)
 
 -- ---- a message of words
 

@@ -16,6 +16,7 @@ pub struct FlatApplied {
     pub answer: u8,
 }
 
+// No `From` here: neither a number nor an answer is a type of this crate.
 #[tactic(auto, unfolding(crate::specs::Apply::flat_reply))]
 pub fn flat_reply(answer: Result<Reply, SysexError>) -> u8
     ensures { result ≡ flat_reply (answer_of answer) }
@@ -27,12 +28,14 @@ pub fn flat_reply(answer: Result<Reply, SysexError>) -> u8
     }
 }
 
-#[tactic(auto, unfolding(crate::specs::Apply::flat_applied))]
-pub fn flat_applied(a: Applied) -> FlatApplied
-    ensures { result ≡ flat_applied (applied_of a) }
-{
-    FlatApplied {
-        generator: FlatGenerator::from(a.generator),
-        answer: flat_reply(a.answer),
+impl From<Applied> for FlatApplied {
+    ghost from_gives = { λ a f. f ≡ flat_applied (applied_of a) };
+
+    #[tactic(auto, unfolding(crate::specs::Apply::flat_applied))]
+    fn from(a: Applied) -> FlatApplied {
+        FlatApplied {
+            generator: FlatGenerator::from(a.generator),
+            answer: flat_reply(a.answer),
+        }
     }
 }

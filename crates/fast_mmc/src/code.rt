@@ -72,29 +72,36 @@ pub struct FlatShortBytes {
     pub code: TwoBytes,
 }
 
-#[tactic(auto, unfolding(crate::specs::Code::status_of))]
-pub fn status_of(s: FlatStatus) -> TimeCodeStatus
-    ensures { result ≡ status_of s }
-{
-    TimeCodeStatus {
-        estimated: s.estimated,
-        invalid: s.invalid,
-        video_field1: s.video_field1,
-        no_time_code: s.no_time_code,
+impl From<FlatStatus> for TimeCodeStatus {
+    ghost from_gives = { λ s t. t ≡ status_of s };
+
+    #[tactic(auto, unfolding(crate::specs::Code::status_of))]
+    fn from(s: FlatStatus) -> TimeCodeStatus {
+        TimeCodeStatus {
+            estimated: s.estimated,
+            invalid: s.invalid,
+            video_field1: s.video_field1,
+            no_time_code: s.no_time_code,
+        }
     }
 }
 
-#[tactic(auto, unfolding(crate::specs::Code::flat_status))]
-pub fn flat_status(s: TimeCodeStatus) -> FlatStatus
-    ensures { result ≡ flat_status s }
-{
-    FlatStatus {
-        estimated: s.estimated,
-        invalid: s.invalid,
-        video_field1: s.video_field1,
-        no_time_code: s.no_time_code,
+impl From<TimeCodeStatus> for FlatStatus {
+    ghost from_gives = { λ s f. f ≡ flat_status s };
+
+    #[tactic(auto, unfolding(crate::specs::Code::flat_status))]
+    fn from(s: TimeCodeStatus) -> FlatStatus {
+        FlatStatus {
+            estimated: s.estimated,
+            invalid: s.invalid,
+            video_field1: s.video_field1,
+            no_time_code: s.no_time_code,
+        }
     }
 }
+
+// No `From` for a last byte and for a name: a last byte is two values here, and neither a number nor what is made of it is a type of
+// this crate.
 
 #[tactic(auto, unfolding(crate::specs::Code::final_of))]
 pub fn final_of(status: bool, last: u8) -> FinalByte
@@ -125,31 +132,35 @@ pub fn flat_final(f: FinalByte) -> u8
     }
 }
 
-#[tactic(auto, unfolding(crate::specs::Code::code_of))]
-pub fn code_of(c: FlatCode) -> StandardTimeCode
-    ensures { result ≡ code_of c }
-{
-    StandardTimeCode {
-        time: MtcTime::from(c.time),
-        color_frame: c.color_frame,
-        blank: c.blank,
-        negative: c.negative,
-        final_byte: final_of(c.status, c.last),
+impl From<FlatCode> for StandardTimeCode {
+    ghost from_gives = { λ c t. t ≡ code_of c };
+
+    #[tactic(auto, unfolding(crate::specs::Code::code_of))]
+    fn from(c: FlatCode) -> StandardTimeCode {
+        StandardTimeCode {
+            time: MtcTime::from(c.time),
+            color_frame: c.color_frame,
+            blank: c.blank,
+            negative: c.negative,
+            final_byte: final_of(c.status, c.last),
+        }
     }
 }
 
-#[tactic(auto, unfolding(crate::specs::Code::flat_code))]
-pub fn flat_code(c: StandardTimeCode) -> FlatCode
-    ensures { result ≡ flat_code c }
-{
-    let last = c.final_byte;
-    FlatCode {
-        time: FlatTime::from(c.time),
-        color_frame: c.color_frame,
-        blank: c.blank,
-        negative: c.negative,
-        status: is_status(last),
-        last: flat_final(last),
+impl From<StandardTimeCode> for FlatCode {
+    ghost from_gives = { λ c f. f ≡ flat_code c };
+
+    #[tactic(auto, unfolding(crate::specs::Code::flat_code))]
+    fn from(c: StandardTimeCode) -> FlatCode {
+        let last = c.final_byte;
+        FlatCode {
+            time: FlatTime::from(c.time),
+            color_frame: c.color_frame,
+            blank: c.blank,
+            negative: c.negative,
+            status: is_status(last),
+            last: flat_final(last),
+        }
     }
 }
 
@@ -167,27 +178,31 @@ pub fn no_code() -> FlatCode
     }
 }
 
-#[tactic(auto, unfolding(crate::specs::Code::short_of))]
-pub fn short_of(c: FlatShort) -> ShortTimeCode
-    ensures { result ≡ short_of c }
-{
-    ShortTimeCode {
-        frames: c.frames,
-        negative: c.negative,
-        final_byte: final_of(c.status, c.last),
+impl From<FlatShort> for ShortTimeCode {
+    ghost from_gives = { λ c t. t ≡ short_of c };
+
+    #[tactic(auto, unfolding(crate::specs::Code::short_of))]
+    fn from(c: FlatShort) -> ShortTimeCode {
+        ShortTimeCode {
+            frames: c.frames,
+            negative: c.negative,
+            final_byte: final_of(c.status, c.last),
+        }
     }
 }
 
-#[tactic(auto, unfolding(crate::specs::Code::flat_short))]
-pub fn flat_short(c: ShortTimeCode) -> FlatShort
-    ensures { result ≡ flat_short c }
-{
-    let last = c.final_byte;
-    FlatShort {
-        frames: c.frames,
-        negative: c.negative,
-        status: is_status(last),
-        last: flat_final(last),
+impl From<ShortTimeCode> for FlatShort {
+    ghost from_gives = { λ c f. f ≡ flat_short c };
+
+    #[tactic(auto, unfolding(crate::specs::Code::flat_short))]
+    fn from(c: ShortTimeCode) -> FlatShort {
+        let last = c.final_byte;
+        FlatShort {
+            frames: c.frames,
+            negative: c.negative,
+            status: is_status(last),
+            last: flat_final(last),
+        }
     }
 }
 
@@ -203,6 +218,7 @@ pub fn no_short() -> FlatShort
     }
 }
 
+// 0 for no name: no `From`, as above.
 #[tactic(auto, unfolding(crate::specs::Code::flat_name))]
 pub fn flat_name(name: Option<u8>) -> u8
     ensures { result ≡ flat_name name }
@@ -210,34 +226,38 @@ pub fn flat_name(name: Option<u8>) -> u8
     name.unwrap_or(0)
 }
 
-#[tactic(auto, unfolding(fast_mtc::specs::Refusal::refusal_in))]
-pub fn flat_code_bytes(written: Result<[u8; 5], SysexError>) -> FlatCodeBytes
-    ensures { (result.refusal ≡ refusal_in (answer_of written)) × (result.code.bytes ≡ five_bytes (answer_of written)) }
-{
-    match written {
-        Ok(bytes) => FlatCodeBytes {
-            refusal: 0,
-            code: FiveBytes { bytes },
-        },
-        Err(e) => FlatCodeBytes {
-            refusal: e.number(),
-            code: FiveBytes { bytes: [0; 5] },
-        },
+impl From<Result<[u8; 5], SysexError>> for FlatCodeBytes {
+    ghost from_gives = { λ written f. (f.refusal ≡ refusal_in (answer_of written)) × (f.code.bytes ≡ five_bytes (answer_of written)) };
+
+    #[tactic(auto, unfolding(fast_mtc::specs::Refusal::refusal_in))]
+    fn from(written: Result<[u8; 5], SysexError>) -> FlatCodeBytes {
+        match written {
+            Ok(bytes) => FlatCodeBytes {
+                refusal: 0,
+                code: FiveBytes { bytes },
+            },
+            Err(e) => FlatCodeBytes {
+                refusal: e.number(),
+                code: FiveBytes { bytes: [0; 5] },
+            },
+        }
     }
 }
 
-#[tactic(auto, unfolding(fast_mtc::specs::Refusal::refusal_in))]
-pub fn flat_short_bytes(written: Result<[u8; 2], SysexError>) -> FlatShortBytes
-    ensures { (result.refusal ≡ refusal_in (answer_of written)) × (result.code.bytes ≡ two_bytes (answer_of written)) }
-{
-    match written {
-        Ok(bytes) => FlatShortBytes {
-            refusal: 0,
-            code: TwoBytes { bytes },
-        },
-        Err(e) => FlatShortBytes {
-            refusal: e.number(),
-            code: TwoBytes { bytes: [0; 2] },
-        },
+impl From<Result<[u8; 2], SysexError>> for FlatShortBytes {
+    ghost from_gives = { λ written f. (f.refusal ≡ refusal_in (answer_of written)) × (f.code.bytes ≡ two_bytes (answer_of written)) };
+
+    #[tactic(auto, unfolding(fast_mtc::specs::Refusal::refusal_in))]
+    fn from(written: Result<[u8; 2], SysexError>) -> FlatShortBytes {
+        match written {
+            Ok(bytes) => FlatShortBytes {
+                refusal: 0,
+                code: TwoBytes { bytes },
+            },
+            Err(e) => FlatShortBytes {
+                refusal: e.number(),
+                code: TwoBytes { bytes: [0; 2] },
+            },
+        }
     }
 }

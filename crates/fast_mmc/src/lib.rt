@@ -16,7 +16,7 @@ mod whole;
 mod word;
 pub mod write;
 
-pub use numbers::{WrittenNumbers, written_numbers};
+pub use numbers::WrittenNumbers;
 pub use put::{put_other, put_word, put_write};
 pub use whole::write_words;
 pub use word::{NextWord, next_word};

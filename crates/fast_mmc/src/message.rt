@@ -62,6 +62,7 @@ pub struct FlatMmcMessage {
     pub device_id: u8,
 }
 
+// Two values, and so no `From`.
 #[tactic(auto, unfolding(crate::specs::Message::sub_id2_of))]
 pub fn sub_id2_of(has: bool, sub_id2: u8) -> Option<u8>
     ensures { result ≡ sub_id2_of has sub_id2 }
@@ -69,39 +70,45 @@ pub fn sub_id2_of(has: bool, sub_id2: u8) -> Option<u8>
     has.then_some(sub_id2)
 }
 
-#[tactic(auto, unfolding(crate::specs::Message::universal_of))]
-pub fn universal_of(u: FlatUniversal) -> Universal
-    ensures { result ≡ universal_of u }
-{
-    Universal {
-        real_time: u.real_time,
-        device_id: u.device_id,
-        sub_id1: u.sub_id1,
-        sub_id2: sub_id2_of(u.has_sub_id2, u.sub_id2),
+impl From<FlatUniversal> for Universal {
+    ghost from_gives = { λ u r. r ≡ universal_of u };
+
+    #[tactic(auto, unfolding(crate::specs::Message::universal_of))]
+    fn from(u: FlatUniversal) -> Universal {
+        Universal {
+            real_time: u.real_time,
+            device_id: u.device_id,
+            sub_id1: u.sub_id1,
+            sub_id2: sub_id2_of(u.has_sub_id2, u.sub_id2),
+        }
     }
 }
 
-#[tactic(auto, unfolding(crate::specs::Message::user_bits_of))]
-pub fn user_bits_of(b: FlatUserBits) -> UserBits
-    ensures { result ≡ user_bits_of b }
-{
-    let groups = b.groups;
-    UserBits {
-        device_id: b.device_id,
-        groups,
-        flags: b.flags,
+impl From<FlatUserBits> for UserBits {
+    ghost from_gives = { λ b r. r ≡ user_bits_of b };
+
+    #[tactic(auto, unfolding(crate::specs::Message::user_bits_of))]
+    fn from(b: FlatUserBits) -> UserBits {
+        let groups = b.groups;
+        UserBits {
+            device_id: b.device_id,
+            groups,
+            flags: b.flags,
+        }
     }
 }
 
-#[tactic(auto, unfolding(crate::specs::Message::flat_bits))]
-pub fn flat_bits(b: UserBits) -> FlatUserBits
-    ensures { result ≡ flat_bits b }
-{
-    let groups = b.groups;
-    FlatUserBits {
-        device_id: b.device_id,
-        groups,
-        flags: b.flags,
+impl From<UserBits> for FlatUserBits {
+    ghost from_gives = { λ b f. f ≡ flat_bits b };
+
+    #[tactic(auto, unfolding(crate::specs::Message::flat_bits))]
+    fn from(b: UserBits) -> FlatUserBits {
+        let groups = b.groups;
+        FlatUserBits {
+            device_id: b.device_id,
+            groups,
+            flags: b.flags,
+        }
     }
 }
 
@@ -116,18 +123,20 @@ fn no_message(answer: u8) -> FlatFullMessage
     }
 }
 
-#[tactic(auto, unfolding(crate::specs::Message::flat_full_message))]
-pub fn flat_full_message(read: Result<Option<FullMessage>, SysexError>) -> FlatFullMessage
-    ensures { result ≡ flat_full_message (answer_of read) }
-{
-    match read {
-        Ok(Some(m)) => FlatFullMessage {
-            answer: 0,
-            device_id: m.device_id,
-            time: FlatTime::from(m.time),
-        },
-        Ok(None) => no_message(255),
-        Err(e) => no_message(e.number()),
+impl From<Result<Option<FullMessage>, SysexError>> for FlatFullMessage {
+    ghost from_gives = { λ read f. f ≡ flat_full_message (answer_of read) };
+
+    #[tactic(auto, unfolding(crate::specs::Message::flat_full_message))]
+    fn from(read: Result<Option<FullMessage>, SysexError>) -> FlatFullMessage {
+        match read {
+            Ok(Some(m)) => FlatFullMessage {
+                answer: 0,
+                device_id: m.device_id,
+                time: FlatTime::from(m.time),
+            },
+            Ok(None) => no_message(255),
+            Err(e) => no_message(e.number()),
+        }
     }
 }
 
@@ -146,17 +155,19 @@ fn no_bits(answer: u8) -> FlatReadUserBits
     }
 }
 
-#[tactic(auto, unfolding(crate::specs::Message::flat_answer, crate::specs::Message::flat_read_bits))]
-pub fn flat_user_bits(read: Result<Option<UserBits>, SysexError>) -> FlatReadUserBits
-    ensures { result ≡ flat_user_bits (answer_of read) }
-{
-    match read {
-        Ok(Some(b)) => FlatReadUserBits {
-            answer: 0,
-            bits: flat_bits(b),
-        },
-        Ok(None) => no_bits(255),
-        Err(e) => no_bits(e.number()),
+impl From<Result<Option<UserBits>, SysexError>> for FlatReadUserBits {
+    ghost from_gives = { λ read f. f ≡ flat_user_bits (answer_of read) };
+
+    #[tactic(auto, unfolding(crate::specs::Message::flat_answer, crate::specs::Message::flat_read_bits))]
+    fn from(read: Result<Option<UserBits>, SysexError>) -> FlatReadUserBits {
+        match read {
+            Ok(Some(b)) => FlatReadUserBits {
+                answer: 0,
+                bits: FlatUserBits::from(b),
+            },
+            Ok(None) => no_bits(255),
+            Err(e) => no_bits(e.number()),
+        }
     }
 }
 
@@ -171,19 +182,21 @@ fn flat_mmc(answer: u8, responses: bool, device_id: u8) -> FlatMmcMessage
     }
 }
 
-#[tactic(auto, unfolding(crate::specs::Message::flat_mmc_message))]
-pub fn flat_mmc_message(read: Result<Option<MmcMessage>, SysexError>) -> FlatMmcMessage
-    ensures { result ≡ flat_mmc_message (answer_of read) }
-{
-    match read {
-        Ok(Some(MmcMessage::Commands { device_id })) => flat_mmc(0, false, device_id),
-        Ok(Some(MmcMessage::Responses { device_id })) => flat_mmc(0, true, device_id),
-        Ok(None) => flat_mmc(255, false, 0),
-        Err(e) => flat_mmc(e.number(), false, 0),
+impl From<Result<Option<MmcMessage>, SysexError>> for FlatMmcMessage {
+    ghost from_gives = { λ read f. f ≡ flat_mmc_message (answer_of read) };
+
+    #[tactic(auto, unfolding(crate::specs::Message::flat_mmc_message))]
+    fn from(read: Result<Option<MmcMessage>, SysexError>) -> FlatMmcMessage {
+        match read {
+            Ok(Some(MmcMessage::Commands { device_id })) => flat_mmc(0, false, device_id),
+            Ok(Some(MmcMessage::Responses { device_id })) => flat_mmc(0, true, device_id),
+            Ok(None) => flat_mmc(255, false, 0),
+            Err(e) => flat_mmc(e.number(), false, 0),
+        }
     }
 }
 
-// The same as one number: 0 for commands, 128 for responses, 255 for another kind, or the refusal.
+// The same as one number: 0 for commands, 128 for responses, 255 for another kind, or the refusal. No `From`, as neither is a type of this crate.
 #[tactic(auto, unfolding(crate::specs::Message::mmc_kind))]
 pub fn mmc_kind(read: Result<Option<MmcMessage>, SysexError>) -> u8
     ensures { result ≡ mmc_kind (answer_of read) }

@@ -13,15 +13,17 @@ pub struct WrittenNumbers {
     pub length: usize,
 }
 
-#[tactic(auto, unfolding(crate::specs::Numbers::written_numbers))]
-pub fn written_numbers(written: Result<usize, SysexError>) -> WrittenNumbers
-    ensures { result ≡ written_numbers (answer_of written) }
-{
-    match written {
-        Ok(length) => WrittenNumbers { refusal: 0, length },
-        Err(e) => WrittenNumbers {
-            refusal: e.number(),
-            length: e.needed(),
-        },
+impl From<Result<usize, SysexError>> for WrittenNumbers {
+    ghost from_gives = { λ written n. n ≡ written_numbers (answer_of written) };
+
+    #[tactic(auto, unfolding(crate::specs::Numbers::written_numbers))]
+    fn from(written: Result<usize, SysexError>) -> WrittenNumbers {
+        match written {
+            Ok(length) => WrittenNumbers { refusal: 0, length },
+            Err(e) => WrittenNumbers {
+                refusal: e.number(),
+                length: e.needed(),
+            },
+        }
     }
 }

@@ -4,11 +4,9 @@ ghost use Rattle.universal.specs.Refusals.{answer_of};
 ghost use Rattle.std.specs.Prelude.{◌≡◌};
 ghost use Rattle.fast_mmc.specs.String.{part_at, flat_part, flat_values, command_of, flat_command, flat_command_answer, flat_next_command, field_of, coded, flat_field, flat_field_answer, flat_next_field};
 
-use crate::code::{
-    FlatCode, FlatShort, code_of, flat_code, flat_short, no_code, no_short, short_of,
-};
+use crate::code::{FlatCode, FlatShort, no_code, no_short};
 use crate::command::plain_command;
-use mmc::{InfoField, MmcCommand, NextItem, Part};
+use mmc::{InfoField, MmcCommand, NextItem, Part, ShortTimeCode, StandardTimeCode};
 use universal::SysexError;
 
 // A part of lent bytes.
@@ -70,23 +68,27 @@ pub struct FlatNextField {
     pub place: usize,
 }
 
-#[tactic(auto, unfolding(crate::specs::String::part_at))]
-pub fn part_at(p: FlatPart) -> Part
-    ensures { result ≡ part_at p }
-{
-    Part {
-        start: p.start,
-        len: p.length,
+impl From<FlatPart> for Part {
+    ghost from_gives = { λ p r. r ≡ part_at p };
+
+    #[tactic(auto, unfolding(crate::specs::String::part_at))]
+    fn from(p: FlatPart) -> Part {
+        Part {
+            start: p.start,
+            len: p.length,
+        }
     }
 }
 
-#[tactic(auto, unfolding(crate::specs::String::flat_part))]
-pub fn flat_part(p: Part) -> FlatPart
-    ensures { result ≡ flat_part p }
-{
-    FlatPart {
-        start: p.start,
-        length: p.len,
+impl From<Part> for FlatPart {
+    ghost from_gives = { λ p f. f ≡ flat_part p };
+
+    #[tactic(auto, unfolding(crate::specs::String::flat_part))]
+    fn from(p: Part) -> FlatPart {
+        FlatPart {
+            start: p.start,
+            length: p.len,
+        }
     }
 }
 
@@ -104,61 +106,66 @@ pub fn flat_values(kind: u8, first: u8, second: u8) -> FlatCommand
     }
 }
 
-#[tactic(auto, unfolding(crate::specs::String::command_of, crate::specs::Word::plain_command))]
-pub fn command_of(c: FlatCommand) -> MmcCommand
-    ensures { result ≡ command_of c }
-{
-    match c.kind {
-        0..=8 => plain_command(c.kind),
-        9 => MmcCommand::Write(part_at(c.data)),
-        10 => MmcCommand::LocateField { register: c.first },
-        11 => MmcCommand::LocateTarget(code_of(c.code)),
-        12 => MmcCommand::Move {
-            destination: c.first,
-            source: c.second,
-        },
-        _ => MmcCommand::Other {
-            name: part_at(c.name),
-            data: part_at(c.data),
-        },
+impl From<FlatCommand> for MmcCommand {
+    ghost from_gives = { λ c r. r ≡ command_of c };
+
+    #[tactic(auto, unfolding(crate::specs::String::command_of, crate::specs::Word::plain_command))]
+    fn from(c: FlatCommand) -> MmcCommand {
+        match c.kind {
+            0..=8 => plain_command(c.kind),
+            9 => MmcCommand::Write(Part::from(c.data)),
+            10 => MmcCommand::LocateField { register: c.first },
+            11 => MmcCommand::LocateTarget(StandardTimeCode::from(c.code)),
+            12 => MmcCommand::Move {
+                destination: c.first,
+                source: c.second,
+            },
+            _ => MmcCommand::Other {
+                name: Part::from(c.name),
+                data: Part::from(c.data),
+            },
+        }
     }
 }
 
-#[tactic(auto, unfolding(crate::specs::String::flat_command, crate::specs::Word::command_word))]
-pub fn flat_command(c: MmcCommand) -> FlatCommand
-    ensures { result ≡ flat_command c }
-{
-    match c {
-        MmcCommand::Stop => flat_values(0, 0, 0),
-        MmcCommand::Play => flat_values(1, 0, 0),
-        MmcCommand::DeferredPlay => flat_values(2, 0, 0),
-        MmcCommand::FastForward => flat_values(3, 0, 0),
-        MmcCommand::Rewind => flat_values(4, 0, 0),
-        MmcCommand::RecordStrobe => flat_values(5, 0, 0),
-        MmcCommand::RecordExit => flat_values(6, 0, 0),
-        MmcCommand::Pause => flat_values(7, 0, 0),
-        MmcCommand::Reset => flat_values(8, 0, 0),
-        MmcCommand::Write(data) => FlatCommand {
-            data: flat_part(data),
-            ..flat_values(9, 0, 0)
-        },
-        MmcCommand::LocateField { register } => flat_values(10, register, 0),
-        MmcCommand::LocateTarget(code) => FlatCommand {
-            code: flat_code(code),
-            ..flat_values(11, 0, 0)
-        },
-        MmcCommand::Move {
-            destination,
-            source,
-        } => flat_values(12, destination, source),
-        MmcCommand::Other { name, data } => FlatCommand {
-            name: flat_part(name),
-            data: flat_part(data),
-            ..flat_values(13, 0, 0)
-        },
+impl From<MmcCommand> for FlatCommand {
+    ghost from_gives = { λ c f. f ≡ flat_command c };
+
+    #[tactic(auto, unfolding(crate::specs::String::flat_command, crate::specs::Word::command_word))]
+    fn from(c: MmcCommand) -> FlatCommand {
+        match c {
+            MmcCommand::Stop => flat_values(0, 0, 0),
+            MmcCommand::Play => flat_values(1, 0, 0),
+            MmcCommand::DeferredPlay => flat_values(2, 0, 0),
+            MmcCommand::FastForward => flat_values(3, 0, 0),
+            MmcCommand::Rewind => flat_values(4, 0, 0),
+            MmcCommand::RecordStrobe => flat_values(5, 0, 0),
+            MmcCommand::RecordExit => flat_values(6, 0, 0),
+            MmcCommand::Pause => flat_values(7, 0, 0),
+            MmcCommand::Reset => flat_values(8, 0, 0),
+            MmcCommand::Write(data) => FlatCommand {
+                data: FlatPart::from(data),
+                ..flat_values(9, 0, 0)
+            },
+            MmcCommand::LocateField { register } => flat_values(10, register, 0),
+            MmcCommand::LocateTarget(code) => FlatCommand {
+                code: FlatCode::from(code),
+                ..flat_values(11, 0, 0)
+            },
+            MmcCommand::Move {
+                destination,
+                source,
+            } => flat_values(12, destination, source),
+            MmcCommand::Other { name, data } => FlatCommand {
+                name: FlatPart::from(name),
+                data: FlatPart::from(data),
+                ..flat_values(13, 0, 0)
+            },
+        }
     }
 }
 
+// An answer and a place, and so no `From`, here and in a field's.
 #[tactic(auto, unfolding(crate::specs::String::flat_command_answer))]
 pub fn flat_command_answer(answer: Result<MmcCommand, SysexError>, place: usize) -> FlatNextCommand
     ensures { result ≡ flat_command_answer (answer_of answer) place }
@@ -166,7 +173,7 @@ pub fn flat_command_answer(answer: Result<MmcCommand, SysexError>, place: usize)
     match answer {
         Ok(c) => FlatNextCommand {
             refusal: 0,
-            command: flat_command(c),
+            command: FlatCommand::from(c),
             place,
         },
         Err(e) => FlatNextCommand {
@@ -177,23 +184,25 @@ pub fn flat_command_answer(answer: Result<MmcCommand, SysexError>, place: usize)
     }
 }
 
-#[tactic(auto, unfolding(crate::specs::String::field_of))]
-pub fn field_of(f: FlatField) -> InfoField
-    ensures { result ≡ field_of f }
-{
-    match f.kind {
-        0 => InfoField::TimeCode {
-            field: f.field,
-            code: code_of(f.code),
-        },
-        1 => InfoField::Short {
-            field: f.field,
-            code: short_of(f.short_code),
-        },
-        _ => InfoField::Other {
-            name: part_at(f.name),
-            data: part_at(f.data),
-        },
+impl From<FlatField> for InfoField {
+    ghost from_gives = { λ f r. r ≡ field_of f };
+
+    #[tactic(auto, unfolding(crate::specs::String::field_of))]
+    fn from(f: FlatField) -> InfoField {
+        match f.kind {
+            0 => InfoField::TimeCode {
+                field: f.field,
+                code: StandardTimeCode::from(f.code),
+            },
+            1 => InfoField::Short {
+                field: f.field,
+                code: ShortTimeCode::from(f.short_code),
+            },
+            _ => InfoField::Other {
+                name: Part::from(f.name),
+                data: Part::from(f.data),
+            },
+        }
     }
 }
 
@@ -211,18 +220,25 @@ pub fn coded(kind: u8, field: u8, code: FlatCode, short_code: FlatShort) -> Flat
     }
 }
 
-#[tactic(auto, unfolding(crate::specs::String::flat_field))]
-pub fn flat_field(f: InfoField) -> FlatField
-    ensures { result ≡ flat_field f }
-{
-    match f {
-        InfoField::TimeCode { field, code } => coded(0, field, flat_code(code), no_short()),
-        InfoField::Short { field, code } => coded(1, field, no_code(), flat_short(code)),
-        InfoField::Other { name, data } => FlatField {
-            name: flat_part(name),
-            data: flat_part(data),
-            ..coded(2, 0, no_code(), no_short())
-        },
+impl From<InfoField> for FlatField {
+    ghost from_gives = { λ f r. r ≡ flat_field f };
+
+    #[tactic(auto, unfolding(crate::specs::String::flat_field))]
+    fn from(f: InfoField) -> FlatField {
+        match f {
+            InfoField::TimeCode { field, code } => coded(
+                0,
+                field,
+                FlatCode::from(code),
+                no_short(),
+            ),
+            InfoField::Short { field, code } => coded(1, field, no_code(), FlatShort::from(code)),
+            InfoField::Other { name, data } => FlatField {
+                name: FlatPart::from(name),
+                data: FlatPart::from(data),
+                ..coded(2, 0, no_code(), no_short())
+            },
+        }
     }
 }
 
@@ -233,7 +249,7 @@ pub fn flat_field_answer(answer: Result<InfoField, SysexError>, place: usize) ->
     match answer {
         Ok(f) => FlatNextField {
             refusal: 0,
-            field: flat_field(f),
+            field: FlatField::from(f),
             place,
         },
         Err(e) => FlatNextField {
@@ -244,16 +260,20 @@ pub fn flat_field_answer(answer: Result<InfoField, SysexError>, place: usize) ->
     }
 }
 
-#[tactic(auto, unfolding(crate::specs::String::flat_next_command))]
-pub fn flat_next_command(n: NextItem<MmcCommand>) -> FlatNextCommand
-    ensures { result ≡ flat_next_command (next_item_of n) }
-{
-    flat_command_answer(n.answer, n.place)
+impl From<NextItem<MmcCommand>> for FlatNextCommand {
+    ghost from_gives = { λ n f. f ≡ flat_next_command (next_item_of n) };
+
+    #[tactic(auto, unfolding(crate::specs::String::flat_next_command))]
+    fn from(n: NextItem<MmcCommand>) -> FlatNextCommand {
+        flat_command_answer(n.answer, n.place)
+    }
 }
 
-#[tactic(auto, unfolding(crate::specs::String::flat_next_field))]
-pub fn flat_next_field(n: NextItem<InfoField>) -> FlatNextField
-    ensures { result ≡ flat_next_field (next_item_of n) }
-{
-    flat_field_answer(n.answer, n.place)
+impl From<NextItem<InfoField>> for FlatNextField {
+    ghost from_gives = { λ n f. f ≡ flat_next_field (next_item_of n) };
+
+    #[tactic(auto, unfolding(crate::specs::String::flat_next_field))]
+    fn from(n: NextItem<InfoField>) -> FlatNextField {
+        flat_field_answer(n.answer, n.place)
+    }
 }

@@ -12,7 +12,7 @@ ghost use Rattle.fast_mmc.specs.Clauses.{open_writing, PutWhole, LowBytes, WordI
 
 use crate::command::{LOCATE_FIELD, LOCATE_TARGET, MOVE, NAMES, plain_name, word_command};
 use crate::locate::put_locate_bytes;
-use crate::numbers::{WrittenNumbers, written_numbers};
+use crate::numbers::WrittenNumbers;
 use codes::{FinalByte, StandardTimeCode, TimeCodeStatus};
 use labels::{MtcTime, TimeCodeType};
 use mmc::{MmcCommand, Writer};
@@ -76,7 +76,7 @@ fn put_rest(out: &mut [u8], words: &[u64], at: usize, items: usize) -> WrittenNu
     for &word in words {
         w = give_word(out, w, word);
     }
-    written_numbers(w.close_message(out))
+    WrittenNumbers::from(w.close_message(out))
 }
 
 // True only for a minute that skips no number.

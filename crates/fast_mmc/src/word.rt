@@ -18,8 +18,6 @@ const WRITE: u64 = 9;
 const OTHER: u64 = 13;
 // Another command that is a name of one byte alone.
 const OTHER_ALONE: u64 = 269;
-// No word: a name that has prefixes or a count, so that there is more to read.
-const MORE: u64 = 270;
 // 2, for an item that is cut short.
 const CUT: u64 = 130;
 // 9, for a place at the end.
@@ -148,24 +146,24 @@ fn refusal_word(error: SysexError) -> u64
     128 + u64::from(error.number())
 }
 
-// The command of a name without prefixes and data, or `MORE` where it has either.
+// The command of a name without prefixes and data, or none where it has either.
 #[tactic(auto, using(crate::specs::Clauses::longer, crate::proofs::WordReading::short_known, crate::proofs::WordReading::short_pause, crate::proofs::WordReading::short_reset, crate::proofs::WordReading::short_other, mmc::proofs::ReadingLaws::within_range, mmc::proofs::ReadingLaws::below_range, mmc::proofs::ReadingLaws::above_range))]
-fn short_word(name: u8) -> u64
+fn short_word(name: u8) -> Option<u64>
     ensures { ShortWord name result }
 {
     match name {
-        0x00 => MORE,
-        0x01 => 0,
-        0x02 => 1,
-        0x03 => 2,
-        0x04 => 3,
-        0x05 => 4,
-        0x06 => 5,
-        0x07 => 6,
-        0x09 => 7,
-        0x0D => 8,
-        0x40..=0x77 => MORE,
-        _ => OTHER_ALONE,
+        0x00 => None,
+        0x01 => Some(0),
+        0x02 => Some(1),
+        0x03 => Some(2),
+        0x04 => Some(3),
+        0x05 => Some(4),
+        0x06 => Some(5),
+        0x07 => Some(6),
+        0x09 => Some(7),
+        0x0D => Some(8),
+        0x40..=0x77 => None,
+        _ => Some(OTHER_ALONE),
     }
 }
 
@@ -223,8 +221,7 @@ pub fn next_word(body: &[u8], place: usize) -> NextWord
         return NextWord { word: END, place };
     }
     let name = body[place];
-    let word = short_word(name);
-    if word < MORE {
+    if let Some(word) = short_word(name) {
         return NextWord {
             word,
             place: place + 1,

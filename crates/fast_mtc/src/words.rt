@@ -9,6 +9,8 @@ use crate::generator::{flat_direction, flat_piece};
 use crate::time::{FlatTime, no_time};
 use mtc::{Direction, MtcReader, MtcTime, TimeCodeType};
 
+// C has no Option, so in the next record a flag stands beside the value.
+
 // A time, where `present` is true. Where it is false the time is all zeros in an answer, and is not read in an argument.
 #[repr(C)]
 #[derive(Clone, Copy)]

@@ -5,9 +5,10 @@ ghost use Rattle.fast_mtc.specs.Generator.{generator_of};
 ghost use Rattle.fast_mmc.specs.String.{command_of};
 ghost use Rattle.fast_mmc.specs.Apply.{flat_applied};
 
-use fast_mmc::apply::{FlatApplied, flat_applied};
-use fast_mmc::string::{FlatCommand, command_of};
+use fast_mmc::apply::FlatApplied;
+use fast_mmc::string::FlatCommand;
 use fast_mtc::generator::FlatGenerator;
+use mmc::MmcCommand;
 use mtc::MtcGenerator;
 
 // `apply`: one command of a message for `device_id`, to the generator of the device `own`.
@@ -19,10 +20,10 @@ pub fn fimbrast_apply(
 ) -> FlatApplied
     ensures { result ≡ flat_applied (applied (generator_of generator) device_id own (command_of command)) }
 {
-    flat_applied(transport::apply(
+    FlatApplied::from(transport::apply(
         MtcGenerator::from(generator),
         device_id,
         own,
-        command_of(command),
+        MmcCommand::from(command),
     ))
 }

@@ -5,9 +5,7 @@ ghost use Rattle.fast_mtc.specs.Refusal.{refusal_in};
 ghost use Rattle.fast_mmc.specs.Code.{status_of, flat_status, code_of, flat_code, short_of, flat_short, flat_name, standard_left, short_left};
 
 use fast_mmc::code::{
-    FiveBytes, FlatCode, FlatCodeBytes, FlatShort, FlatShortBytes, FlatStatus, TwoBytes, code_of,
-    flat_code, flat_code_bytes, flat_name, flat_short, flat_short_bytes, flat_status, short_of,
-    status_of,
+    FiveBytes, FlatCode, FlatCodeBytes, FlatShort, FlatShortBytes, FlatStatus, TwoBytes, flat_name,
 };
 use mmc::{ShortTimeCode, StandardTimeCode, TimeCodeStatus};
 
@@ -29,14 +27,14 @@ pub fn fimbrast_full_name(short_name: u8) -> u8
 pub fn fimbrast_status_read(byte: u8) -> FlatStatus
     ensures { result ≡ flat_status (read_status byte) }
 {
-    flat_status(TimeCodeStatus::from_byte(byte))
+    FlatStatus::from(TimeCodeStatus::from_byte(byte))
 }
 
 // `TimeCodeStatus::to_byte`: the status byte of flags.
 pub fn fimbrast_status_byte(status: FlatStatus) -> u8
     ensures { result ≡ status_byte (status_of status) }
 {
-    status_of(status).to_byte()
+    TimeCodeStatus::from(status).to_byte()
 }
 
 // `StandardTimeCode::from_bytes`: each count is masked to its width.
@@ -44,14 +42,14 @@ pub fn fimbrast_code_read(bytes: FiveBytes) -> FlatCode
     ensures { result ≡ flat_code (read_standard (get_or bytes.bytes 0 0) (get_or bytes.bytes 1 0) (get_or bytes.bytes 2 0) (get_or bytes.bytes 3 0) (get_or bytes.bytes 4 0)) }
 {
     let five = bytes.bytes;
-    flat_code(StandardTimeCode::from_bytes(five))
+    FlatCode::from(StandardTimeCode::from_bytes(five))
 }
 
 // `StandardTimeCode::to_bytes`: refuses subframes above 99 and a time that is not valid.
 pub fn fimbrast_code_write(code: FlatCode) -> FlatCodeBytes
     ensures { (result.refusal ≡ refusal_in (standard_bytes (code_of code))) × (result.code.bytes ≡ standard_left (code_of code)) }
 {
-    flat_code_bytes(code_of(code).to_bytes())
+    FlatCodeBytes::from(StandardTimeCode::from(code).to_bytes())
 }
 
 // `ShortTimeCode::from_bytes`: the frames are masked to 5 bits.
@@ -59,40 +57,40 @@ pub fn fimbrast_short_code_read(bytes: TwoBytes) -> FlatShort
     ensures { result ≡ flat_short (read_short (get_or bytes.bytes 0 0) (get_or bytes.bytes 1 0)) }
 {
     let two = bytes.bytes;
-    flat_short(ShortTimeCode::from_bytes(two))
+    FlatShort::from(ShortTimeCode::from_bytes(two))
 }
 
 // `ShortTimeCode::to_bytes`: refuses frames above 29 and subframes above 99.
 pub fn fimbrast_short_code_write(code: FlatShort) -> FlatShortBytes
     ensures { (result.refusal ≡ refusal_in (short_bytes (short_of code))) × (result.code.bytes ≡ short_left (short_of code)) }
 {
-    flat_short_bytes(short_of(code).to_bytes())
+    FlatShortBytes::from(ShortTimeCode::from(code).to_bytes())
 }
 
 // `StandardTimeCode::short`: its frames, sign and last byte.
 pub fn fimbrast_code_short(code: FlatCode) -> FlatShort
     ensures { result ≡ flat_short (short_form (code_of code)) }
 {
-    flat_short(code_of(code).short())
+    FlatShort::from(StandardTimeCode::from(code).short())
 }
 
 // `StandardTimeCode::with_short`: the code with the frames, sign and last byte of a short one.
 pub fn fimbrast_code_with_short(code: FlatCode, short_code: FlatShort) -> FlatCode
     ensures { result ≡ flat_code (with_short (code_of code) (short_of short_code)) }
 {
-    flat_code(code_of(code).with_short(short_of(short_code)))
+    FlatCode::from(StandardTimeCode::from(code).with_short(ShortTimeCode::from(short_code)))
 }
 
 // `StandardTimeCode::to_subframes_form`: a status becomes subframes 00.
 pub fn fimbrast_to_subframes_form(code: FlatCode) -> FlatCode
     ensures { result ≡ flat_code (subframes_form (code_of code)) }
 {
-    flat_code(code_of(code).to_subframes_form())
+    FlatCode::from(StandardTimeCode::from(code).to_subframes_form())
 }
 
 // `StandardTimeCode::to_status_form`: subframes become a status with this video field, marked as no time code.
 pub fn fimbrast_to_status_form(code: FlatCode, video_field1: bool) -> FlatCode
     ensures { result ≡ flat_code (status_form (code_of code) video_field1) }
 {
-    flat_code(code_of(code).to_status_form(video_field1))
+    FlatCode::from(StandardTimeCode::from(code).to_status_form(video_field1))
 }

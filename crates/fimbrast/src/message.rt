@@ -10,11 +10,11 @@ ghost use Rattle.mmc.specs.Message.{message_from};
 ghost use Rattle.fast_mtc.specs.Time.{time_of};
 ghost use Rattle.fast_mmc.specs.Message.{universal_of, user_bits_of, flat_full_message, flat_user_bits, flat_mmc_message, mmc_kind};
 
+use fast_mmc::WrittenNumbers;
 use fast_mmc::message::{
     FlatFullMessage, FlatMmcMessage, FlatReadUserBits, FlatUniversal, FlatUserBits, FourBytes,
-    flat_full_message, flat_mmc_message, flat_user_bits, mmc_kind, universal_of, user_bits_of,
+    mmc_kind,
 };
-use fast_mmc::{WrittenNumbers, written_numbers};
 use fast_mtc::time::FlatTime;
 use mmc::MmcMessage;
 use mtc::{FullMessage, MtcTime, UserBits};
@@ -43,14 +43,14 @@ pub fn fimbrast_universal_write(
     ensures value { result ≡ written_numbers (answer (message (universal_of header) «data».now) (length out.old)) }
     ensures out_after { out.new ≡ overlay out.old 0 (message (universal_of header) «data».now).bytes }
 {
-    written_numbers(universal_of(header).write(data, out))
+    WrittenNumbers::from(Universal::from(header).write(data, out))
 }
 
 // `FullMessage::from_universal`: the full message of these parts.
 pub fn fimbrast_full_message_read(header: FlatUniversal, data: &[u8]) -> FlatFullMessage
     ensures { result ≡ flat_full_message (full_message_from (universal_of header) «data».now) }
 {
-    flat_full_message(FullMessage::from_universal(universal_of(header), data))
+    FlatFullMessage::from(FullMessage::from_universal(Universal::from(header), data))
 }
 
 // `FullMessage::write`: the whole full message, F0H to F7H.
@@ -62,14 +62,14 @@ pub fn fimbrast_full_message_write(device_id: u8, time: FlatTime, out: &mut [u8]
         device_id,
         time: MtcTime::from(time),
     };
-    written_numbers(message.write(out))
+    WrittenNumbers::from(message.write(out))
 }
 
 // `UserBits::from_universal`: the user bits of these parts.
 pub fn fimbrast_user_bits_read(header: FlatUniversal, data: &[u8]) -> FlatReadUserBits
     ensures { result ≡ flat_user_bits (user_bits_from (universal_of header) «data».now) }
 {
-    flat_user_bits(UserBits::from_universal(universal_of(header), data))
+    FlatReadUserBits::from(UserBits::from_universal(Universal::from(header), data))
 }
 
 // `UserBits::write`: the whole user bits message, F0H to F7H.
@@ -77,14 +77,14 @@ pub fn fimbrast_user_bits_write(bits: FlatUserBits, out: &mut [u8]) -> WrittenNu
     ensures value { result ≡ written_numbers (answer (user_bits_written (user_bits_of bits)) (length out.old)) }
     ensures out_after { out.new ≡ overlay out.old 0 (user_bits_written (user_bits_of bits)).bytes }
 {
-    written_numbers(user_bits_of(bits).write(out))
+    WrittenNumbers::from(UserBits::from(bits).write(out))
 }
 
 // `UserBits::to_bytes`: the groups as `hhhhgggg ffffeeee ddddcccc bbbbaaaa`.
 pub fn fimbrast_user_bits_bytes(bits: FlatUserBits) -> FourBytes
     ensures { result.bytes ≡ group_bytes (user_bits_of bits).groups }
 {
-    let bytes = user_bits_of(bits).to_bytes();
+    let bytes = UserBits::from(bits).to_bytes();
     FourBytes { bytes }
 }
 
@@ -92,7 +92,7 @@ pub fn fimbrast_user_bits_bytes(bits: FlatUserBits) -> FourBytes
 pub fn fimbrast_mmc_message_read(header: FlatUniversal, data: &[u8]) -> FlatMmcMessage
     ensures { result ≡ flat_mmc_message (message_from (universal_of header) «data».now) }
 {
-    flat_mmc_message(MmcMessage::from_universal(universal_of(header), data))
+    FlatMmcMessage::from(MmcMessage::from_universal(Universal::from(header), data))
 }
 
 // The same as one number, for a caller that has the device, which decides nothing: 0 commands, 128 responses, 255 another kind, any

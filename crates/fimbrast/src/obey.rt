@@ -21,15 +21,17 @@ pub struct FlatRun {
 }
 
 // What became of a message's data, in numbers.
-#[tactic(auto, unfolding(crate::specs::Obey::flat_summary))]
-fn flat_run(run: Obeyed) -> FlatRun
-    ensures { result ≡ flat_summary (obeyed_of run) }
-{
-    FlatRun {
-        generator: FlatGenerator::from(run.generator),
-        commands: run.commands,
-        refused: run.refused,
-        stop: run.stop.number(),
+impl From<Obeyed> for FlatRun {
+    ghost from_gives = { λ run f. f ≡ flat_summary (obeyed_of run) };
+
+    #[tactic(auto, unfolding(crate::specs::Obey::flat_summary))]
+    fn from(run: Obeyed) -> FlatRun {
+        FlatRun {
+            generator: FlatGenerator::from(run.generator),
+            commands: run.commands,
+            refused: run.refused,
+            stop: run.stop.number(),
+        }
     }
 }
 
@@ -38,5 +40,5 @@ fn flat_run(run: Obeyed) -> FlatRun
 pub fn fimbrast_obey(generator: FlatGenerator, device_id: u8, own: u8, body: &[u8]) -> FlatRun
     ensures { result ≡ flat_run (obey body.now device_id own (generator_of generator)) }
 {
-    flat_run(obey(MtcGenerator::from(generator), device_id, own, body))
+    FlatRun::from(obey(MtcGenerator::from(generator), device_id, own, body))
 }

@@ -6,13 +6,13 @@ ghost use Rattle.fast_mmc.specs.Word.{next_word};
 ghost use Rattle.fast_mmc.specs.String.{flat_next_command, flat_next_field};
 
 use fast_mmc::NextWord;
-use fast_mmc::string::{FlatNextCommand, FlatNextField, flat_next_command, flat_next_field};
+use fast_mmc::string::{FlatNextCommand, FlatNextField};
 
 // The next of `Commands`: the command at a place of a message's data, 0 at first and then the place that came back.
 pub fn fimbrast_next_command(body: &[u8], place: usize) -> FlatNextCommand
     ensures { result ≡ flat_next_command (next_command body.now place) }
 {
-    flat_next_command(mmc::next_command(body, place))
+    FlatNextCommand::from(mmc::next_command(body, place))
 }
 
 // The same as one number: its record says how it is made.
@@ -26,5 +26,5 @@ pub fn fimbrast_next_word(body: &[u8], place: usize) -> NextWord
 pub fn fimbrast_next_field(body: &[u8], place: usize) -> FlatNextField
     ensures { result ≡ flat_next_field (next_field body.now place) }
 {
-    flat_next_field(mmc::next_field(body, place))
+    FlatNextField::from(mmc::next_field(body, place))
 }

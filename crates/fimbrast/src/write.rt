@@ -9,9 +9,10 @@ ghost use Rattle.mmc.specs.Write.{opened_commands, opened_responses, opened_fiel
 ghost use Rattle.fast_mmc.specs.String.{command_of, field_of};
 ghost use Rattle.fast_mmc.specs.Write.{writing_at, flat_writer, writer_after, write_of_data, other_at_front};
 
-use fast_mmc::string::{FlatCommand, FlatField, command_of, field_of};
+use fast_mmc::WrittenNumbers;
+use fast_mmc::string::{FlatCommand, FlatField};
 use fast_mmc::write::{FlatWriter, flat_writer, writer_of};
-use fast_mmc::{WrittenNumbers, written_numbers};
+use mmc::{InfoField, MmcCommand};
 
 // `write_commands` opens: F0H, 7FH, the device, 06H.
 pub fn fimbrast_open_commands(out: &mut [u8], device_id: u8) -> FlatWriter
@@ -46,7 +47,7 @@ pub fn fimbrast_put_command(
     ensures value { result ≡ writer_after writer (command_item source.now (command_of command)) }
     ensures out_after { out.new ≡ out_after (writing_at writer) out.old (command_item source.now (command_of command)) }
 {
-    let wrote = writer_of(writer).put(out, source, command_of(command));
+    let wrote = writer_of(writer).put(out, source, MmcCommand::from(command));
     flat_writer(wrote.writer)
 }
 
@@ -91,7 +92,7 @@ pub fn fimbrast_put_field(
     ensures value { result ≡ writer_after writer (field_item source.now (field_of field)) }
     ensures out_after { out.new ≡ out_after (writing_at writer) out.old (field_item source.now (field_of field)) }
 {
-    let wrote = writer_of(writer).put(out, source, field_of(field));
+    let wrote = writer_of(writer).put(out, source, InfoField::from(field));
     flat_writer(wrote.writer)
 }
 
@@ -100,14 +101,14 @@ pub fn fimbrast_close_message(writer: FlatWriter, out: &mut [u8]) -> WrittenNumb
     ensures value { result ≡ written_numbers (whole_message (writing_at writer) (length out.old)) }
     ensures out_after { out.new ≡ overlay out.old (writing_at writer).at (closed_message (writing_at writer)).bytes }
 {
-    written_numbers(writer_of(writer).close_message(out))
+    WrittenNumbers::from(writer_of(writer).close_message(out))
 }
 
 // `write_info_fields` closes: no byte is put, and the answer is the length.
 pub fn fimbrast_close_fields(writer: FlatWriter, out: &[u8]) -> WrittenNumbers
     ensures { result ≡ written_numbers (whole_fields (writing_at writer) (length out.now)) }
 {
-    written_numbers(writer_of(writer).close_fields(out))
+    WrittenNumbers::from(writer_of(writer).close_fields(out))
 }
 
 // `write_commands` in one call: opened, given a command for each word, closed. A word is what `fimbrast_next_word` gives for a name

@@ -9,4 +9,4 @@ loop-word-preserved c =
     gone_word _ _ _ _ _ _ _ c.loop-word.invariant _ _ c.loop-word-test.true c.give_word-w.ensures.result_value c.give_word-w.ensures.out_after
 
 pub returns : goal.returns
-returns c = value_and_out (gone_all _ _ _ _ _ _ _ c.loop-word.invariant _ _ c.loop-word-test.false (c.written_numbers.ensures ∙ ap written_numbers c.close_message.ensures.result_value, c.close_message.ensures.out_after))
+returns c = value_and_out (gone_all _ _ _ _ _ _ _ c.loop-word.invariant _ _ c.loop-word-test.false (c.from.ensures ∙ ap written_numbers c.close_message.ensures.result_value, c.close_message.ensures.out_after))
