@@ -7,7 +7,7 @@ ghost use Rattle.fast_mmc.specs.Write.{writing_at, writer_after, write_of_data, 
 
 use crate::whole::{give_word, put_small};
 use crate::write::{FlatWriter, flat_writer, writer_of};
-use mmc::{MmcCommand, Part};
+use mmc::{MmcCommand, Part, Position};
 
 // The weight of one item in a writer's number.
 const ONE_ITEM: u64 = 0x1_0000_0000;
@@ -24,7 +24,7 @@ fn put_usual(writer: FlatWriter, out: &mut [u8], word: u64) -> Option<FlatWriter
     if writer / MORE_ITEMS != 0 || place > MOST_POSITION {
         return None;
     }
-    let next = put_small(out, place as usize, word)?;
+    let next = put_small(out, Position { at: place as usize }, word)?;
     Some(writer - place + next as u64 + ONE_ITEM)
 }
 

@@ -15,7 +15,7 @@ use crate::locate::put_locate_bytes;
 use crate::numbers::WrittenNumbers;
 use codes::{FinalByte, StandardTimeCode, TimeCodeStatus};
 use labels::{MtcTime, TimeCodeType};
-use mmc::{MmcCommand, Writer};
+use mmc::{MmcCommand, Position, Writer};
 use universal::{SysexError, put, put_part};
 
 // 104, 68, 68, 98 and 28 in their bytes: above 23 hours, 59 minutes, 59 seconds, 29 frames and 99 subframes they make 128 or more.
@@ -122,12 +122,14 @@ fn is_kept(word: u64) -> bool
     in_minute / 512 != 0 || in_minute % 256 != 0
 }
 
+// The buffer, the position and the word stay three parameters: the buffer is lent for each call, and the two others change with each word.
+
 // A Locate to a usual time that fits, and the position after it, or none: any other is left.
-fn put_locate(out: &mut [u8], at: usize, word: u64) -> Option<usize>
-    requires { (at ≤ 40000) × (word % 256 ≡ 11) }
-    ensures { PutWhole word at out.old result out.new }
+fn put_locate(out: &mut [u8], place: Position, word: u64) -> Option<usize>
+    requires { word % 256 ≡ 11 }
+    ensures { PutWhole word place.at out.old result out.new }
 {
-    let next = at + 8;
+    let next = place.at + 8;
     if out.len() < next || !is_in_range(word) || !is_kept(word) {
         return None;
     }
@@ -138,29 +140,29 @@ fn put_locate(out: &mut [u8], at: usize, word: u64) -> Option<usize>
     let last = (word / 0x100_0000_0000 % 256) as u8;
     let marks = (word / 0x1_0000_0000_0000 % 256) as u8;
     let bytes = [hours + marks * 32, minutes, seconds, frames, last];
-    put_locate_bytes(out, at, bytes);
+    put_locate_bytes(out, place.at, bytes);
     Some(next)
 }
 
 // A Locate to a register that may be written, and the position after it, or none: any other is left.
 #[tactic(auto, using(crate::proofs::WordPuts::put_four, crate::proofs::WordItems::field_sent))]
-fn put_register(out: &mut [u8], at: usize, word: u64) -> Option<usize>
-    requires { (at ≤ 40000) × (word % 256 ≡ 10) }
-    ensures { PutWhole word at out.old result out.new }
+fn put_register(out: &mut [u8], place: Position, word: u64) -> Option<usize>
+    requires { word % 256 ≡ 10 }
+    ensures { PutWhole word place.at out.old result out.new }
 {
     let register = (word / 0x100 % 256) as u8;
     if word / 0x1_0000 != 0 || register < 8 || register > 15 {
         return None;
     }
-    put_part(out, at, &[0x44, 2, 0, register]);
-    Some(at + 4)
+    put_part(out, place.at, &[0x44, 2, 0, register]);
+    Some(place.at + 4)
 }
 
 // A Move that may be written, likewise.
 #[tactic(auto, using(crate::proofs::WordPuts::put_four, crate::proofs::WordItems::word_move_sent))]
-fn put_move(out: &mut [u8], at: usize, word: u64) -> Option<usize>
-    requires { (at ≤ 40000) × (word % 256 ≡ 12) }
-    ensures { PutWhole word at out.old result out.new }
+fn put_move(out: &mut [u8], place: Position, word: u64) -> Option<usize>
+    requires { word % 256 ≡ 12 }
+    ensures { PutWhole word place.at out.old result out.new }
 {
     let destination = (word / 0x100 % 256) as u8;
     let source = (word / 0x1_0000 % 256) as u8;
@@ -172,43 +174,41 @@ fn put_move(out: &mut [u8], at: usize, word: u64) -> Option<usize>
     {
         return None;
     }
-    put_part(out, at, &[0x4C, 2, destination, source]);
-    Some(at + 4)
+    put_part(out, place.at, &[0x4C, 2, destination, source]);
+    Some(place.at + 4)
 }
 
 // A name alone, or a Locate to a register or a Move that may be written, and the position after it, or none: any other
 // is left.
-pub(crate) fn put_small(out: &mut [u8], at: usize, word: u64) -> Option<usize>
-    requires { at ≤ 40000 }
-    ensures { PutWhole word at out.old result out.new }
+pub(crate) fn put_small(out: &mut [u8], place: Position, word: u64) -> Option<usize>
+    ensures { PutWhole word place.at out.old result out.new }
 {
     if word < NAMES {
-        put(out, at, plain_name(word as u8));
-        return Some(at + 1);
+        put(out, place.at, plain_name(word as u8));
+        return Some(place.at + 1);
     }
     if word % 256 == LOCATE_FIELD {
-        return put_register(out, at, word);
+        return put_register(out, place, word);
     }
     if word % 256 == MOVE {
-        return put_move(out, at, word);
+        return put_move(out, place, word);
     }
     None
 }
 
 // A usual word, and the position after it, or none: any other is left.
-fn put_whole(out: &mut [u8], at: usize, word: u64) -> Option<usize>
-    requires { at ≤ 40000 }
-    ensures { PutWhole word at out.old result out.new }
+fn put_whole(out: &mut [u8], place: Position, word: u64) -> Option<usize>
+    ensures { PutWhole word place.at out.old result out.new }
 {
     // Stop to Record Exit, whose names are one more, and a Locate to a time come most often.
     if word < 7 {
-        put(out, at, word as u8 + 1);
-        return Some(at + 1);
+        put(out, place.at, word as u8 + 1);
+        return Some(place.at + 1);
     }
     if word % 256 == LOCATE_TARGET {
-        return put_locate(out, at, word);
+        return put_locate(out, place, word);
     }
-    put_small(out, at, word)
+    put_small(out, place, word)
 }
 
 // The words of a message that was opened, and the close.
@@ -219,29 +219,28 @@ fn put_words(out: &mut [u8], words: &[u64]) -> WrittenNumbers
 {
     let mut at = 4;
     for (i, &word) in words.iter().enumerate() {
-        let Some(next) = put_whole(out, at, word) else {
+        let Some(next) = put_whole(out, Position { at }, word) else {
             return put_rest(out, &words[i..], at, i);
         };
         at = next;
     }
-    close_at(out, at)
+    close_at(out, Position { at })
 }
 
 // The close at a position: 2 for a body outside 1 to 48 bytes, else F7H, and 4 where it does not fit.
-fn close_at(out: &mut [u8], at: usize) -> WrittenNumbers
-    requires { at ≤ 40000 }
-    ensures value { result ≡ written_numbers (whole_message (open_writing at 0) (length out.old)) }
-    ensures out_after { out.new ≡ overlay out.old at (closed_message (open_writing at 0)).bytes }
+fn close_at(out: &mut [u8], place: Position) -> WrittenNumbers
+    ensures value { result ≡ written_numbers (whole_message (open_writing place.at 0) (length out.old)) }
+    ensures out_after { out.new ≡ overlay out.old place.at (closed_message (open_writing place.at 0)).bytes }
 {
-    if at < 5 || at > 52 {
+    if place.at < 5 || place.at > 52 {
         return WrittenNumbers {
             refusal: 2,
             length: 0,
         };
     }
-    put(out, at, 0xF7);
-    let length = at + 1;
-    if at < out.len() {
+    put(out, place.at, 0xF7);
+    let length = place.at + 1;
+    if place.at < out.len() {
         return WrittenNumbers { refusal: 0, length };
     }
     WrittenNumbers { refusal: 4, length }

@@ -11,7 +11,7 @@ use universal::SysexError;
 // first refusal, which it repeats. A refusal above 10 is taken as 10.
 pub type FlatWriter = u64;
 
-// No `From` for these three: a writer's number is a plain one, and neither it nor a writer or a refusal is a type of this crate.
+// No `From` for these three: a check is made of two values, and a writer's number is a plain one.
 
 #[tactic(auto, unfolding(crate::specs::Write::checked_at))]
 pub fn checked_at(refusal: u8, needed: usize) -> Result<(), SysexError>

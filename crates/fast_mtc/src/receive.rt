@@ -84,7 +84,8 @@ fn turning(way: Direction, order: u32) -> u32
 
 // ---- a data byte
 //
-// The words, the piece and the byte go on as they are: a struct of a `&mut` array and two numbers is no plainer.
+// The words, the piece and the byte go on as they are: a struct of a `&mut` array and two numbers is no plainer. Their bounds stay
+// clauses: the words are an array that C keeps, and the piece is a plain number in `mtc` too.
 
 // `MtcReader::receive` on the words.
 pub fn receive(r: &mut [u32; 15], byte: u8) -> u64
