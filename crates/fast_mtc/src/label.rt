@@ -66,7 +66,8 @@ fn drop_moved(count: u32, delta: i32) -> u32
     n - DAY_DROP
 }
 
-// A label as one number: hours in its lowest byte, above them minutes, seconds, frames and the rate.
+// A label as one number: hours in its lowest byte, above them minutes, seconds, frames and the rate. No `From`: neither is a type of this
+// crate.
 #[tactic(auto, unfolding(crate::specs::Label::label_number))]
 fn number_of(t: MtcTime) -> u64
     ensures { result ≡ label_number t }

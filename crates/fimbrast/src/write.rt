@@ -14,7 +14,7 @@ use fast_mmc::string::{FlatCommand, FlatField};
 use fast_mmc::write::{FlatWriter, flat_writer, writer_of};
 use mmc::{InfoField, MmcCommand};
 
-// The writer, the buffer and the source stay three parameters: they are those of the call for C.
+// The writer, the buffer and the source stay three parameters, and commands and fields two calls: so are the calls for C.
 
 // `write_commands` opens: F0H, 7FH, the device, 06H.
 pub fn fimbrast_open_commands(out: &mut [u8], device_id: u8) -> FlatWriter

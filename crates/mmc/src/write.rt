@@ -34,7 +34,7 @@ pub struct Wrote {
     pub checked: Result<(), SysexError>,
 }
 
-// The writer of an opening.
+// The writer of an opening. No `From`: with one, anyone could make a writer at a position.
 fn writer_of(opened: Result<usize, SysexError>) -> Writer
     ensures { writing_of result ≡ opens_at (answer_of opened) }
 {
