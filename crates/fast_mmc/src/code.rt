@@ -10,6 +10,8 @@ use labels::MtcTime;
 use mmc::{FinalByte, ShortTimeCode, StandardTimeCode, TimeCodeStatus};
 use universal::SysexError;
 
+// The records here are for C, which has no Option and no Result: a flag or a refusal stands beside the value.
+
 // The flags of a time code's status byte.
 #[repr(C)]
 #[derive(Clone, Copy)]

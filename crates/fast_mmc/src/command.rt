@@ -9,6 +9,8 @@ use codes::StandardTimeCode;
 use labels::{MtcTime, TimeCodeType};
 use mmc::MmcCommand;
 
+// A word is a number that C keeps and hands back, so its cases are numbers and no enum.
+
 // The cases below it are names alone.
 pub(crate) const NAMES: u64 = 9;
 // The case of a Locate to a register.

@@ -8,6 +8,8 @@ use mmc::MmcMessage;
 use mtc::{FullMessage, UserBits};
 use universal::{SysexError, Universal};
 
+// The records here are for C, which has no Option and no Result: a flag or a refusal stands beside the value.
+
 // The split parts of a Universal message but its data.
 #[repr(C)]
 #[derive(Clone, Copy)]

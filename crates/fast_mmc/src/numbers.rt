@@ -5,6 +5,8 @@ ghost use Rattle.fast_mmc.specs.Numbers.{written_numbers};
 
 use universal::SysexError;
 
+// The records here are for C, which has no Option and no Result: a flag or a refusal stands beside the value.
+
 // What a writing answers: refusal 0 and the length; 4 and the needed length; any other refusal and 0.
 #[repr(C)]
 #[derive(Clone, Copy)]

@@ -23,6 +23,8 @@ const NO_PART: FlatPart = FlatPart {
     length: 0,
 };
 
+// The records here are for C, which has no Option and no Result: a flag or a refusal stands beside the value.
+
 // One command. The kinds are FIMBRAST_STOP, 0, to FIMBRAST_OTHER_COMMAND, 13; a kind above 13 is taken as 13. What a kind does not
 // use is 0 in an answer, and is not read in an argument.
 #[repr(C)]

@@ -233,17 +233,14 @@ fn close_at(out: &mut [u8], place: Position) -> WrittenNumbers
     ensures out_after { out.new ≡ overlay out.old place.at (closed_message (open_writing place.at 0)).bytes }
 {
     if place.at < 5 || place.at > 52 {
-        return WrittenNumbers {
-            refusal: 2,
-            length: 0,
-        };
+        return WrittenNumbers::from(Err(SysexError::Length));
     }
     put(out, place.at, 0xF7);
-    let length = place.at + 1;
-    if place.at < out.len() {
-        return WrittenNumbers { refusal: 0, length };
+    let needed = place.at + 1;
+    if out.len() < needed {
+        return WrittenNumbers::from(Err(SysexError::BufferTooSmall { needed }));
     }
-    WrittenNumbers { refusal: 4, length }
+    WrittenNumbers::from(Ok(needed))
 }
 
 // F0H, 7FH, the device, 06H.
@@ -259,10 +256,7 @@ pub fn write_words(out: &mut [u8], device_id: u8, words: &[u64]) -> WrittenNumbe
     ensures out_after { out.new ≡ words_left device_id words.now out.old }
 {
     if device_id > 0x7F {
-        return WrittenNumbers {
-            refusal: 5,
-            length: 0,
-        };
+        return WrittenNumbers::from(Err(SysexError::Device));
     }
     // The two calls are the same: where the four bytes fit, none is checked for room. With one call a message takes 19 instructions more.
     if out.len() < 4 {

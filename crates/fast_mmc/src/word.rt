@@ -12,6 +12,8 @@ use codes::TimeCodeStatus;
 use mmc::{ItemPlace, Kind, NextItem, Part, next_parts};
 use universal::SysexError;
 
+// Cases and refusals in a word are numbers, since a word is one that C keeps.
+
 // The case of a Write, whose data is told by its length.
 const WRITE: u64 = 9;
 // The case of any other command, which is told by the lengths of its name and data.

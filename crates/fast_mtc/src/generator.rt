@@ -11,6 +11,8 @@ use crate::time::{FlatTime, time_at_front};
 use mtc::{Direction, MtcGenerator, MtcTime, QuarterFrame};
 use universal::SysexError;
 
+// The records here are for C, which has no Option and no Result: a flag or a refusal stands beside the value.
+
 // The places of a generator's record, after its label.
 const DIRECTION: usize = 5;
 

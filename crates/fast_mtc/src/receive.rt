@@ -14,6 +14,8 @@ use crate::words::{
 };
 use mtc::Direction;
 
+// The order is one of the words that C keeps, so it is a number and no enum.
+
 // In a sequence forward the order is below this one, in reverse below the next.
 const IN_REVERSE: u32 = 8;
 

@@ -15,6 +15,8 @@ use crate::words::{
 };
 use mtc::{Direction, MtcEvent, MtcSequence, MtcTime, event};
 
+// The records here are for C, which has no Option and no Result: a flag or a refusal stands beside the value.
+
 // The end of a full sequence: the label as it was assembled, the current one, the direction, and whether the assembled label does not
 // follow the one before it.
 #[repr(C)]

@@ -58,7 +58,7 @@ pub(crate) const TIME_MARK: usize = 13;
 
 pub(crate) const TIME: usize = 14;
 
-// ---- the order
+// ---- the order, a number, since it is one of the words that C keeps
 
 // Without a direction, piece 0 or 7 has begun a sequence.
 pub(crate) const BEGUN_AT_0: u32 = 40;

@@ -1,4 +1,4 @@
-// A group's count of cases and of failures.
+// A group's count of cases and of failures. `replay` has one of its own: the two programs share no crate that it belongs to.
 ghost use Rattle.std.specs.Iterator.{IsFinite};
 
 use std::fmt;

@@ -122,6 +122,7 @@ fn read_all<R: Read>(rt: &HostRuntime, from: &mut R, form: Option<Form>, stream:
     for byte in first {
         reading.take(*byte);
     }
+    // No `loop`: nothing here says how much there is to read, so it would have no measure.
     for _ in 0..u64::MAX {
         let Some(next) = read_some(rt, from, &mut chunk) else {
             break;

@@ -55,6 +55,7 @@ impl<'a> Word<'a> {
 }
 
 // All words but the program's own name: the number of the next one, whether it stands behind --device, and its bytes.
+// The buffer has a fixed size: without a heap no allocation can fail.
 #[derive(Drop)]
 struct Words<'a> {
     rt: &'a HostRuntime,
@@ -169,6 +170,7 @@ impl Options {
             named: false,
         };
         let mut words = Words::new(rt);
+        // No `loop`: nothing here says how many words there are, so it would have no measure.
         for _ in 0..usize::MAX {
             let Some(word) = words.next() else {
                 break;
@@ -203,6 +205,7 @@ impl Options {
 
     fn check_files(self, rt: &HostRuntime) {
         let mut words = Words::new(rt);
+        // No `loop`: nothing here says how many words there are, so it would have no measure.
         for _ in 0..usize::MAX {
             let Some(word) = words.next() else {
                 break;

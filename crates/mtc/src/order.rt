@@ -53,7 +53,8 @@ fn out_of_order(r: MtcReader, direction: Option<Direction>, found: Option<Direct
     ordered(false, found, false)
 }
 
-// The number of a piece in its sequence, 1 to 8; 0 where it belongs to none.
+// The number of a piece in its sequence, 1 to 8; 0 where it belongs to none: the count that is left is made of it, so an Option would
+// be turned back.
 #[tactic(auto, unfolding(crate::specs::Reader::number_of))]
 pub(crate) fn number_of(r: MtcReader, o: Order, p: u8) -> u8
     requires { r.count ≤ 7 }
@@ -81,7 +82,8 @@ fn ordered(next: bool, direction: Option<Direction>, keeps: bool) -> Order
     }
 }
 
-// The direction in which `p` comes right after `last`.
+// The direction in which `p` comes right after `last`. A piece is a plain number, as in the source; its bound stands where it is needed,
+// here and once each in the generator and the reader.
 fn direction_between(last: u8, p: u8) -> Option<Direction>
     requires { last ≤ 7 }
     ensures { result ≡ direction_between last p }

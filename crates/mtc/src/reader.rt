@@ -2,7 +2,7 @@
 // assembled time plus two frames forward and minus one frame in reverse (RP-004/008, p. 3).
 ghost use Rattle.std.specs.Prelude.{◌≡◌, ◌≤◌, cond, T, eqb, Some};
 ghost use Rattle.labels.specs.Time.{add_frames};
-ghost use Rattle.mtc.specs.Reader.{fresh, nibbles_fit, piece_fits, is_sound, or_fresh, ordered, raw_of, offset, direction_of, same_time, jumps, sequence_of_label, sequence_of, completed, with_piece, passed, stored, event_with, after_byte, event_of, after_full_message};
+ghost use Rattle.mtc.specs.Reader.{fresh, nibbles_fit, piece_fits, is_sound, or_fresh, ordered, raw_of, offset, direction_of, jumps, sequence_of_label, sequence_of, completed, with_piece, passed, stored, event_with, after_byte, event_of, after_full_message};
 
 use crate::full_message::FullMessage;
 use crate::generator::Direction;

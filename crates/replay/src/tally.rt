@@ -1,4 +1,5 @@
-// The counts of cases and of failures, for each call and together.
+// The counts of cases and of failures, for each call and together. `instances` has a tally of its own: the two programs share no crate
+// that it belongs to.
 use crate::calls::Call;
 use std::{fmt, io};
 

@@ -3,7 +3,7 @@ use crate::case::{Answer, Input, Taken};
 use fast_mmc::WrittenNumbers;
 use fast_mmc::write::FlatWriter;
 
-// A buffer: the byte that fills it, and its length.
+// A buffer: the byte that fills it, and its length. It is cut from an array of a fixed size: without a heap no allocation can fail.
 #[derive(Clone, Copy)]
 pub(crate) struct Buffer {
     fill: u8,
