@@ -22,7 +22,7 @@ MAKE_BINDINGS = --offline --quiet --manifest-path bindings/make_bindings/Cargo.t
 PART ?= mtc
 
 .NOTPARALLEL:
-.PHONY: test part run program prove listed words library bindings bindings-made write-bindings c-example compare compare-long bench after-proof
+.PHONY: test part run program prove listed words library bindings bindings-made write-bindings c-example compare compare-long bench names after-proof
 
 test:
 	@.ci/run
@@ -47,7 +47,7 @@ prove:
 
 # The library for C and Rust, and what it answers there; where cargo or the published Rust is missing, a line says what was left out.
 after-proof:
-	@$(MAKE) --no-print-directory listed words library c-example
+	@$(MAKE) --no-print-directory listed names words library c-example
 	@if $(CARGO) --version >/dev/null 2>&1; then $(MAKE) --no-print-directory bindings-made bindings; \
 	  else echo "bindings/rust was not tested, the made files not made again, and old not compared with new: there is no cargo here"; fi
 	@if ! $(CARGO) --version >/dev/null 2>&1; then :; \
@@ -58,6 +58,10 @@ after-proof:
 listed:
 	@for d in crates/*/; do n=$$(basename "$$d"); [ "$$(ls "$$d")" = out ] || \
 	  grep -Eq "^[[:space:]]*$$n([[:space:]][^:]*)?:" crates.txt || { echo "crates/$$n is not in crates.txt"; exit 1; }; done
+
+# Each name of specs/ and proofs/ has one meaning.
+names:
+	@tools/names
 
 # What mmc_check says of the example strings and of the handbook's.
 words: program

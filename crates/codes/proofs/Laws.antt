@@ -230,14 +230,14 @@ pub short_bytes_low : (c : ShortTimeCode) → short_fits c ≡ true → all_low 
 short_bytes_low = AcceptedCodes.short_low
 
 -- A code has five bytes.
-pub five_bytes : (c : StandardTimeCode) → length (standard_list c) ≡ 5
+pub standard_list_length : (c : StandardTimeCode) → length (standard_list c) ≡ 5
 unfolding standard_list
-five_bytes c = refl
+standard_list_length c = refl
 
 -- A short one has two.
-pub two_bytes : (c : ShortTimeCode) → length (short_list c) ≡ 2
+pub short_list_length : (c : ShortTimeCode) → length (short_list c) ≡ 2
 unfolding short_list
-two_bytes c = refl
+short_list_length c = refl
 
 -- So they are these bytes one by one.
 pub five_listed : (c : StandardTimeCode)

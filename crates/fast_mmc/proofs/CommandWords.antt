@@ -158,8 +158,8 @@ rate_low Fps25 = omega arith
 rate_low Fps30Drop = omega arith
 rate_low Fps30 = omega arith
 
-abbrev four_bits : Bool → Bool → Bool → Bool → ℕ
-four_bits k b g s = flag 1 b + flag 64 k + flag 128 s + flag 256 g
+abbrev four_flags : Bool → Bool → Bool → Bool → ℕ
+four_flags k b g s = flag 1 b + flag 64 k + flag 128 s + flag 256 g
 
 pub record FourBack (x : ℕ) (k b g s : Bool) : Type 0 where
   pub color : bit 64 x ≡ k
@@ -167,7 +167,7 @@ pub record FourBack (x : ℕ) (k b g s : Bool) : Type 0 where
   pub sign : bit 256 x ≡ g
   pub status : bit 128 x ≡ s
 
-four_back : (k b g s : Bool) → FourBack (four_bits k b g s) k b g s
+four_back : (k b g s : Bool) → FourBack (four_flags k b g s) k b g s
 four_back true true true true = record { color = refl; blank = refl; sign = refl; status = refl }
 four_back true true true false = record { color = refl; blank = refl; sign = refl; status = refl }
 four_back true true false true = record { color = refl; blank = refl; sign = refl; status = refl }

@@ -2,14 +2,13 @@
 use Rattle.std.specs.Prelude.{Option, Some, None}
 use Prim.Native.Nat.{ℕ, ◌+◌, ◌-◌, ◌*◌, ◌/◌, ◌%◌, ◌≤◌, ◌<◌}
 use mathlib.Core.Path.{◌≡◌, refl, sym, ap, ap₂, subst, ◌∙◌}
-use mathlib.Core.List.{List, [], ◌∷◌, append_assoc}
+use mathlib.Core.List.{List, [], ◌∷◌}
 use native.Mathlib.Numerals.{add-one}
 use native.Mathlib.Omega.{arith}
-use borrow.Rule.Slice.PartMut.{put_mid}
 use borrow.Author.Tests.{le-leb, lt-leb}
 use lib.Dec.{lit≤}
-use lib.ListN.{length, take, drop, get_or, drop_of_length-le}
-use lib.Seq.{drop-cons, drop-drop}
+use lib.ListN.{length, drop, get_or, drop_of_length-le}
+use lib.Seq.{drop-cons}
 use Rattle.fast_mmc.specs.declared.numbers.WrittenNumbers.{WrittenNumbers}
 use Rattle.mmc.specs.Item.{command_item}
 use Rattle.fast_mmc.specs.Numbers.{written_numbers}
@@ -25,7 +24,7 @@ use Rattle.mmc.specs.Writings.{State}
 use Rattle.universal.specs.Emission.{Emission, sent, refusing, check, resume, ◌then◌, answer_in}
 use Rattle.universal.specs.Overlay.{overlay}
 use Rattle.universal.specs.Refusals.{Refusal, Answer, gives, refused, refusal, too_small}
-use Rattle.universal.proofs.Laws.{length_overlay, overlay_none, overlay_fits}
+use Rattle.universal.proofs.Laws.{length_overlay, overlay_none}
 use Rattle.fast_mmc.proofs.WordItems.{word_name, Usual, usual_sent}
 use Rattle.mmc.proofs.WritingSteps.{as_it_is, ready_kept, ready_failed, repeats, takes, close_repeats, close_empty, close_long, close_sent, commands_refused, commands_opened, begun_after, writing_after_moves, closed_after, whole_answer}
 
@@ -66,13 +65,6 @@ module _ (word at : ℕ) (out left : List ℕ) where
       ∷ [])
       → WentWhole word at out (at + 8) left
   put_usual n z u p = put_known _ (lit≤ tt) (usual_sent word n z u) p
-
--- As many bytes in the place of a part of a buffer are put there.
-pub put_there : (out : List ℕ) (at k : ℕ) (bytes part : List ℕ) → at + length bytes ≤ length out → k ≡ length bytes → part ≡ bytes
-    → put_mid at k out part ≡ overlay out at bytes
-put_there out at k bytes part h e p =
-    rw (p, e, drop-drop)
-    (sym (append_assoc (take at out) bytes (drop (at + length bytes) out)) ∙ sym (overlay_fits out at bytes h))
 
 -- ---- the list
 

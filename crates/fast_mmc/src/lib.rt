@@ -6,11 +6,11 @@
 pub mod apply;
 pub mod code;
 mod command;
-mod locate;
 pub mod message;
 mod numbers;
 mod put;
 pub mod refusal;
+mod stores;
 pub mod string;
 mod whole;
 mod word;

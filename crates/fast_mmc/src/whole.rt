@@ -11,8 +11,8 @@ ghost use Rattle.fast_mmc.specs.Words.{after_words, closed_out, words_answer, wo
 ghost use Rattle.fast_mmc.specs.Clauses.{open_writing, PutWhole, LowBytes, WordInRange, AtRate};
 
 use crate::command::{LOCATE_FIELD, LOCATE_TARGET, MOVE, NAMES, plain_name, word_command};
-use crate::locate::put_locate_bytes;
 use crate::numbers::WrittenNumbers;
+use crate::stores::{store_four, store_locate};
 use codes::{FinalByte, StandardTimeCode, TimeCodeStatus};
 use labels::{MtcTime, TimeCodeType};
 use mmc::{MmcCommand, Position, Writer};
@@ -63,7 +63,9 @@ pub(crate) fn give_word(out: &mut [u8], writer: Writer, word: u64) -> Writer
     writer.put_command(out, &[], given_command(word)).writer
 }
 
-// The rest of the words, by the writer, from a position and so many items on, and the close.
+// The rest of the words, by the writer, from a position and so many items on, and the close. A part of `write_words` it would make every
+// message save registers.
+#[inline(never)]
 fn put_rest(out: &mut [u8], words: &[u64], at: usize, items: usize) -> WrittenNumbers
     ensures value { result ≡ written_numbers (whole_message (after_words (open_writing at items) out.old words.now).writing (length out.old)) }
     ensures out_after { out.new ≡ closed_out (after_words (open_writing at items) out.old words.now) }
@@ -140,33 +142,36 @@ fn put_locate(out: &mut [u8], place: Position, word: u64) -> Option<usize>
     let last = (word / 0x100_0000_0000 % 256) as u8;
     let marks = (word / 0x1_0000_0000_0000 % 256) as u8;
     let bytes = [hours + marks * 32, minutes, seconds, frames, last];
-    put_locate_bytes(out, place.at, bytes);
+    store_locate(out, place.at, bytes);
     Some(next)
 }
 
-// A Locate to a register that may be written, and the position after it, or none: any other is left.
+// A Locate to a register that may be written and fits, and the position after it, or none: any other is left.
 #[tactic(auto, using(crate::proofs::WordPuts::put_four, crate::proofs::WordItems::field_sent))]
 fn put_register(out: &mut [u8], place: Position, word: u64) -> Option<usize>
     requires { word % 256 ≡ 10 }
     ensures { PutWhole word place.at out.old result out.new }
 {
+    let next = place.at + 4;
     let register = (word / 0x100 % 256) as u8;
-    if word / 0x1_0000 != 0 || register < 8 || register > 15 {
+    if out.len() < next || word / 0x1_0000 != 0 || register < 8 || register > 15 {
         return None;
     }
-    put_part(out, place.at, &[0x44, 2, 0, register]);
-    Some(place.at + 4)
+    store_four(out, place.at, [0x44, 2, 0, register]);
+    Some(next)
 }
 
-// A Move that may be written, likewise.
+// A Move that may be written and fits, likewise.
 #[tactic(auto, using(crate::proofs::WordPuts::put_four, crate::proofs::WordItems::word_move_sent))]
 fn put_move(out: &mut [u8], place: Position, word: u64) -> Option<usize>
     requires { word % 256 ≡ 12 }
     ensures { PutWhole word place.at out.old result out.new }
 {
+    let next = place.at + 4;
     let destination = (word / 0x100 % 256) as u8;
     let source = (word / 0x1_0000 % 256) as u8;
-    if word / 0x100_0000 != 0
+    if out.len() < next
+        || word / 0x100_0000 != 0
         || destination == 0
         || destination > 31
         || source == 0
@@ -174,11 +179,11 @@ fn put_move(out: &mut [u8], place: Position, word: u64) -> Option<usize>
     {
         return None;
     }
-    put_part(out, place.at, &[0x4C, 2, destination, source]);
-    Some(place.at + 4)
+    store_four(out, place.at, [0x4C, 2, destination, source]);
+    Some(next)
 }
 
-// A name alone, or a Locate to a register or a Move that may be written, and the position after it, or none: any other
+// A name alone, or a Locate to a register or a Move that may be written and fits, and the position after it, or none: any other
 // is left.
 pub(crate) fn put_small(out: &mut [u8], place: Position, word: u64) -> Option<usize>
     ensures { PutWhole word place.at out.old result out.new }
@@ -250,6 +255,17 @@ fn put_start(out: &mut [u8], device_id: u8)
     put_part(out, 0, &[0xF0, 0x7F, device_id, 0x06]);
 }
 
+// A message into a buffer that ends before its opening does.
+#[inline(never)]
+fn write_short(out: &mut [u8], device_id: u8, words: &[u64]) -> WrittenNumbers
+    requires { device_id ≤ 127 }
+    ensures value { result ≡ written_numbers (words_answer device_id words.now out.old) }
+    ensures out_after { out.new ≡ words_left device_id words.now out.old }
+{
+    put_start(out, device_id);
+    put_rest(out, words, 4, 0)
+}
+
 // Writes a whole command message: opened, given the commands of the words, and closed.
 pub fn write_words(out: &mut [u8], device_id: u8, words: &[u64]) -> WrittenNumbers
     ensures value { result ≡ written_numbers (words_answer device_id words.now out.old) }
@@ -258,10 +274,9 @@ pub fn write_words(out: &mut [u8], device_id: u8, words: &[u64]) -> WrittenNumbe
     if device_id > 0x7F {
         return WrittenNumbers::from(Err(SysexError::Device));
     }
-    // The two calls are the same: where the four bytes fit, none is checked for room. With one call a message takes 19 instructions more.
+    // Where the four bytes fit, the compiler checks none of them for room.
     if out.len() < 4 {
-        put_start(out, device_id);
-        return put_rest(out, words, 4, 0);
+        return write_short(out, device_id, words);
     }
     put_start(out, device_id);
     if words.len() > MOST_COMMANDS {

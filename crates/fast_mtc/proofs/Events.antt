@@ -2,10 +2,12 @@
 use Rattle.std.specs.Prelude.{Option, Some, None}
 use Prim.Native.Nat.{ℕ, zero, suc, ◌+◌, ◌*◌, ◌/◌, ◌%◌, ◌≤◌}
 use mathlib.Core.Bool.{Bool, true, false}
+use mathlib.Core.List.{[], ◌∷◌}
 use mathlib.Core.Path.{◌≡◌, refl}
 use native.Mathlib.Omega.{arith}
 use borrow.Author.Tests.{ne_eqb}
 use lib.Dec.{lit≤}
+use lib.ListN.{get_or}
 use Rattle.fast_mtc.specs.Generator.{direction_at, flat_direction, is_set}
 use Rattle.fast_mtc.specs.Reader.{bit_of, flat_report, flat_event, report_in}
 use Rattle.mtc.proofs.Laws.{report_labels}
@@ -15,6 +17,7 @@ use Rattle.mtc.specs.declared.generator.Direction.TheVariants.{Forward, Reverse}
 use Rattle.mtc.specs.declared.reader.MtcReader.{MtcReader}
 use Rattle.mtc.specs.declared.reader.MtcSequence.{MtcSequence}
 use Rattle.fast_mtc.proofs.FlatBack.{direction_back}
+use Rattle.fast_mtc.proofs.SpelledLists.{piece_cases}
 
 -- ---- as the code makes them
 
@@ -39,12 +42,18 @@ report_is s d b ed eb =
     let lb : b ≤ 1 = rw eb (bit_small s.discontinuity) in
     (rw (ed, eb), omega (arith, ld, lb))
 
+-- Of a piece that ends no sequence, from a table.
+pub quiet_table : (p : ℕ) → p ≤ 7 → get_or (256 ∷ 1 ∷ 2 ∷ 3 ∷ 260 ∷ 5 ∷ 6 ∷ 7 ∷ []) p 0 ≡ flat_event (event_with p None)
+unfolding flat_event flat_report
+quiet_table =
+    piece_cases (λ (p : ℕ). get_or (256 ∷ 1 ∷ 2 ∷ 3 ∷ 260 ∷ 5 ∷ 6 ∷ 7 ∷ []) p 0 ≡ flat_event (event_with p None)) refl refl refl refl refl refl refl refl
+
 -- ---- what is read off them
 
 -- Of an event of a piece, its report.
-pub report_of : (p : ℕ) (s : Option MtcSequence) → p ≤ 255 → flat_event (event_with p s) / 512 ≡ flat_report s
+pub event_report : (p : ℕ) (s : Option MtcSequence) → p ≤ 255 → flat_event (event_with p s) / 512 ≡ flat_report s
 unfolding flat_event
-report_of p s h = let b : bit_of (event_with p s).boundary ≤ 1 = bit_small (event_with p s).boundary in omega (arith, h, b)
+event_report p s h = let b : bit_of (event_with p s).boundary ≤ 1 = bit_small (event_with p s).boundary in omega (arith, h, b)
 
 -- No report is 0; any other is not.
 pub none_reported : flat_report None ≡ 0

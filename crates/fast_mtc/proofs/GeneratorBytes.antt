@@ -3,15 +3,17 @@ use Rattle.std.specs.Prelude.{Option, Some, None}
 use Prim.Native.Nat.{ℕ, ◌≤◌, ◌<◌}
 use mathlib.Core.Bool.{true, false}
 use mathlib.Core.List.{List}
-use mathlib.Core.Path.{◌≡◌, refl, sym, subst, ap, ◌∙◌}
+use mathlib.Core.Path.{◌≡◌, refl, sym, subst, ap, ap₂, ◌∙◌}
 use native.Mathlib.Omega.{arith}
 use borrow.Author.Tests.{le-leb, lt-leb, eq-eqb, ne_eqb}
+use lib.Dec.{lit≤}
 use lib.ListN.{length, get_or, set}
 use Rattle.mtc.proofs.Laws.{sends, stopped_refuses}
 use Rattle.mtc.specs.Generator.{first, after, final, sequence_frames, known, piece_next, time_next, sent_at, next_byte, after_next_byte}
 use Rattle.mtc.specs.QuarterFrame.{pieces}
 use Rattle.labels.specs.Time.{add_frames}
 use Rattle.mtc.specs.declared.generator.Direction.{Direction}
+use Rattle.mtc.specs.declared.generator.Direction.TheVariants.{Forward, Reverse}
 use Rattle.mtc.specs.declared.generator.MtcGenerator.{MtcGenerator}
 use Rattle.labels.specs.declared.time.MtcTime.{MtcTime}
 use Rattle.fast_mtc.specs.Generator.{direction_at, piece_at, generator_in, moved_to, sent_by, flat_byte}
@@ -39,9 +41,9 @@ moved_in bs f t e ef =
     (spell 8 bs (omega (arith, e))) refl
     ∙ ap (moved_to (generator_in bs)) (ap time_of ef ∙ time_back t)
 
-last_in : (n : ℕ) → n ≤ 7 → piece_at n ≡ Some n
+known_last : (n : ℕ) → n ≤ 7 → piece_at n ≡ Some n
 unfolding piece_at
-last_in n h = rw (le-leb n 7 h)
+known_last n h = rw (le-leb n 7 h)
 
 -- What a running generator answers and leaves, by what is sent.
 module _ (g : MtcGenerator) (f : FlatByte) (q : MtcGenerator) (r : g.running ≡ true) where
@@ -53,6 +55,14 @@ module _ (g : MtcGenerator) (f : FlatByte) (q : MtcGenerator) (r : g.running ≡
 
   by_sent : (t : MtcTime) (p : ℕ) → sent_by (moved_to g t) p ≡ sent_at t g.direction p
   by_sent t p = rw r
+
+final_low : (d : Direction) → final d ≤ 7
+final_low Forward = lit≤ tt
+final_low Reverse = lit≤ tt
+
+first_after : (d : Direction) → first d ≡ after d (final d)
+first_after Forward = refl
+first_after Reverse = refl
 
 -- In each of the three cases: no last piece, one inside a sequence, and its last one.
 module _ (bs : List ℕ) (f : FlatByte) (q : MtcGenerator) (d : Direction) (p : ℕ) (r : get_or bs 7 0 ≡ 0 → ⊥) (ed : d ≡ direction_at (get_or bs 5 0)) where
@@ -72,7 +82,7 @@ module _ (bs : List ℕ) (f : FlatByte) (q : MtcGenerator) (d : Direction) (p : 
 
   some_last : get_or bs 6 0 ≤ 7 → known (generator_in bs).last ≡ Some (get_or bs 6 0)
   unfolding generator_in
-  some_last h = ap known (last_in (get_or bs 6 0) h) ∙ rw (le-leb (get_or bs 6 0) 7 h)
+  some_last h = ap known (known_last (get_or bs 6 0) h) ∙ rw (le-leb (get_or bs 6 0) 7 h)
 
   way_is : d ≡ (generator_in bs).direction
   unfolding generator_in
@@ -89,13 +99,13 @@ module _ (bs : List ℕ) (f : FlatByte) (q : MtcGenerator) (d : Direction) (p : 
       (rw (sym way_is, ne_eqb (get_or bs 6 0) (final d) (λ e. z (e ∙ sym el)))) (ep ∙ ap (λ (x : Direction). after x (get_or bs 6 0)) way_is)
       (s.0, s.1 ∙ by_sent (generator_in bs) f q runs (generator_in bs).time p)
 
-  pub moves_on : get_or bs 6 0 ≤ 7 → {l : ℕ} → l ≡ final d → get_or bs 6 0 ≡ l → p ≡ after d (get_or bs 6 0) → {g : MtcGenerator}
+  pub moves_on : get_or bs 6 0 ≡ final d → p ≡ first d → {g : MtcGenerator}
       → g ≡ moved_to (generator_in bs) (add_frames (generator_in bs).time (sequence_frames d)) → Sends g → Answered
-  moves_on h el e ep {g} eg s =
+  moves_on e ep {g} eg s =
       let t : MtcTime = add_frames (generator_in bs).time (sequence_frames d) in
       let s' : Sends (moved_to (generator_in bs) t) = subst Sends eg s in
-      byte_answers (generator_in bs) f q runs (Some (get_or bs 6 0)) t p (some_last h)
-      (rw (sym way_is, eq-eqb (get_or bs 6 0) (final d) (e ∙ el))) (ep ∙ ap (λ (x : Direction). after x (get_or bs 6 0)) way_is)
+      byte_answers (generator_in bs) f q runs (Some (get_or bs 6 0)) t p (some_last (rw e (final_low d)))
+      (rw (sym way_is, eq-eqb (get_or bs 6 0) (final d) e)) (ep ∙ first_after d ∙ ap₂ after way_is (sym e))
       (s'.0, s'.1 ∙ by_sent (generator_in bs) f q runs t p)
 
 still : (bs : List ℕ) → get_or bs 7 0 ≡ 0 → (generator_in bs).running ≡ false

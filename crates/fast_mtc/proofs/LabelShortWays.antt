@@ -49,12 +49,12 @@ drop_frame_count t n e h =
 
 -- At any other rate the frames of whole seconds and those of the label.
 pub even_frame_count : (t : MtcTime) (n : ℕ) → (bits_of t.rate ≡ 2 → ⊥)
-    → n ≡ (((t.hours * 60 + t.minutes) * 60 + t.seconds) * frames_per_second t.rate + t.frames) % day_of t.rate → n ≡ frame_count t
-even_frame_count t n k h = h ∙ ap (λ (x : ℕ). x % day_of t.rate) (go t.rate k) ∙ sym (count_by_formula t)
+    → n ≡ (((t.hours * 60 + t.minutes) * 60 + t.seconds) * frames_per_second t.rate + t.frames) % (86400 * frames_per_second t.rate) → n ≡ frame_count t
+even_frame_count t n k h = h ∙ go t.rate k ∙ sym (count_by_formula t)
   where
     go : (r : TimeCodeType) → (bits_of r ≡ 2 → ⊥)
-        → ((t.hours * 60 + t.minutes) * 60 + t.seconds) * frames_per_second r + t.frames
-        ≡ formula r (t.hours * 60 + t.minutes) t.seconds t.frames
+        → (((t.hours * 60 + t.minutes) * 60 + t.seconds) * frames_per_second r + t.frames) % (86400 * frames_per_second r)
+        ≡ formula r (t.hours * 60 + t.minutes) t.seconds t.frames % day_of r
     go Fps24 k = refl
     go Fps25 k = refl
     go Fps30Drop k = absurd (k refl)

@@ -8,10 +8,10 @@ use native.Mathlib.Omega.{arith}
 use borrow.Author.Tests.{ltb-true, ltb-false, lt-ltb, le-ltb, eqb-true, eqb-false, ne_eqb}
 use lib.Dec.{T, ltb, eqb, lit≤, le→leb}
 use Rattle.mtc.specs.Reader.{Control, Standing, ordered, order_after, piece_fits}
-use Rattle.mtc.specs.Generator.{first, after, final}
+use Rattle.mtc.specs.Generator.{first, after, final, opposite}
 use Rattle.mtc.specs.declared.generator.Direction.{Direction}
 use Rattle.mtc.specs.declared.generator.Direction.TheVariants.{Forward, Reverse}
-use Rattle.fast_mtc.specs.Clauses.{order_in, order_out, order_begun, InSequence, OutOfSequence, opposite, passing}
+use Rattle.fast_mtc.specs.Clauses.{order_in, order_out, order_begun, InSequence, OutOfSequence, passing}
 use Rattle.fast_mtc.specs.Reader.{way_in, last_in, count_in, first_in}
 
 -- ---- how a piece stands, as the code finds it

@@ -10,7 +10,7 @@ use borrow.Author.Tests.{eq-eqb, ne_eqb, lt-ltb, le-ltb}
 use lib.Dec.{lit<}
 use lib.ListN.{length, get_or, set, length-set}
 use Rattle.mtc.proofs.Laws.{as_is}
-use Rattle.mtc.specs.Generator.{first, after, final}
+use Rattle.mtc.specs.Generator.{first, after, final, opposite}
 use Rattle.mtc.specs.QuarterFrame.{piece_of, value_of}
 use Rattle.mtc.specs.Reader.{control, ordered, order_after, starts, number_after, stored, reader_by_number, event_with, informed, after_full_message}
 use Rattle.mtc.specs.declared.generator.Direction.{Direction}
@@ -18,7 +18,7 @@ use Rattle.mtc.specs.declared.generator.Direction.TheVariants.{Forward, Reverse}
 use Rattle.mtc.specs.declared.reader.MtcReader.{MtcReader}
 use Rattle.labels.specs.Time.{bits_of}
 use Rattle.labels.specs.declared.time.MtcTime.{MtcTime}
-use Rattle.fast_mtc.specs.Clauses.{Received, FirstKept, PassedPiece, StoppedOrder, InSequence, OutOfSequence, order_in, order_out, order_begun, opposite, passing}
+use Rattle.fast_mtc.specs.Clauses.{Received, FirstKept, PassedPiece, StoppedOrder, InSequence, OutOfSequence, order_in, order_out, order_begun, passing}
 use Rattle.fast_mtc.specs.Reader.{way_in, last_in, count_in, first_in, nibbles_in, label_in, time_in, reader_in, flat_event}
 use Rattle.fast_mtc.proofs.LabelWords.{marked}
 use Rattle.fast_mtc.proofs.Orders.{after_first, stands_inside, stands_outside, stands_begun, inside_small, outside_small, standing_none, order_first_small}
@@ -56,10 +56,10 @@ none_passes ws v p e =
     (piece_cases (λ (k : ℕ). (k ≡ 0 → ⊥) → (k ≡ 7 → ⊥) → Passes None (32 + k) k (spelled 15 ws) v) (λ z. absurd (z refl)) (λ y z h. rw h)
     (λ y z h. rw h) (λ y z h. rw h) (λ y z h. rw h) (λ y z h. rw h) (λ y z h. rw h) (λ y z. absurd (z refl)) p)
 
-begins : (d : Direction) (ws : List ℕ) (v : ℕ) → length ws ≡ 15 → Begins (Some d) (order_in d (after d (first d))) (first d) ws v
+way_begins : (d : Direction) (ws : List ℕ) (v : ℕ) → length ws ≡ 15 → Begins (Some d) (order_in d (after d (first d))) (first d) ws v
 unfolding reader_in nibbles_in way_in last_in count_in first_in
-begins Forward ws v e = by_words (λ (l : List ℕ). Begins (Some Forward) 1 0 l v) ws e refl
-begins Reverse ws v e = by_words (λ (l : List ℕ). Begins (Some Reverse) 14 7 l v) ws e refl
+way_begins Forward ws v e = by_words (λ (l : List ℕ). Begins (Some Forward) 1 0 l v) ws e refl
+way_begins Reverse ws v e = by_words (λ (l : List ℕ). Begins (Some Reverse) 14 7 l v) ws e refl
 
 none_begins_0 : (ws : List ℕ) (v : ℕ) → length ws ≡ 15 → Begins None 40 0 ws v
 unfolding reader_in nibbles_in way_in last_in count_in first_in
@@ -80,7 +80,7 @@ module _ (ws : List ℕ) (b p x : ℕ) where
   way_begun d k z ex =
       record {
         event = ex;
-        reader = subst (λ (q : ℕ). Begins (Some d) (order_in d (after d q)) q ws b) (sym z) (begins d ws b k.words);
+        reader = subst (λ (q : ℕ). Begins (Some d) (order_in d (after d q)) q ws b) (sym z) (way_begins d ws b k.words);
       }
 
   pub none_passed : p ≤ 7 → FirstKept ws → (p ≡ 0 → ⊥) → (p ≡ 7 → ⊥) → x ≡ flat_event (event_with p None)

@@ -89,18 +89,18 @@ number_in Reverse p = 8 - p
 abbrev pub next_words : Direction → List ℕ → ℕ → ℕ → List ℕ
 next_words d ws b p = set (set ws p b) 8 (order_in d (after d p))
 
-abbrev Holds : Direction → ℕ → List ℕ → ℕ → Type 0
-Holds d v ws p =
+abbrev HeldNext : Direction → ℕ → List ℕ → ℕ → Type 0
+HeldNext d v ws p =
     reader_in (next_words d (set ws 8 (order_in d p)) v p) ≡ stored (reader_in (set ws 8 (order_in d p))) (ordered true (Some d) true) (number_in d p) p (v % 16)
 
-held : (d : Direction) (ws : List ℕ) (v p : ℕ) → length ws ≡ 15 → p ≤ 7 → Holds d v ws p
+held_next : (d : Direction) (ws : List ℕ) (v p : ℕ) → length ws ≡ 15 → p ≤ 7 → HeldNext d v ws p
 unfolding reader_in nibbles_in way_in last_in count_in first_in
-held Forward ws v p e =
-    by_words (λ (l : List ℕ). p ≤ 7 → Holds Forward v l p) ws e
-    (piece_cases (Holds Forward v (spelled 15 ws)) refl refl refl refl refl refl refl refl p)
-held Reverse ws v p e =
-    by_words (λ (l : List ℕ). p ≤ 7 → Holds Reverse v l p) ws e
-    (piece_cases (Holds Reverse v (spelled 15 ws)) refl refl refl refl refl refl refl refl p)
+held_next Forward ws v p e =
+    by_words (λ (l : List ℕ). p ≤ 7 → HeldNext Forward v l p) ws e
+    (piece_cases (HeldNext Forward v (spelled 15 ws)) refl refl refl refl refl refl refl refl p)
+held_next Reverse ws v p e =
+    by_words (λ (l : List ℕ). p ≤ 7 → HeldNext Reverse v l p) ws e
+    (piece_cases (HeldNext Reverse v (spelled 15 ws)) refl refl refl refl refl refl refl refl p)
 
 -- The words with their own order are the words.
 pub own_order : (ws : List ℕ) (k : ℕ) → length ws ≡ 15 → get_or ws 8 0 ≡ k → set ws 8 k ≡ ws
@@ -179,7 +179,7 @@ module _ (ws : List ℕ) (b : ℕ) (e : length ws ≡ 15) where
     next_left : reader_in (next_words d ws b (piece_of b)) ≡ stored R (ordered true (Some d) true) (number_in d (piece_of b)) (piece_of b) (value_of b)
     next_left =
         subst (λ (l : List ℕ). reader_in (next_words d l b (piece_of b)) ≡ stored (reader_in l) (ordered true (Some d) true) (number_in d (piece_of b)) (piece_of b) (value_of b))
-        (own_order ws (order_in d (piece_of b)) e k) (held d ws b (piece_of b) e (piece_low b))
+        (own_order ws (order_in d (piece_of b)) e k) (held_next d ws b (piece_of b) e (piece_low b))
 
     goes_on : (x : ℕ) → (piece_of b ≡ final d → ⊥) → x ≡ flat_event (event_with (piece_of b) None) → Received ws b x (next_words d ws b (piece_of b))
     goes_on x h ex =

@@ -4,6 +4,7 @@ use Rattle.fast_mtc.specs.Reader.{flat_event, way_in, last_in, count_in, first_i
 use Rattle.labels.specs.St12.{label, frames_per_second}
 use Rattle.labels.specs.Time.{bits_of, type_of}
 use Rattle.labels.specs.declared.time.MtcTime.{MtcTime}
+use Rattle.mtc.specs.Generator.{opposite}
 use Rattle.mtc.specs.Reader.{ordered, starts, number_after, reader_by_number, event_with, sequence_of_label, sequence_of, completed, after_byte, event_of}
 use Rattle.mtc.specs.declared.generator.Direction.{Direction}
 use Rattle.mtc.specs.declared.generator.Direction.TheVariants.{Forward, Reverse}
@@ -39,10 +40,6 @@ InSequence Reverse k = (8 ≤ k) × (k < 16)
 abbrev pub OutOfSequence : Direction → ℕ → Type 0
 OutOfSequence Forward k = (16 ≤ k) × (k < 24)
 OutOfSequence Reverse k = (24 ≤ k) × (k < 32)
-
-abbrev pub opposite : Direction → Direction
-opposite Forward = Reverse
-opposite Reverse = Forward
 
 -- The piece before the last one.
 abbrev pub turning : Direction → ℕ → ℕ

@@ -1,6 +1,6 @@
 // The quarter frame generator.
 ghost use Rattle.std.specs.Prelude.{◌≡◌, ◌≤◌, get_or};
-ghost use Rattle.mtc.specs.Generator.{next_byte, after_next_byte, sequence_frames};
+ghost use Rattle.mtc.specs.Generator.{final, next_byte, after_next_byte, sequence_frames};
 ghost use Rattle.labels.specs.Time.{add_frames};
 ghost use Rattle.mtc.specs.QuarterFrame.{pieces};
 ghost use Rattle.universal.specs.Refusals.{gives};
@@ -123,8 +123,19 @@ pub fn next_byte(g: &mut [u8; 8]) -> FlatByte
     if last != direction.last() {
         return send(g, direction.after(last));
     }
+    send_next(g)
+}
+
+// The same after the last piece of a sequence: the first piece of the next one. One byte in eight comes here; a part of `next_byte` would
+// make the seven others save registers.
+#[inline(never)]
+fn send_next(g: &mut [u8; 8]) -> FlatByte
+    requires { (get_or g.now 7 0 ≡ 0 → ⊥) × (get_or g.now 6 0 ≡ final (direction_at (get_or g.now 5 0))) }
+    ensures { (result ≡ flat_byte (next_byte (generator_in g.old))) × (generator_in g.new ≡ after_next_byte (generator_in g.old)) }
+{
+    let direction = direction_at(g[DIRECTION]);
     move_on(g, direction);
-    send(g, direction.after(last))
+    send(g, direction.first())
 }
 
 // The time of the next sequence.

@@ -149,10 +149,8 @@ pub fn frame_count(t: MtcTime) -> u32
         return within(n + minutes / 10 * 2, DAY_DROP);
     }
     let seconds = minutes * 60 + t.seconds as u32;
-    within(
-        seconds * rate.frames_per_second() as u32 + frames,
-        rate.day(),
-    )
+    let per_second = rate.frames_per_second() as u32;
+    within(seconds * per_second + frames, DAY * per_second)
 }
 
 // The number of `MtcTime::from_frame_count`.

@@ -2,11 +2,11 @@
 ghost use Rattle.std.specs.Prelude.{◌≡◌, ◌+◌, ◌≤◌, ◌<◌, get_or, Some, None};
 ghost use Rattle.mtc.specs.QuarterFrame.{piece_of, value_of};
 ghost use Rattle.mtc.specs.Reader.{after_byte, event_of};
-ghost use Rattle.mtc.specs.Generator.{after, final};
+ghost use Rattle.mtc.specs.Generator.{after, final, opposite};
 ghost use Rattle.mtc.specs.declared.generator.Direction.{Direction};
 ghost use Rattle.mtc.specs.declared.generator.Direction.TheVariants.{Forward, Reverse};
 ghost use Rattle.fast_mtc.specs.Reader.{reader_in, flat_event};
-ghost use Rattle.fast_mtc.specs.Clauses.{Received, FirstKept, PassedPiece, InSequence, OutOfSequence, order_in, order_out, order_begun, opposite, turning, passing};
+ghost use Rattle.fast_mtc.specs.Clauses.{Received, FirstKept, PassedPiece, InSequence, OutOfSequence, order_in, order_out, order_begun, turning, passing};
 
 use crate::report::{complete, quiet};
 use crate::words::{
@@ -89,7 +89,8 @@ fn turning(way: Direction, order: u32) -> u32
 // The words, the piece and the byte go on as they are: a struct of a `&mut` array and two numbers is no plainer. Their bounds stay
 // clauses: the words are an array that C keeps, and the piece is a plain number in `mtc` too.
 
-// `MtcReader::receive` on the words.
+// `MtcReader::receive` on the words. As a call it takes an instruction more for each byte, and eight more in a list.
+#[inline(always)]
 pub fn receive(r: &mut [u32; 15], byte: u8) -> u64
     ensures { (result ≡ flat_event (event_of (reader_in r.old) byte)) × (reader_in r.new ≡ after_byte (reader_in r.old) byte) }
 {

@@ -57,11 +57,14 @@ fn flat_event(e: MtcEvent) -> u64
 }
 
 // What a piece gives that ends no sequence.
+const QUIET: [u64; 8] = [0x100, 1, 2, 3, 0x104, 5, 6, 7];
+
+#[tactic(auto, using(crate::proofs::Events::quiet_table))]
 pub(crate) fn quiet(p: u32) -> u64
     requires { p ≤ 7 }
     ensures { result ≡ flat_event (event_with p None) }
 {
-    flat_event(event(p as u8, None))
+    QUIET[p as usize]
 }
 
 // The report of a number and of the reader that it left.

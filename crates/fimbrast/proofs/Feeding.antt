@@ -10,7 +10,7 @@ use native.Mathlib.Omega.{arith}
 use lib.Dec.{lit≤}
 use lib.ListN.{length, drop, get_or, drop_of_length-le}
 use lib.Seq.{drop-cons}
-use Rattle.fast_mtc.proofs.Laws.{report_of, none_reported, some_reported, jump_reported, report_back, kept_back}
+use Rattle.fast_mtc.proofs.Laws.{event_report, none_reported, some_reported, jump_reported, report_back, kept_back}
 use Rattle.fast_mtc.specs.Reader.{flat_report, flat_event, reader_in, report_in}
 use Rattle.fimbrast.specs.Feed.{Fed, unfed, fed_after, fed_by, fed_all, fed, flat_fed, flat_counted, reports_in, jump, later_report, total, last_report, Feeds}
 use Rattle.fimbrast.specs.declared.feed.FlatFed.{FlatFed}
@@ -109,7 +109,7 @@ after_one r₀ bs rs qs f g i e a h q eg =
     let s : Fed = a.state in
     let t : Fed = fed_by s b in
     let said : e / 512 ≡ flat_report (event_of s.reader b).sequence
-    = ap (λ (x : ℕ). x / 512) q.0 ∙ report_of (piece_of b) (event_of (reader_in rs) b).sequence (omega arith)
+    = ap (λ (x : ℕ). x / 512) q.0 ∙ event_report (piece_of b) (event_of (reader_in rs) b).sequence (omega arith)
     ∙ ap (λ (r : MtcReader). flat_report (event_of r b).sequence) a.reader in
     let same : g ≡ flat_fed t
     = eg ∙ ap₂ flat_counted a.flat said ∙ flat_counted_lem s (after_byte s.reader b) (event_of s.reader b).sequence in

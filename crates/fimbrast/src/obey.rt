@@ -36,7 +36,6 @@ impl From<Obeyed> for FlatRun {
 }
 
 // `obey`: a message's data, read from the front to its end, each command applied as it is read.
-#[tactic(auto, unfolding(crate::specs::Obey::flat_run))]
 pub fn fimbrast_obey(generator: FlatGenerator, device_id: u8, own: u8, body: &[u8]) -> FlatRun
     ensures { result ≡ flat_run (obey body.now device_id own (generator_of generator)) }
 {

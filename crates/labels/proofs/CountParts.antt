@@ -51,9 +51,9 @@ moved_by_count t z = refl
 -- ---- moves in a second
 
 -- Past the numbers that drop-frame skips.
-past_skipped : (r : TimeCodeType) (h m s f : ℕ) → is_skipped (label r h m s (f + 2)) ≡ false
+later_not_skipped : (r : TimeCodeType) (h m s f : ℕ) → is_skipped (label r h m s (f + 2)) ≡ false
 unfolding is_skipped
-past_skipped r h m s f = rw (le-ltb (f + 2) 2 (omega arith)) (none (is_drop_frame r) (eqb s 0))
+later_not_skipped r h m s f = rw (le-ltb (f + 2) 2 (omega arith)) (none (is_drop_frame r) (eqb s 0))
   where
     none : (a b : Bool) → (a && (b && false)) ≡ false
     none false b = refl
@@ -84,4 +84,4 @@ pub two_later : (r : TimeCodeType) (h m s f : ℕ) → h ≤ 23 → m ≤ 59 →
     → label r h m s (f + 2) ≡ add_frames (label r h m s f) (pos 2)
 two_later r h m s f hh hm hs hf =
     frames_later r h m s f 2 hh hm hs hf
-    (facts_valid (label r h m s (f + 2)) (record { hours = hh; minutes = hm; seconds = hs; frames = hf; kept = past_skipped r h m s f }))
+    (facts_valid (label r h m s (f + 2)) (record { hours = hh; minutes = hm; seconds = hs; frames = hf; kept = later_not_skipped r h m s f }))

@@ -371,17 +371,17 @@ other_stop source n d e h =
 
 -- ---- the message
 
-opening_of : (kind : Kind) (device : ℕ) → device ≤ 127
+message_opening : (kind : Kind) (device : ℕ) → device ≤ 127
     → opening (header true device (sub_id1_of kind) None) ≡ sent (240 ∷ 127 ∷ device ∷ sub_id1_of kind ∷ [])
-opening_of Commands device d = opening_plain true device 6 d refl (lit≤ tt)
-opening_of Fields device d = opening_plain true device 7 d refl (lit≤ tt)
+message_opening Commands device d = opening_plain true device 6 d refl (lit≤ tt)
+message_opening Fields device d = opening_plain true device 7 d refl (lit≤ tt)
 
 -- A string in its envelope is the Universal Real Time message of its kind.
 pub message_by_page : (kind : Kind) (device : ℕ) (string : List ℕ) → device ≤ 127 → all_low string ≡ true
     → message (header true device (sub_id1_of kind) None) string ≡ sent (envelope kind device string)
 message_by_page kind device string d l =
-    message_whole (header true device (sub_id1_of kind) None) string (ap (λ (e : Emission). e.stop) (opening_of kind device d)) l
-    ∙ ap (λ (e : Emission). sent (e.bytes ++ string ++ 247 ∷ [])) (opening_of kind device d)
+    message_whole (header true device (sub_id1_of kind) None) string (ap (λ (e : Emission). e.stop) (message_opening kind device d)) l
+    ∙ ap (λ (e : Emission). sent (e.bytes ++ string ++ 247 ∷ [])) (message_opening kind device d)
 
 -- An accepted list of 1 to 48 bytes, none of it named 00 00 00, is a message in its envelope.
 pub list_message : (kind : Kind) (device : ℕ) (gs : List (Given kind)) → (emissions kind gs).stop ≡ None → device ≤ last_device kind

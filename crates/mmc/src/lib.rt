@@ -19,7 +19,7 @@ pub use field::{InfoField, next_field};
 pub use item::{Item, next_item};
 pub use length::{Kind, Length, command_length, field_length};
 pub use message::MmcMessage;
-pub use named::Position;
+pub use named::{Position, Put};
 pub use part::Part;
 pub use split::{ItemPlace, NextItem, next_parts};
 pub use write::{Writer, Wrote, open_commands, open_fields, open_responses};

@@ -25,6 +25,11 @@ abbrev pub final : Direction → ℕ
 final Forward = 7
 final Reverse = 0
 
+-- The other direction.
+abbrev pub opposite : Direction → Direction
+opposite Forward = Reverse
+opposite Reverse = Forward
+
 -- The frames from a sequence's time to the next one's: a sequence takes two.
 abbrev pub sequence_frames : Direction → ℤ
 sequence_frames Forward = pos 2

@@ -28,7 +28,7 @@ use Rattle.universal.specs.Refusals.{Answer, gives}
 use Rattle.transport.specs.Transport.{resolved}
 use Rattle.transport.specs.Demand3.{Run, obey_message, obeyed, applied_all, applied_walk, EndsAt, Promised, ending_at, Demand3, Demand3Reverse, Demand3Written}
 use Rattle.transport.proofs.Acting.{valid_same}
-use Rattle.transport.proofs.Obeying.{read_acts, applied_append, resolved_valid, locate_play}
+use Rattle.transport.proofs.Obeying.{read_acts, applied_append, resolved_valid, target_played}
 
 -- ---- demand 3
 
@@ -46,7 +46,7 @@ generator_at : (s : List ℕ) (device own : ℕ) (g : MtcGenerator) (t : MtcTime
 generator_at s device own g t h k a e =
     ap (applied_all device own g) e.read
     ∙ applied_append device own g e.before (LocateTarget e.target ∷ Play ∷ [])
-    ∙ locate_play device own (applied_all device own g e.before) e.target t h k (holds_true (is_addressed device own) a) e.resolves
+    ∙ target_played device own (applied_all device own g e.before) e.target t h k (holds_true (is_addressed device own) a) e.resolves
 
 promised : (gs : List (Given Commands)) (device own : ℕ) (s : List ℕ) (g : MtcGenerator) (calls : List Call) (t : MtcTime)
     → ReadBack Commands device gs s → own ≤ 127 → T (is_addressed device own) → EndsAt s t → Promised s device own g calls t

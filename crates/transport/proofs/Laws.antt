@@ -5,7 +5,7 @@
 pub use Rattle.transport.proofs.Demand3.{demand3, demand3_reverse, demand3_written}
 -- In any data the commands read have acted, those before a cut too; a refused command leaves the generator and holds up none; Locate
 -- and then Play leave it located and running forward.
-pub use Rattle.transport.proofs.Obeying.{obey_more, read_acts, cut_acts, refused_unchanged, refused_passes, applied_append, answers_each, locate_play}
+pub use Rattle.transport.proofs.Obeying.{obey_more, read_acts, cut_acts, refused_unchanged, refused_passes, applied_append, answers_each, target_played}
 -- One call: 5, "not mine", or what the command does.
 pub use Rattle.transport.proofs.Acting.{device_above, own_above, not_mine_lem, mine}
 -- It leaves no last piece above 7 where there was none before.

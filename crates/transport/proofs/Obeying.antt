@@ -150,11 +150,11 @@ resolved_valid c t = go c.blank (is_valid (next_valid c.time)) refl
     go false false e h = let z : ◌≡◌ {A = ℕ} 0 1 = cc in absurd (omega arith)
 
 -- Locate to a target that resolves to T, and then Play: the generator as it is located at T and set running forward.
-pub locate_play : (device own : ℕ) (g : MtcGenerator) (c : StandardTimeCode) (t : MtcTime) → device ≤ 127 → own ≤ 127
+pub target_played : (device own : ℕ) (g : MtcGenerator) (c : StandardTimeCode) (t : MtcTime) → device ≤ 127 → own ≤ 127
     → is_addressed device own ≡ true → resolved c ≡ Some t
     → applied_all device own g (LocateTarget c ∷ Play ∷ []) ≡ run_from g t Forward
 unfolding applied_all acted
-locate_play device own g c t h k a e =
+target_played device own g c t h k a e =
     let l : applied g device own (LocateTarget c) ≡ locate_outcome g (Some t) =
     mine g device own (LocateTarget c) h k a ∙ ap (locate_outcome g) e in
     ap (λ (o : Outcome). (applied o.generator device own Play).generator) l

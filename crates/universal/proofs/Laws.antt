@@ -12,6 +12,7 @@ use lib.Dec.{leb}
 use borrow.Author.Tests.{le-leb, lt-leb, leb-true}
 use lib.ListN.{length, take, drop, get_or, set, length-set, length-append, get_or-append}
 use lib.Seq.{length-sets, sets-eq, set_out, get_or-set_same, get_or-set_other}
+use Rattle.std.proofs.lemmas.List.Edits.{sets}
 use Rattle.universal.specs.declared.error.SysexError.{SysexError}
 use Rattle.universal.specs.declared.error.SysexError.TheVariants.{DataByte, Length, OutOfRange, BufferTooSmall, Device, Source, Target, Stopped, End, ItemLimit}
 use Rattle.universal.specs.Refusals.{Refusal, refusal, too_small, gives, refused, refusal_of, needed_of, error_of}
@@ -50,6 +51,11 @@ overlay_then out middle after at next xs ys p q n =
     ∙ ap (λ (l : List ℕ). overlay l next ys) p
     ∙ ap (λ (k : ℕ). overlay (overlay out at xs) k ys) n
     ∙ sym (overlay_append out at xs ys)
+
+-- It is what the library's `sets` leaves.
+pub overlay_sets : (out : List ℕ) (at : ℕ) (bytes : List ℕ) → overlay out at bytes ≡ sets out at bytes
+unfolding overlay
+overlay_sets out at bytes = refl
 
 -- No bytes change nothing.
 pub overlay_none : (out : List ℕ) (at : ℕ) → overlay out at [] ≡ out
@@ -314,10 +320,10 @@ unfolding message
 message_refused u bs r h = then_refused (opening u) _ r h
 
 -- Data with a byte above 7FH is refused with 1, and none of it goes out.
-pub message_data : (u : Universal) (bs : List ℕ) → (opening u).stop ≡ None → all_low bs ≡ false
+pub message_high : (u : Universal) (bs : List ℕ) → (opening u).stop ≡ None → all_low bs ≡ false
     → message u bs ≡ record { bytes = (opening u).bytes; stop = Some (refusal 1) }
 unfolding message
-message_data u bs h l = then_sent (opening u) (data_emission bs then sent (247 ∷ [])) h ∙ rw (data_refused bs l, append-nil)
+message_high u bs h l = then_sent (opening u) (data_emission bs then sent (247 ∷ [])) h ∙ rw (data_refused bs l, append-nil)
 
 -- A message in which nothing is refused.
 pub message_whole : (u : Universal) (bs : List ℕ) → (opening u).stop ≡ None → all_low bs ≡ true

@@ -12,8 +12,8 @@ use Rattle.universal.specs.Overlay.{overlay}
 use Rattle.universal.specs.Emission.{Emission, sent, answer}
 use Rattle.universal.specs.Message.{all_low, opening, message, closing}
 use Rattle.universal.specs.declared.message.Universal.{Universal}
-use Rattle.universal.proofs.Laws.{length_overlay, overlay_then, answer_refused, reached_gives, reached_refused, opening_length, message_refused, message_data, message_whole, closing_answer}
-use Rattle.universal.proofs.Openings.{Put}
+use Rattle.universal.proofs.Laws.{length_overlay, overlay_then, answer_refused, reached_gives, reached_refused, opening_length, message_refused, message_high, message_whole, closing_answer}
+use Rattle.universal.proofs.Openings.{EmissionPut}
 
 -- What a call owes that put a whole message at the buffer's start: its answer, and the buffer.
 abbrev pub Written : Emission → Answer ℕ → List ℕ → List ℕ → Type 0
@@ -25,8 +25,8 @@ pub written_as : {q r : Result ℕ SysexError} (e : Emission) (before : List ℕ
 written_as e before p h = record { result_value = ap answer_of p ∙ h.result_value; out_after = h.out_after }
 
 -- An opening whose answer is known.
-pub put_opened : {q r : Result ℕ SysexError} {after : List ℕ} (e : Emission) (before : List ℕ) → q ≡ r → Put e (answer_of q) before after
-    → Put e (answer_of r) before after
+pub put_opened : {q r : Result ℕ SysexError} {after : List ℕ} (e : Emission) (before : List ℕ) → q ≡ r → EmissionPut e (answer_of q) before after
+    → EmissionPut e (answer_of r) before after
 put_opened e before p h = record { result_value = sym (ap answer_of p) ∙ h.result_value; out_after = h.out_after }
 
 -- A message that was refused.
@@ -38,24 +38,24 @@ written_refused e d r before after p s h = record {
 }
 
 -- The position after an opening.
-pub at_most_five : (u : Universal) (out opened : List ℕ) (at : ℕ) → Put (opening u) (gives at) out opened → at ≤ 5
+pub at_most_five : (u : Universal) (out opened : List ℕ) (at : ℕ) → EmissionPut (opening u) (gives at) out opened → at ≤ 5
 at_most_five u out opened at h =
     let r = reached_gives (opening u) at (sym h.result_value) in
     rw r.1 at (opening_length u r.0)
 
 module _ (u : Universal) (bs out opened : List ℕ) where
   -- The opening was refused.
-  pub message_stops : (r : Refusal) → Put (opening u) (refused r) out opened → Written (message u bs) (refused r) out opened
+  pub message_stops : (r : Refusal) → EmissionPut (opening u) (refused r) out opened → Written (message u bs) (refused r) out opened
   message_stops r h =
       let s : (opening u).stop ≡ Some r = reached_refused (opening u) r (sym h.result_value) in
       written_refused (message u bs) (opening u) r out opened (message_refused u bs r s) s h.out_after
 
-  module _ (at : ℕ) (h : Put (opening u) (gives at) out opened) where
+  module _ (at : ℕ) (h : EmissionPut (opening u) (gives at) out opened) where
     -- The data was refused.
     pub data_stops : all_low bs ≡ false → Written (message u bs) (refused (refusal 1)) out opened
     data_stops l =
         written_refused (message u bs) _ (refusal 1) out opened
-        (message_data u bs (reached_gives (opening u) at (sym h.result_value)).0 l) refl h.out_after
+        (message_high u bs (reached_gives (opening u) at (sym h.result_value)).0 l) refl h.out_after
 
     -- The data was put, and the message closed.
     pub message_ends : (filled after : List ℕ) (r : Answer ℕ) → all_low bs ≡ true → filled ≡ overlay opened at bs

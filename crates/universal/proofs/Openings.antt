@@ -15,39 +15,39 @@ use Rattle.universal.specs.declared.message.Universal.{Universal}
 use Rattle.universal.proofs.Laws.{overlay_then, overlay_none, opening_device, opening_family, opening_sub_id1, opening_sub_id2, opening_plain, opening_with_sub_id2}
 
 -- What a call owes that put an emission's bytes at the buffer's start: its answer, and the buffer.
-abbrev pub Put : Emission → Answer ℕ → List ℕ → List ℕ → Type 0
-Put e r out after = record { result_value : r ≡ reached e; out_after : after ≡ overlay out 0 e.bytes }
+abbrev pub EmissionPut : Emission → Answer ℕ → List ℕ → List ℕ → Type 0
+EmissionPut e r out after = record { result_value : r ≡ reached e; out_after : after ≡ overlay out 0 e.bytes }
 
 -- It owes the same of an emission that is the same.
-put_as : {d e : Emission} {r : Answer ℕ} {after : List ℕ} (out : List ℕ) → d ≡ e → Put d r out after → Put e r out after
-put_as {r = r} {after} out p h = subst (λ (e : Emission). Put e r out after) p h
+put_as : {d e : Emission} {r : Answer ℕ} {after : List ℕ} (out : List ℕ) → d ≡ e → EmissionPut d r out after → EmissionPut e r out after
+put_as {r = r} {after} out p h = subst (λ (e : Emission). EmissionPut e r out after) p h
 
 -- Bytes that all went out.
-put_sent : (e : Emission) (bs out after : List ℕ) → e ≡ sent bs → after ≡ overlay out 0 bs → Put e (gives (length bs)) out after
+put_sent : (e : Emission) (bs out after : List ℕ) → e ≡ sent bs → after ≡ overlay out 0 bs → EmissionPut e (gives (length bs)) out after
 unfolding reached
 put_sent e bs out after p h = put_as out (sym p) (record { result_value = refl; out_after = h })
 
 -- Bytes that went out before a refusal.
 put_refused : (e : Emission) (bs : List ℕ) (r : Refusal) (out after : List ℕ) → e ≡ record { bytes = bs; stop = Some r }
-    → after ≡ overlay out 0 bs → Put e (refused r) out after
+    → after ≡ overlay out 0 bs → EmissionPut e (refused r) out after
 unfolding reached
 put_refused e bs r out after p h = put_as out (sym p) (record { result_value = refl; out_after = h })
 
 -- A message's opening is that of its fields.
-pub put_of : (u : Universal) (m : Option ℕ) (r : Answer ℕ) (out after : List ℕ) → u.sub_id2 ≡ m
-    → Put (opening (header u.real_time u.device_id u.sub_id1 m)) r out after → Put (opening u) r out after
-put_of u m r out after e h =
+pub fields_put : (u : Universal) (m : Option ℕ) (r : Answer ℕ) (out after : List ℕ) → u.sub_id2 ≡ m
+    → EmissionPut (opening (header u.real_time u.device_id u.sub_id1 m)) r out after → EmissionPut (opening u) r out after
+fields_put u m r out after e h =
     put_as out
     (ap (λ (k : Option ℕ). opening (header u.real_time u.device_id u.sub_id1 k)) (sym e))
     h
 
 -- A device above 127.
-pub device_against : (u : Universal) (out : List ℕ) → 127 < u.device_id → Put (opening u) (refused (refusal 5)) out out
+pub device_against : (u : Universal) (out : List ℕ) → 127 < u.device_id → EmissionPut (opening u) (refused (refusal 5)) out out
 device_against u out h = put_refused (opening u) [] (refusal 5) out out (opening_device u h) (sym (overlay_none out 0))
 
 module _ (real_time : Bool) (device sub_id1 : ℕ) (low : device < 128) (has : Bool) (rule : has ≡ has_sub_id2 real_time sub_id1) (out : List ℕ) where
   -- No sub-ID 2, where the family carries one.
-  pub plain_against : has ≡ true → Put (opening (header real_time device sub_id1 None)) (refused (refusal 3)) out out
+  pub plain_against : has ≡ true → EmissionPut (opening (header real_time device sub_id1 None)) (refused (refusal 3)) out out
   plain_against h =
       put_refused _ [] (refusal 3) out out
       (opening_family (header real_time device sub_id1 None) (le_of_suc-le-suc low) (λ e. false≢true (e ∙ sym rule ∙ h)))
@@ -55,7 +55,7 @@ module _ (real_time : Bool) (device sub_id1 : ℕ) (low : device < 128) (has : B
 
   -- A sub-ID 2, where the family carries none.
   pub with_against : (sub_id2 : ℕ) → has ≡ false
-      → Put (opening (header real_time device sub_id1 (Some sub_id2))) (refused (refusal 3)) out out
+      → EmissionPut (opening (header real_time device sub_id1 (Some sub_id2))) (refused (refusal 3)) out out
   with_against v h =
       put_refused _ [] (refusal 3) out out
       (opening_family (header real_time device sub_id1 (Some v)) (le_of_suc-le-suc low)
@@ -69,7 +69,7 @@ module _ (real_time : Bool) (device sub_id1 : ℕ) (low : device < 128) (has : B
 
     -- A sub-ID 1 above 7FH, without a sub-ID 2.
     pub plain_high : has ≡ false → 127 < sub_id1
-        → Put (opening (header real_time device sub_id1 None)) (refused (refusal 3)) out started
+        → EmissionPut (opening (header real_time device sub_id1 None)) (refused (refusal 3)) out started
     plain_high f h =
         put_refused _ _ (refusal 3) out started
         (opening_sub_id1 (header real_time device sub_id1 None) (le_of_suc-le-suc low) (sym f ∙ rule) h)
@@ -77,7 +77,7 @@ module _ (real_time : Bool) (device sub_id1 : ℕ) (low : device < 128) (has : B
 
     -- The whole opening without a sub-ID 2.
     pub plain_whole : has ≡ false → sub_id1 ≤ 127 → (after : List ℕ) → after ≡ overlay started 3 (sub_id1 ∷ [])
-        → Put (opening (header real_time device sub_id1 None)) (gives 4) out after
+        → EmissionPut (opening (header real_time device sub_id1 None)) (gives 4) out after
     plain_whole f h after a =
         put_sent _ (240 ∷ class_id real_time ∷ device ∷ sub_id1 ∷ []) out after
         (opening_plain real_time device sub_id1 (le_of_suc-le-suc low) (sym rule ∙ f) h)
@@ -86,7 +86,7 @@ module _ (real_time : Bool) (device sub_id1 : ℕ) (low : device < 128) (has : B
     module _ (sub_id2 : ℕ) (given : has ≡ true) where
       -- A sub-ID 1 above 7FH, with a sub-ID 2.
       pub with_high : 127 < sub_id1
-          → Put (opening (header real_time device sub_id1 (Some sub_id2))) (refused (refusal 3)) out started
+          → EmissionPut (opening (header real_time device sub_id1 (Some sub_id2))) (refused (refusal 3)) out started
       with_high h =
           put_refused _ _ (refusal 3) out started
           (opening_sub_id1 (header real_time device sub_id1 (Some sub_id2)) (le_of_suc-le-suc low) (sym given ∙ rule) h)
@@ -95,7 +95,7 @@ module _ (real_time : Bool) (device sub_id1 : ℕ) (low : device < 128) (has : B
       module _ (h : sub_id1 ≤ 127) (middle : List ℕ) (a : middle ≡ overlay started 3 (sub_id1 ∷ [])) where
         -- A sub-ID 2 above 7FH.
         pub with_high_sub_id2 : 127 < sub_id2
-            → Put (opening (header real_time device sub_id1 (Some sub_id2))) (refused (refusal 3)) out middle
+            → EmissionPut (opening (header real_time device sub_id1 (Some sub_id2))) (refused (refusal 3)) out middle
         with_high_sub_id2 g =
             put_refused _ _ (refusal 3) out middle
             (opening_sub_id2 real_time device sub_id1 (le_of_suc-le-suc low) sub_id2 (sym rule ∙ given) h g)
@@ -103,7 +103,7 @@ module _ (real_time : Bool) (device sub_id1 : ℕ) (low : device < 128) (has : B
 
         -- The whole opening with a sub-ID 2.
         pub with_whole : sub_id2 ≤ 127 → (after : List ℕ) → after ≡ overlay middle 4 (sub_id2 ∷ [])
-            → Put (opening (header real_time device sub_id1 (Some sub_id2))) (gives 5) out after
+            → EmissionPut (opening (header real_time device sub_id1 (Some sub_id2))) (gives 5) out after
         with_whole l after b =
             put_sent _ (240 ∷ class_id real_time ∷ device ∷ sub_id1 ∷ sub_id2 ∷ []) out after
             (opening_with_sub_id2 real_time device sub_id1 (le_of_suc-le-suc low) sub_id2 (sym rule ∙ given) h l)

@@ -54,9 +54,9 @@ given_by false x y r p = absurd (gives_refused y r p)
 code_written : (c : StandardTimeCode) → page.allowed c ≡ true → (standard_fits c ≡ true) × (standard_list c ≡ page.written c)
 code_written c h = given_by (standard_fits c) (standard_list c) (page.written c) (refusal 3) (written_by_page c h)
 
-short_written : (r : TimeCodeType) (c : ShortTimeCode) → page.short_allowed r c ≡ true
+short_as_page : (r : TimeCodeType) (c : ShortTimeCode) → page.short_allowed r c ≡ true
     → (short_fits c ≡ true) × (short_list c ≡ page.short_written c)
-short_written r c h = given_by (short_fits c) (short_list c) (page.short_written c) (refusal 3) (short_written_by_page r c h)
+short_as_page r c h = given_by (short_fits c) (short_list c) (page.short_written c) (refusal 3) (short_written_by_page r c h)
 
 -- ---- the page's bytes are written
 
@@ -175,7 +175,7 @@ field_written_by_page (FULL f c) source x h e =
     let w = code_written c h.0 in
     ap (field_item source) e ∙ rw (form_fits_lem f c.negative c.final_byte h.1, w.0, w.1)
 field_written_by_page (SHORT f rate c) source x h e =
-    let w = short_written rate c h.0 in
+    let w = short_as_page rate c h.0 in
     ap (field_item source) e ∙ rw (form_fits_lem f c.negative c.final_byte h.1, w.0, w.1)
 
 -- ---- what is written, exactly
@@ -191,8 +191,8 @@ target_form c h =
     (check_held (is_subframes c.final_byte) 3
     (then_accepted (check (is_subframes c.final_byte) 3) (sent (68 ∷ 6 ∷ 1 ∷ []) then standard_item c) h).0)
 
-stop_of : (e : Emission) (bs : List ℕ) → e ≡ sent bs → e.stop ≡ None
-stop_of e bs p = ap (λ (x : Emission). x.stop) p
+sent_whole : (e : Emission) (bs : List ℕ) → e ≡ sent bs → e.stop ≡ None
+sent_whole e bs p = ap (λ (x : Emission). x.stop) p
 
 -- A command is accepted exactly where it is said that it may be written; any other is refused.
 pub command_written_exactly : (source : List ℕ) (c : MmcCommand) → ((command_item source c).stop ≡ None) ↔ Writes source c
@@ -211,19 +211,19 @@ command_written_exactly source (C.Write d) = (
     write_is_inside source d h,
     accepted_writable Commands (64 ∷ []) (part_of source d) _ (item_accepted Commands (given Commands source (C.Write d)) h),
   ),
-  λ w. stop_of (write_item source d) _ (write_sent source d w.0 w.1),
+  λ w. sent_whole (write_item source d) _ (write_sent source d w.0 w.1),
 )
 command_written_exactly source (C.LocateField r) = (
   λ h. let t = locate_field_checks r h in (t.0, omega (arith, t.1)),
-  λ w. stop_of (locate_field_item r) _ (locate_field_sent r w),
+  λ w. sent_whole (locate_field_item r) _ (locate_field_sent r w),
 )
 command_written_exactly source (C.LocateTarget c) = (
   λ h. (target_form c h, sym (fits_by_page c) ∙ (locate_target_checks c h).0),
-  λ w. stop_of (locate_target_item c) _ (locate_target_sent c w.0 (fits_by_page c ∙ w.1)),
+  λ w. sent_whole (locate_target_item c) _ (locate_target_sent c w.0 (fits_by_page c ∙ w.1)),
 )
 command_written_exactly source (C.Move d s) = (
   λ h. let t = move_checks d s h in (t.0, omega (arith, t.1), t.2, omega (arith, t.3)),
-  λ w. stop_of (move_item d s) _ (page_move_sent d s w),
+  λ w. sent_whole (move_item d s) _ (page_move_sent d s w),
 )
 command_written_exactly source (C.Other n d) = (
   λ h.
@@ -232,7 +232,7 @@ command_written_exactly source (C.Other n d) = (
         i.1,
         accepted_writable Commands (part_of source n) (part_of source d) _ (item_accepted Commands (given Commands source (C.Other n d)) h),
       ),
-  λ w. stop_of (other_item Commands source n d) _ (other_sent Commands source n d w.0 w.1 w.2),
+  λ w. sent_whole (other_item Commands source n d) _ (other_sent Commands source n d w.0 w.1 w.2),
 )
 
 -- ---- a field's name and form
@@ -301,14 +301,14 @@ field_written_exactly source (F.TimeCode f c) = (
     (in_form f c.negative c.final_byte).0 (time_code_form f c h),
     sym (fits_by_page c) ∙ (time_code_checks f c h).2,
   ),
-  λ w. stop_of (time_code_item f c) _ (time_code_sent f c ((in_form f c.negative c.final_byte).1 w.0) (fits_by_page c ∙ w.1)),
+  λ w. sent_whole (time_code_item f c) _ (time_code_sent f c ((in_form f c.negative c.final_byte).1 w.0) (fits_by_page c ∙ w.1)),
 )
 field_written_exactly source (F.Short f c) = (
   λ h. (
     (in_form f c.negative c.final_byte).0 (short_code_form f c h),
     sym (short_fits_by_page c) ∙ (short_code_checks f c h).2,
   ),
-  λ w. stop_of (short_code_item f c) _ (short_code_sent f c ((in_form f c.negative c.final_byte).1 w.0) (short_fits_by_page c ∙ w.1)),
+  λ w. sent_whole (short_code_item f c) _ (short_code_sent f c ((in_form f c.negative c.final_byte).1 w.0) (short_fits_by_page c ∙ w.1)),
 )
 field_written_exactly source (F.Other n d) = (
   λ h.
@@ -317,5 +317,5 @@ field_written_exactly source (F.Other n d) = (
         i.1,
         accepted_writable Fields (part_of source n) (part_of source d) _ (item_accepted Fields (given Fields source (F.Other n d)) h),
       ),
-  λ w. stop_of (other_item Fields source n d) _ (other_sent Fields source n d w.0 w.1 w.2),
+  λ w. sent_whole (other_item Fields source n d) _ (other_sent Fields source n d w.0 w.1 w.2),
 )

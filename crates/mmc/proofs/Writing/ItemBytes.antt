@@ -31,7 +31,7 @@ use Rattle.universal.specs.Message.{all_low, data_emission}
 use Rattle.universal.specs.Refusals.{Refusal, refusal}
 use Rattle.universal.proofs.Laws.{all_low_append, all_low_none, all_low_cons, then_sent, then_accepted, then_assoc, data_refused}
 use Rattle.universal.proofs.Tests.{and_parts}
-use Rattle.codes.proofs.Laws.{bytes_low, short_bytes_low, five_bytes, two_bytes}
+use Rattle.codes.proofs.Laws.{bytes_low, short_bytes_low, standard_list_length, short_list_length}
 use Rattle.mmc.proofs.Reading.PageStrings.{command_below, command_count, field_five, field_two}
 use Rattle.mmc.proofs.Writing.EmissionPuts.{fixed_low, count_low, name_sent, name_length}
 
@@ -257,7 +257,7 @@ locate_target_accepted : (c : StandardTimeCode) → (locate_target_item c).stop 
     → AcceptedItem Commands (item (68 ∷ []) (1 ∷ standard_list c)) (locate_target_item c).bytes
 locate_target_accepted c h =
     let t = locate_target_checks c h in
-    let n : 6 ≡ suc (length (standard_list c)) = omega (arith, five_bytes c) in
+    let n : 6 ≡ suc (length (standard_list c)) = omega (arith, standard_list_length c) in
     let low : all_low (1 ∷ standard_list c) ≡ true = all_low_cons 1 (standard_list c) (lit≤ tt) (bytes_low c t.0) in
     with_count_lem 68 (1 ∷ standard_list c) _ (lit≤ tt) (lit≤ tt) (omega arith) low
     (t.1 ∙ ap (λ (k : ℕ). 68 ∷ k ∷ 1 ∷ standard_list c) n)
@@ -290,7 +290,7 @@ time_code_accepted : (f : ℕ) (c : StandardTimeCode) → (time_code_item f c).s
     → AcceptedItem Fields (item (f ∷ []) (standard_list c)) (time_code_item f c).bytes
 time_code_accepted f c h =
     let t = time_code_checks f c h in
-    one_accepted Fields f (standard_list c) _ (Fixed 5) t.0 (omega (arith, t.1)) (field_five f t.0 t.1) (sym (five_bytes c))
+    one_accepted Fields f (standard_list c) _ (Fixed 5) t.0 (omega (arith, t.1)) (field_five f t.0 t.1) (sym (standard_list_length c))
     (bytes_low c t.2) t.3
 
 short_code_accepted : (f : ℕ) (c : ShortTimeCode) → (short_code_item f c).stop ≡ None
@@ -299,7 +299,7 @@ short_code_accepted f c h =
     let t = short_code_checks f c h in
     let l : f + 32 < 64 = omega (arith, t.1) in
     one_accepted Fields (f + 32) (short_list c) _ (Fixed 2) (omega arith) (omega arith) (field_two (f + 32) (omega arith) l)
-    (sym (two_bytes c)) (short_bytes_low c t.2) t.3
+    (sym (short_list_length c)) (short_bytes_low c t.2) t.3
 
 field_accepted : (source : List ℕ) (f : InfoField) → (field_item source f).stop ≡ None
     → AcceptedItem Fields (field_pair source f) (field_item source f).bytes

@@ -19,7 +19,7 @@ use Rattle.mmc.specs.Part.{is_inside, part_of}
 use Rattle.codes.specs.TimeCode.{standard_fits, standard_list, standard_bytes, short_fits, short_list, short_bytes}
 use Rattle.universal.specs.Refusals.{gives, refused, refusal}
 use Rattle.universal.specs.Emission.{Emission, sent, check, ◌then◌}
-use Rattle.codes.proofs.Laws.{five_bytes, two_bytes}
+use Rattle.codes.proofs.Laws.{standard_list_length, short_list_length}
 use Rattle.mmc.proofs.Writing.EmissionPuts.{named_small}
 use Rattle.mmc.proofs.RangeTests.{within_told}
 
@@ -32,11 +32,11 @@ code_length false l n e = omega arith
 
 pub standard_length : (c : StandardTimeCode) → length (standard_item c).bytes ≤ 5
 unfolding standard_item
-standard_length c = code_length (standard_fits c) (standard_list c) 5 (five_bytes c)
+standard_length c = code_length (standard_fits c) (standard_list c) 5 (standard_list_length c)
 
 pub short_length : (c : ShortTimeCode) → length (short_item c).bytes ≤ 2
 unfolding short_item
-short_length c = code_length (short_fits c) (short_list c) 2 (two_bytes c)
+short_length c = code_length (short_fits c) (short_list c) 2 (short_list_length c)
 
 -- Bytes under a check are those of its answer.
 code_by : (t : Bool) (l : List ℕ) → check t 3 then sent l ≡ code_item (cond t (gives l) (refused (refusal 3)))

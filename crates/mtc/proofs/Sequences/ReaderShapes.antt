@@ -13,7 +13,7 @@ use native.Mathlib.Omega.{arith}
 use borrow.Author.Tests.{eqb-true, eqb-false, ne_eqb}
 use lib.Dec.{T, eqb, ltb, eqb→eq}
 use lib.ListN.{take, set}
-use Rattle.mtc.specs.Generator.{first, after}
+use Rattle.mtc.specs.Generator.{first, after, opposite}
 use Rattle.mtc.specs.QuarterFrame.{piece_of}
 use Rattle.mtc.specs.Reader.{Standing, control, direction_between, out_of_order, order_of, starts, number_after, number_of, stored, reader_by_number, report_by_number, after_piece, report_of}
 use Rattle.mtc.specs.declared.generator.Direction.{Direction}
@@ -22,10 +22,6 @@ use Rattle.mtc.specs.declared.reader.MtcReader.{MtcReader}
 use Rattle.mtc.proofs.ReaderCalls.{below_suc, both_r, order_second, order_next, order_turned}
 
 -- ---- directions
-
-abbrev pub opposite : Direction → Direction
-opposite Forward = Reverse
-opposite Reverse = Forward
 
 -- The pieces of a direction by their place, 0 to 7.
 abbrev pub nth_piece : Direction → ℕ → ℕ
@@ -155,15 +151,15 @@ module _ (bs : List ℕ) (r : MtcReader) (p : ℕ) where
 
 -- 0, where it starts nothing; 1, where it starts a sequence; or one more than those held, where it is the next one.
 pub data Number (next : Bool) (count : ℕ) (begins : Bool) (n : ℕ) : Type 0 where
-  no_sequence : n ≡ 0 → begins ≡ false → Number next count begins n
+  none_begun : n ≡ 0 → begins ≡ false → Number next count begins n
   begins_one : n ≡ 1 → begins ≡ true → Number next count begins n
   next_one : next ≡ true → (count ≡ 0 → ⊥) → n ≡ count + 1 → Number next count begins n
 
 pub number_cases : (next : Bool) (count : ℕ) (begins : Bool) → Number next count begins (number_after (cond next count 0) begins)
 number_cases false c true = begins_one refl refl
-number_cases false c false = no_sequence refl refl
+number_cases false c false = none_begun refl refl
 number_cases true zero true = begins_one refl refl
-number_cases true zero false = no_sequence refl refl
+number_cases true zero false = none_begun refl refl
 number_cases true (suc c) b = next_one refl (λ e. omega arith) (rw (ne_eqb (suc c) 0 (λ e. omega arith)))
 
 stored_by_number : (r : MtcReader) (o : Standing) (n p v : ℕ) → (n ≡ 0 → ⊥) → (n ≡ 8 → ⊥) → reader_by_number r o n p v ≡ stored r o n p v
@@ -221,7 +217,7 @@ module _ (bs : List ℕ) (r : MtcReader) (h : Shape bs r) (b v : ℕ) where
   piece_shape = go _ (number_cases o.next r.count (starts o.direction (piece_of b)))
     where
       go : (n : ℕ) → Number o.next r.count (starts o.direction (piece_of b)) n → By n
-      go n (no_sequence e z) = subst By (sym e) (idle refl)
+      go n (none_begun e z) = subst By (sym e) (idle refl)
       go n (begins_one e z) =
           subst By (sym e)
           (started_shape bs b (stored r o 1 (piece_of b) v) o.direction z refl refl refl refl)
@@ -231,9 +227,9 @@ module _ (bs : List ℕ) (r : MtcReader) (h : Shape bs r) (b v : ℕ) where
 
 -- It starts a sequence, in its direction or with none known yet; or the reader still goes the other way, and holds nothing.
 pub data Begun (d : Direction) (n : List ℕ) (s : MtcReader) : Type 0 where
-  held : (m : Option Direction) → (m ≡ None) ⊎ (m ≡ Some d) → s.nibbles ≡ n → s.count ≡ 1 → s.first ≡ first d
+  begun_held : (m : Option Direction) → (m ≡ None) ⊎ (m ≡ Some d) → s.nibbles ≡ n → s.count ≡ 1 → s.first ≡ first d
       → s.last ≡ Some (first d) → s.direction ≡ m → Begun d n s
-  turning : s.count ≡ 0 → s.last ≡ Some (first d) → s.direction ≡ Some (opposite d) → Begun d n s
+  begun_turning : s.count ≡ 0 → s.last ≡ Some (first d) → s.direction ≡ Some (opposite d) → Begun d n s
 
 -- What it reports: nothing, unless the bytes before were the other direction's first seven pieces.
 abbrev pub Quiet : Direction → List ℕ → Option MtcSequence → Type 0
@@ -268,7 +264,7 @@ module _ (bs : List ℕ) (r : MtcReader) (h : Shape bs r) (d : Direction) (v : �
       let q = last_piece d w.way w.number w.few w.piece in
       let eight : n ≡ 8 = omega (arith, e, w.count, q.1) in
       rw eight (
-        turning refl refl (w.direction ∙ ap Some q.0),
+        begun_turning refl refl (w.direction ∙ ap Some q.0),
         inr (subst₂ (λ (k : ℕ) (f : Direction). map piece_of (take (suc k) bs) ≡ history f (suc k)) q.1 q.0 w.before),
       )
 
@@ -277,6 +273,6 @@ module _ (bs : List ℕ) (r : MtcReader) (h : Shape bs r) (d : Direction) (v : �
   first_byte = go _ (number_cases x.next r.count (starts x.direction (first d)))
     where
       go : (n : ℕ) → Number x.next r.count (starts x.direction (first d)) n → First n
-      go n (no_sequence e z) = subst First (sym e) (turning refl refl (no_start d x.direction z), inl refl)
-      go n (begins_one e z) = subst First (sym e) (held x.direction (a_start d x.direction z) refl refl refl refl refl, inl refl)
+      go n (none_begun e z) = subst First (sym e) (begun_turning refl refl (no_start d x.direction z), inl refl)
+      go n (begins_one e z) = subst First (sym e) (begun_held x.direction (a_start d x.direction z) refl refl refl refl refl, inl refl)
       go n (next_one y z e) = ended n e (follows bs r (first d) h z y)

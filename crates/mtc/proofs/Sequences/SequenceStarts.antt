@@ -5,13 +5,13 @@ use mathlib.Core.List.{List}
 use mathlib.Core.Logic.{inl, inr}
 use mathlib.Core.Path.{◌≡◌, refl, sym, subst, ap, ◌∙◌}
 use native.Mathlib.Omega.{arith}
-use Rattle.mtc.specs.Generator.{first, final}
+use Rattle.mtc.specs.Generator.{first, final, opposite}
 use Rattle.mtc.specs.Reader.{Standing, Control, control, starts, order_of, number_of}
 use Rattle.mtc.specs.Ready.{Starts, NotAgainst}
 use Rattle.mtc.specs.declared.generator.Direction.{Direction}
 use Rattle.mtc.specs.declared.generator.Direction.TheVariants.{Forward, Reverse}
 use Rattle.mtc.specs.declared.reader.MtcReader.{MtcReader}
-use Rattle.mtc.proofs.Sequences.ReaderShapes.{opposite, nth_piece, Shape, idle, one_piece, going, Number, no_sequence, begins_one, next_one, number_cases, first_piece, a_start}
+use Rattle.mtc.proofs.Sequences.ReaderShapes.{nth_piece, Shape, idle, one_piece, going, Number, none_begun, begins_one, next_one, number_cases, first_piece, a_start}
 
 -- ---- what it then leaves
 
@@ -24,7 +24,7 @@ not_against d c e = go _ e (number_cases o.next c.count (starts o.direction (fir
     o = order_of c (first d)
 
     go : (n : ℕ) → n ≡ 1 → Number o.next c.count (starts o.direction (first d)) n → NotAgainst d o.direction
-    go n e (no_sequence z _) = absurd (omega (arith, e, z))
+    go n e (none_begun z _) = absurd (omega (arith, e, z))
     go n e (begins_one _ b) = a_start d o.direction b
     go n e (next_one _ z q) = absurd (z (omega (arith, e, q)))
 

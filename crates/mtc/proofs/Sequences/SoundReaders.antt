@@ -20,15 +20,15 @@ use Rattle.mtc.proofs.Sequences.SoundCalls.{as_is}
 
 -- ---- bounds
 
-all_fit : (k : ℕ) (n : List ℕ) → ((j : ℕ) → get_or n j 0 ≤ 15) → T (nibbles_fit k n)
+nibbles_all_fit : (k : ℕ) (n : List ℕ) → ((j : ℕ) → get_or n j 0 ≤ 15) → T (nibbles_fit k n)
 unfolding nibbles_fit
-all_fit zero n h = tt
-all_fit (suc k) n h = both_hold (nibbles_fit k n) (leb (get_or n k 0) 15) (all_fit k n h) (le→leb _ 15 (h k))
+nibbles_all_fit zero n h = tt
+nibbles_all_fit (suc k) n h = both_hold (nibbles_fit k n) (leb (get_or n k 0) 15) (nibbles_all_fit k n h) (le→leb _ 15 (h k))
 
 -- Numbers that fit, and eight nibbles, are a sound record.
 pub sound_by : (r : MtcReader) → r.count ≤ 7 → r.first ≤ 7 → T (piece_fits r.last) → ((j : ℕ) → get_or r.nibbles j 0 ≤ 15)
     → length r.nibbles ≡ 8 → Sound r
-sound_by r c f l n e = record { is_sound_record = sound r c f l (all_fit 8 r.nibbles n); eight = e }
+sound_by r c f l n e = record { is_sound_record = sound r c f l (nibbles_all_fit 8 r.nibbles n); eight = e }
 
 pub bounds : (r : MtcReader) → Sound r → Bounds r
 bounds r h =

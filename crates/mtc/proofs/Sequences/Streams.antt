@@ -10,7 +10,7 @@ use native.Mathlib.Omega.{arith}
 use borrow.Author.Tests.{eq-eqb}
 use lib.Dec.{T}
 use lib.ListN.{length, take, set, get_or}
-use Rattle.mtc.specs.Generator.{first, sequence_frames}
+use Rattle.mtc.specs.Generator.{first, sequence_frames, opposite}
 use Rattle.mtc.specs.QuarterFrame.{piece_of, pieces}
 use Rattle.mtc.specs.Reader.{Sound, fresh, is_sound, nibbles_fit, offset, same_time, jumps, sequence_of_label, report_of, after_piece, after_byte, after_full_message}
 use Rattle.mtc.specs.Ready.{after_bytes}
@@ -29,7 +29,7 @@ use Rattle.mtc.proofs.Widths.{valid_in_widths}
 use Rattle.mtc.proofs.Sequences.LabelNibbles.{first_value, nibbles_in_order, assembled, values, split, split_pieces, raw_values}
 use Rattle.mtc.proofs.Sequences.WholeSequences.{run, leave, left, round, run_first, Eighth, eighth}
 use Rattle.mtc.proofs.Sequences.Sending.{later_label, eight_bytes, sends_three}
-use Rattle.mtc.proofs.Sequences.ReaderShapes.{opposite, history, Shape, idle, piece_shape, Begun, Quiet, first_byte}
+use Rattle.mtc.proofs.Sequences.ReaderShapes.{history, Shape, idle, piece_shape, Begun, Quiet, first_byte}
 use Rattle.mtc.proofs.Sequences.SequenceStarts.{starts_next}
 use Rattle.mtc.proofs.Sequences.SoundCalls.{by_piece, report_by_piece, byte_sound, full_sound, same_length}
 

@@ -9,7 +9,7 @@ use mathlib.Core.Logic.{◌⊎◌, inl, inr}
 use mathlib.Core.Path.{◌≡◌, refl, sym, ◌∙◌, ap, ap₂, subst}
 use native.Mathlib.Omega.{arith}
 use lib.ListN.{length, set}
-use Rattle.mtc.specs.Generator.{first, final}
+use Rattle.mtc.specs.Generator.{first, final, opposite}
 use Rattle.mtc.specs.Reader.{control, offset, sequence_of_label, order_of, number_of, sequence_of, reader_by_number, report_by_number, after_piece, report_of}
 use Rattle.mtc.specs.Ready.{Starts, NotAgainst}
 use Rattle.mtc.specs.Stream.{silent}
@@ -18,7 +18,7 @@ use Rattle.mtc.specs.declared.generator.Direction.{Direction}
 use Rattle.mtc.specs.declared.generator.Direction.TheVariants.{Forward, Reverse}
 use Rattle.mtc.specs.declared.reader.MtcReader.{MtcReader}
 use Rattle.mtc.proofs.Sequences.LabelNibbles.{Nibble, Values, first_value, seven, nibbles_in_order, listed, assembled}
-use Rattle.mtc.proofs.Sequences.ReaderShapes.{opposite, Begun, held, turning}
+use Rattle.mtc.proofs.Sequences.ReaderShapes.{Begun, begun_held, begun_turning}
 use Rattle.mtc.proofs.Sequences.SequenceStarts.{not_against, starts_next}
 
 -- What a list of pieces with their values reports.
@@ -208,7 +208,7 @@ module _ (v : Values) where
   pub eighth : (s : MtcReader) (d : Direction) (n : List ℕ) → length n ≡ 8 → length s.nibbles ≡ 8
       → Begun d (set n (first d) (first_value d v)) s → Eighth d s
   unfolding Completes
-  eighth s d n len _ (held m q en ec ef el ed) =
+  eighth s d n len _ (begun_held m q en ec ef el ed) =
       record {
         report = Some (sequence_of_label (assembled v) d s.previous);
         is = inr refl;
@@ -220,7 +220,7 @@ module _ (v : Values) where
             ap (λ (x : MtcReader). run x (seven d v ++ rest)) (λ i. with s (en i) (ec i) (ef i) (el i) (ed i))
             ∙ (held_at v s d n (eight_of n len) rest m q).0;
       }
-  eighth s d n _ len (turning ec el ed) =
+  eighth s d n _ len (begun_turning ec el ed) =
       record {
         report = None;
         is = inl refl;

@@ -1,5 +1,5 @@
 -- `fast_mtc::generator::next_byte` meets its contract. Assumes nothing.
-use Rattle.fast_mtc.proofs.GeneratorBytes.{stopped_in, starts_over, piece_goes_on, moves_on}
+use Rattle.fast_mtc.proofs.GeneratorBytes.{stopped_in, starts_over, piece_goes_on}
 use Rattle.fast_mtc.proofs.generator.next_byte.Goals as goal
 
 pub returns-then-g-eq0 : goal.returns-then-g-eq0
@@ -12,7 +12,3 @@ returns-then-last-gt7 c =
 pub returns-then-last : goal.returns-then-last
 returns-then-last c =
     piece_goes_on _ _ _ _ _ c.if-g-eq0.false c.direction_at-direction.ensures c.if-last-gt7.false c.last.ensures c.if-last.true c.after.ensures.0 c.send-then-last.ensures
-
-pub returns : goal.returns
-returns c =
-    moves_on _ _ _ _ _ c.if-g-eq0.false c.direction_at-direction.ensures c.if-last-gt7.false c.last.ensures c.if-last.false c.after-2.ensures.0 c.move_on.ensures c.send-2.ensures
