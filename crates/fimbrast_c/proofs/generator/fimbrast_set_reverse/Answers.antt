@@ -2,4 +2,4 @@
 use Rattle.fimbrast_c.proofs.generator.fimbrast_set_reverse.Goals as goal
 
 pub returns : goal.returns
-returns c = c.fimbrast_set_reverse.ensures
+returns c = cc
