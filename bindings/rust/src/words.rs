@@ -70,7 +70,7 @@ impl<'a> Item<'a> {
         let name = self.place..self.place + usize::from(self.next.byte(0));
         let data = self.next.place - usize::from(self.next.byte(1))..self.next.place;
         // SAFETY: both parts of an item that was found lie in the body: the name from the place on, the data up to the next place
-        // (`found-inside` of crates/mmc/proofs/StringLaws.antt), and the bytes here are their lengths or less.
+        // (`found_inside` of crates/mmc/proofs/StringLaws.antt), and the bytes here are their lengths or less.
         Some(unsafe { (self.body.get_unchecked(name), self.body.get_unchecked(data)) })
     }
 }

@@ -5,3 +5,4 @@ mod WordItems
 mod WordPuts
 mod WordRanges
 mod WordReading
+mod WordsReadBack

@@ -1,7 +1,9 @@
 -- A whole command message given as words: opened, given what each word says, and closed, as a writing of commands is
--- (`stringAnswer`, `stringLeft`); the law `words-as-commands` says so of the words of commands. Assumes nothing.
+-- (`string_answer`, `string_left`); the law `words_as_commands` says so of the words of commands. Assumes nothing.
 use Rattle.std.specs.Prelude.{ℕ, List, [], ◌∷◌, map, length}
 use Rattle.mmc.specs.declared.command.MmcCommand.{MmcCommand}
+use Rattle.mmc.specs.declared.command.MmcCommand.TheVariants.{Stop, Play, DeferredPlay, FastForward, Rewind, RecordStrobe, RecordExit, Pause, Reset, Write, LocateField, LocateTarget, Move, Other}
+use Rattle.codes.specs.TimeCode.{zeroed}
 use Rattle.mmc.specs.declared.length.Kind.TheVariants.{Commands}
 use Rattle.mmc.specs.Strings as S
 use Rattle.fast_mmc.specs.Word.{word_item, OneWord}
@@ -41,3 +43,22 @@ OneWords (c ∷ cs) = OneWord c × OneWords cs
 -- Commands that have no parts, as they are given to be written.
 abbrev pub given_all : List MmcCommand → List (S.Given Commands)
 given_all cs = map (S.given Commands []) cs
+
+-- ---- what a read gives of them
+
+-- A command without parts as it is read back: a blank target with zeros, any other as it was written.
+abbrev pub as_read : MmcCommand → MmcCommand
+as_read Stop = Stop
+as_read Play = Play
+as_read DeferredPlay = DeferredPlay
+as_read FastForward = FastForward
+as_read Rewind = Rewind
+as_read RecordStrobe = RecordStrobe
+as_read RecordExit = RecordExit
+as_read Pause = Pause
+as_read Reset = Reset
+as_read (Write d) = Write d
+as_read (LocateField r) = LocateField r
+as_read (LocateTarget c) = LocateTarget (zeroed c)
+as_read (Move a b) = Move a b
+as_read (Other n d) = Other n d

@@ -7,7 +7,7 @@ ghost use Rattle.fast_mmc.specs.Word.{with_bytes, four_marks, target_word, plain
 use crate::code::{final_of, flat_final, is_status};
 use codes::StandardTimeCode;
 use labels::{MtcTime, TimeCodeType};
-use mmc::MmcCommand;
+use mmc::{MmcCommand, command as names};
 
 // A word is a number that C keeps and hands back, so its cases are numbers and no enum.
 
@@ -60,9 +60,9 @@ pub(crate) fn plain_name(case: u8) -> u8
         return case + 1;
     }
     if case == 7 {
-        return 0x09;
+        return names::PAUSE;
     }
-    0x0D
+    names::MMC_RESET
 }
 
 // ---- a Locate to a time

@@ -15,7 +15,7 @@ use crate::numbers::WrittenNumbers;
 use crate::stores::{store_four, store_locate};
 use codes::{FinalByte, StandardTimeCode, TimeCodeStatus};
 use labels::{MtcTime, TimeCodeType};
-use mmc::{MmcCommand, Position, Writer};
+use mmc::{MmcCommand, Position, Writer, command as names};
 use universal::{SysexError, put, put_part};
 
 // 104, 68, 68, 98 and 28 in their bytes: above 23 hours, 59 minutes, 59 seconds, 29 frames and 99 subframes they make 128 or more.
@@ -157,7 +157,7 @@ fn put_register(out: &mut [u8], place: Position, word: u64) -> Option<usize>
     if out.len() < next || word / 0x1_0000 != 0 || register < 8 || register > 15 {
         return None;
     }
-    store_four(out, place.at, [0x44, 2, 0, register]);
+    store_four(out, place.at, [names::LOCATE, 2, 0, register]);
     Some(next)
 }
 
@@ -179,7 +179,7 @@ fn put_move(out: &mut [u8], place: Position, word: u64) -> Option<usize>
     {
         return None;
     }
-    store_four(out, place.at, [0x4C, 2, destination, source]);
+    store_four(out, place.at, [names::MOVE, 2, destination, source]);
     Some(next)
 }
 

@@ -9,7 +9,7 @@ ghost use Rattle.fast_mmc.specs.Clauses.{ShortWord};
 
 use crate::command::{LOCATE_FIELD, LOCATE_TARGET, MOVE, with_bytes};
 use codes::TimeCodeStatus;
-use mmc::{ItemPlace, Kind, NextItem, Part, next_parts};
+use mmc::{ItemPlace, Kind, NextItem, Part, command as names, next_parts};
 use universal::SysexError;
 
 // Cases and refusals in a word are numbers, since a word is one that C keeps.
@@ -109,9 +109,9 @@ fn read_word(name: u8, data: &[u8], item: ItemPlace) -> u64
     ensures { result ≡ command_word (command_of_case (command_by_name name «data».now) item.name item.«data») }
 {
     match name {
-        0x40 => with_bytes(WRITE, 0, (item.data.len % 256) as u8),
-        0x44 => locate_word(data, item),
-        0x4C => move_word(data, item),
+        names::WRITE => with_bytes(WRITE, 0, (item.data.len % 256) as u8),
+        names::LOCATE => locate_word(data, item),
+        names::MOVE => move_word(data, item),
         _ => other_word(item),
     }
 }
@@ -155,15 +155,15 @@ fn short_word(name: u8) -> Option<u64>
 {
     match name {
         0x00 => None,
-        0x01 => Some(0),
-        0x02 => Some(1),
-        0x03 => Some(2),
-        0x04 => Some(3),
-        0x05 => Some(4),
-        0x06 => Some(5),
-        0x07 => Some(6),
-        0x09 => Some(7),
-        0x0D => Some(8),
+        names::STOP => Some(0),
+        names::PLAY => Some(1),
+        names::DEFERRED_PLAY => Some(2),
+        names::FAST_FORWARD => Some(3),
+        names::REWIND => Some(4),
+        names::RECORD_STROBE => Some(5),
+        names::RECORD_EXIT => Some(6),
+        names::PAUSE => Some(7),
+        names::MMC_RESET => Some(8),
         0x40..=0x77 => None,
         _ => Some(OTHER_ALONE),
     }

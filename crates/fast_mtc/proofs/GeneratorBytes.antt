@@ -16,7 +16,8 @@ use Rattle.mtc.specs.declared.generator.Direction.{Direction}
 use Rattle.mtc.specs.declared.generator.Direction.TheVariants.{Forward, Reverse}
 use Rattle.mtc.specs.declared.generator.MtcGenerator.{MtcGenerator}
 use Rattle.labels.specs.declared.time.MtcTime.{MtcTime}
-use Rattle.fast_mtc.specs.Generator.{direction_at, piece_at, generator_in, moved_to, sent_by, flat_byte}
+use Rattle.fast_mtc.specs.Generator.{direction_at, piece_at, generator_in, flat_byte}
+use Rattle.fast_mtc.specs.Clauses.{moved_to, sent_by}
 use Rattle.fast_mtc.specs.Time.{time_of, time_at, flat_time}
 use Rattle.fast_mtc.specs.declared.generator.FlatByte.{FlatByte}
 use Rattle.fast_mtc.specs.declared.time.FlatTime.{FlatTime}

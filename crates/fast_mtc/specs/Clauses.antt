@@ -1,4 +1,4 @@
--- What only the contracts of inner functions need, on the way to the label calls, `receive` and `full_message`. Assumes nothing.
+-- What only the contracts of inner functions need, on the way to the label calls, `next_byte`, `receive` and `full_message`. Assumes nothing.
 use Rattle.std.specs.Prelude.{ℕ, ◌+◌, ◌-◌, ◌%◌, ◌≤◌, ◌<◌, true, false, cond, List, ◌≡◌, ltb, eqb, length, get_or, Option, Some, None}
 use Rattle.fast_mtc.specs.Reader.{flat_event, way_in, last_in, count_in, first_in, time_in, reader_in}
 use Rattle.labels.specs.St12.{label, frames_per_second}
@@ -8,12 +8,23 @@ use Rattle.mtc.specs.Generator.{opposite}
 use Rattle.mtc.specs.Reader.{ordered, starts, number_after, reader_by_number, event_with, sequence_of_label, sequence_of, completed, after_byte, event_of}
 use Rattle.mtc.specs.declared.generator.Direction.{Direction}
 use Rattle.mtc.specs.declared.generator.Direction.TheVariants.{Forward, Reverse}
+use Rattle.mtc.specs.declared.generator.MtcGenerator.{MtcGenerator}
 use Rattle.mtc.specs.declared.reader.MtcSequence.{MtcSequence}
 
 -- Two bits stand for a rate of so many frames a second.
 pub record RateOf (f b : ℕ) : Type 0 where
   pub frames : f ≡ frames_per_second (type_of b)
   pub bits : b ≡ bits_of (type_of b)
+
+-- ---- a generator
+
+-- At another time.
+abbrev pub moved_to : MtcGenerator → MtcTime → MtcGenerator
+moved_to g t = record { time = t; direction = g.direction; last = g.last; running = g.running }
+
+-- Having just sent a piece.
+abbrev pub sent_by : MtcGenerator → ℕ → MtcGenerator
+sent_by g p = record { time = g.time; direction = g.direction; last = Some p; running = g.running }
 
 -- ---- the order, by the direction
 

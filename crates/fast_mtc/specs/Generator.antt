@@ -6,7 +6,6 @@ use Rattle.fast_mtc.specs.declared.generator.FlatByte.{FlatByte}
 use Rattle.mtc.specs.declared.generator.Direction.{Direction}
 use Rattle.mtc.specs.declared.generator.Direction.TheVariants.{Forward, Reverse}
 use Rattle.mtc.specs.declared.generator.MtcGenerator.{MtcGenerator}
-use Rattle.labels.specs.declared.time.MtcTime.{MtcTime}
 use Rattle.universal.specs.Refusals.{Answer, gives, refused}
 
 -- 0 is forward, any other number reverse.
@@ -51,14 +50,6 @@ generator_in bs =
       last = piece_at (get_or bs 6 0);
       running = is_set (get_or bs 7 0);
     }
-
--- At another time.
-abbrev pub moved_to : MtcGenerator → MtcTime → MtcGenerator
-moved_to g t = record { time = t; direction = g.direction; last = g.last; running = g.running }
-
--- Having just sent a piece.
-abbrev pub sent_by : MtcGenerator → ℕ → MtcGenerator
-sent_by g p = record { time = g.time; direction = g.direction; last = Some p; running = g.running }
 
 -- A byte, or a refusal and byte 0.
 unfoldable pub flat_byte : Answer ℕ → FlatByte

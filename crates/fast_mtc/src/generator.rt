@@ -4,7 +4,8 @@ ghost use Rattle.mtc.specs.Generator.{final, next_byte, after_next_byte, sequenc
 ghost use Rattle.labels.specs.Time.{add_frames};
 ghost use Rattle.mtc.specs.QuarterFrame.{pieces};
 ghost use Rattle.universal.specs.Refusals.{gives};
-ghost use Rattle.fast_mtc.specs.Generator.{direction_at, flat_direction, piece_at, flat_piece, generator_of, flat_generator, generator_in, moved_to, sent_by, flat_byte};
+ghost use Rattle.fast_mtc.specs.Generator.{direction_at, flat_direction, piece_at, flat_piece, generator_of, flat_generator, generator_in, flat_byte};
+ghost use Rattle.fast_mtc.specs.Clauses.{moved_to, sent_by};
 
 use crate::label::next_time;
 use crate::time::{FlatTime, time_at_front};
@@ -161,6 +162,25 @@ fn send(g: &mut [u8; 8], piece: u8) -> FlatByte
     g[LAST] = piece;
     FlatByte {
         refusal: 0,
-        byte: QuarterFrame::piece(time, piece),
+        byte: one_piece(time, piece),
+    }
+}
+
+// One of the eight data bytes of a label, made without the other seven; 0 past piece 7.
+#[tactic(auto, using(mtc::proofs::Laws::pieces_each))]
+fn one_piece(time: MtcTime, piece: u8) -> u8
+    ensures { result ≡ get_or (pieces time) piece 0 }
+{
+    let rate = time.rate;
+    match piece {
+        0 => time.frames % 16,
+        1 => 0x10 + time.frames / 16 % 2,
+        2 => 0x20 + time.seconds % 16,
+        3 => 0x30 + time.seconds / 16 % 4,
+        4 => 0x40 + time.minutes % 16,
+        5 => 0x50 + time.minutes / 16 % 4,
+        6 => 0x60 + time.hours % 16,
+        7 => 0x70 + rate.into_bits() * 2 + time.hours / 16 % 2,
+        _ => 0,
     }
 }

@@ -30,7 +30,7 @@ const BITS_DROP: u8 = 2;
 const BITS_30: u8 = 3;
 
 // A number modulo a day: one below it needs no division.
-fn within(n: u32, day: u32) -> u32
+fn modulo_day(n: u32, day: u32) -> u32
     requires { 0 < day }
     ensures { result ≡ n % day }
 {
@@ -48,9 +48,9 @@ fn reduced(delta: i32, day: u32) -> u32
 {
     if delta < 0 {
         let back = (-1 - delta) as u32;
-        return day - 1 - within(back, day);
+        return day - 1 - modulo_day(back, day);
     }
-    within(delta as u32, day)
+    modulo_day(delta as u32, day)
 }
 
 // A count of a drop-frame day moved by a signed distance, round midnight.
@@ -69,7 +69,7 @@ fn drop_moved(count: u32, delta: i32) -> u32
 // A label as one number: hours in its lowest byte, above them minutes, seconds, frames and the rate. No `From`: neither is a type of this
 // crate.
 #[tactic(auto, unfolding(crate::specs::Label::label_number))]
-fn number_of(t: MtcTime) -> u64
+fn label_number(t: MtcTime) -> u64
     ensures { result ≡ label_number t }
 {
     t.hours as u64
@@ -104,7 +104,7 @@ fn drop_number(n: u32) -> u64
     let minutes = (n * 5 / 8_991) as u16;
     let place = n - (minutes as u32 * DROP_MINUTE + (minutes / 10) as u32 * 2);
     if place < 2 {
-        return number_of(MtcTime::from_frame_count(n, TimeCodeType::Fps30Drop));
+        return label_number(MtcTime::from_frame_count(n, TimeCodeType::Fps30Drop));
     }
     number_in::<30, BITS_DROP>(minutes as u32, place)
 }
@@ -117,7 +117,7 @@ fn even_number_at<const FRAMES: u32, const BITS: u8>(count: u32) -> u64
     requires { RateOf FRAMES BITS × (is_drop_frame (type_of BITS) ≡ false) }
     ensures { result ≡ label_number (label_at count (type_of BITS)) }
 {
-    let n = within(count, DAY * FRAMES);
+    let n = modulo_day(count, DAY * FRAMES);
     let minutes = n / (60 * FRAMES);
     let place = n - minutes * (60 * FRAMES);
     number_in::<FRAMES, BITS>(minutes, place)
@@ -146,11 +146,11 @@ pub fn frame_count(t: MtcTime) -> u32
     let frames = t.frames as u32;
     if rate.into_bits() == BITS_DROP {
         let n = minutes * DROP_MINUTE + t.seconds as u32 * 30 + frames;
-        return within(n + minutes / 10 * 2, DAY_DROP);
+        return modulo_day(n + minutes / 10 * 2, DAY_DROP);
     }
     let seconds = minutes * 60 + t.seconds as u32;
     let per_second = rate.frames_per_second() as u32;
-    within(seconds * per_second + frames, DAY * per_second)
+    modulo_day(seconds * per_second + frames, DAY * per_second)
 }
 
 // The number of `MtcTime::from_frame_count`.
@@ -159,7 +159,7 @@ pub fn number_at(count: u32, rate: TimeCodeType) -> u64
     ensures { result ≡ label_number (label_at count rate) }
 {
     if rate.into_bits() == BITS_DROP {
-        return drop_number(within(count, DAY_DROP));
+        return drop_number(modulo_day(count, DAY_DROP));
     }
     even_number(count, rate)
 }

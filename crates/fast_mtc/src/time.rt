@@ -52,7 +52,7 @@ impl From<FlatTime> for MtcTime {
 }
 
 // The label of five bytes: no `From`, as neither is a type of this crate.
-pub fn time_in(bytes: &[u8; 5]) -> MtcTime
+pub fn time_of_bytes(bytes: &[u8; 5]) -> MtcTime
     ensures { result ≡ time_at bytes.now 0 }
 {
     time_at_front(bytes)

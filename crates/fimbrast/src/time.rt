@@ -7,7 +7,7 @@ ghost use Rattle.fast_mtc.specs.Refusal.{refusal_in};
 ghost use Rattle.fast_mtc.specs.Time.{time_of, time_at, flat_time, frame_of, flat_frame};
 
 use fast_mtc::label::{frame_count, number_after, number_at};
-use fast_mtc::time::{EightBytes, FlatFrame, FlatTime, flat_new, time_in, time_numbered};
+use fast_mtc::time::{EightBytes, FlatFrame, FlatTime, flat_new, time_numbered, time_of_bytes};
 use mtc::{MtcTime, QuarterFrame, TimeCodeType};
 
 // The frames of a counting second: 24, 25 or 30.
@@ -44,7 +44,7 @@ pub fn fimbrast_next_valid(time: FlatTime) -> FlatTime
 pub fn fimbrast_to_frame_count(time: &[u8; 5]) -> u32
     ensures { result ≡ frame_count (time_at time.now 0) }
 {
-    frame_count(time_in(time))
+    frame_count(time_of_bytes(time))
 }
 
 // `MtcTime::from_frame_count`: the label of a count, round midnight.

@@ -1,4 +1,4 @@
--- A signed distance modulo a day: how the code reduces it by its sign, and the laws of `modZ` for any modulus. Assumes nothing.
+-- A signed distance modulo a day: how the code reduces it by its sign, and the laws of `mod_z` for any modulus. Assumes nothing.
 use Prim.Native.Nat.{ℕ, suc, ◌+◌, ◌-◌, ◌*◌, ◌/◌, ◌%◌, ◌≤◌, ◌<◌}
 use mathlib.Core.Path.{◌≡◌, refl, sym, ap, ap₂, ◌∙◌}
 use mathlib.Core.Bool.{Bool, true, false, cond, true≢false}

@@ -11,7 +11,8 @@ use Rattle.mmc.specs.declared.part.Part.{Part}
 use Rattle.mmc.specs.Command.{CommandCase, next_command, stop, play, deferred_play, fast_forward, rewind, record_strobe, record_exit, pause, reset, write, other, locate_field, locate_target, move}
 use Rattle.mmc.specs.Field.{FieldCase, time_code_field, short_field, next_field, other_field}
 use Rattle.mmc.specs.Part.{is_inside, part_of}
-use Rattle.mmc.specs.Rp013Commands.{Command, STOP, PLAY, DEFERRED-PLAY, FAST-FORWARD, REWIND, RECORD-STROBE, RECORD-EXIT, PAUSE, MMC-RESET, WRITE, LOCATE_FIELD, LOCATE_TARGET, MOVE, received_bytes, IsFf, IsCommand, SELECTED-TIME-CODE, GP0, field_name, HasForm, Field, FULL, SHORT, field_bytes}
+use Rattle.mmc.specs.Rp013Commands as P
+use Rattle.mmc.specs.Rp013Commands.{byte_of, Command, STOP, PLAY, DEFERRED-PLAY, FAST-FORWARD, REWIND, RECORD-STROBE, RECORD-EXIT, PAUSE, MMC-RESET, WRITE, LOCATE_FIELD, LOCATE_TARGET, MOVE, received_bytes, IsFf, IsCommand, SELECTED-TIME-CODE, GP0, field_name, HasForm, Field, FULL, SHORT, field_bytes}
 use Rattle.mmc.specs.Strings.{item, item_bytes, item_fits}
 use Rattle.codes.specs.Rp013Code.{allowed, short_allowed}
 use Rattle.codes.specs.TimeCode.{read_five, read_two, zeroed}
@@ -61,20 +62,20 @@ pub record FieldAt (body : List ℕ) (place : ℕ) (p : Field) : Type 0 where
 -- The names and data that are read as each case. Beyond the page: any register but 00H, any five bytes as a target, any two names
 -- but 00H, and a Write's data whatever they are.
 abbrev pub ReadsAs : CommandCase → List ℕ → List ℕ → Type 0
-ReadsAs stop name d = name ≡ 0x01 ∷ []
-ReadsAs play name d = name ≡ 0x02 ∷ []
-ReadsAs deferred_play name d = name ≡ 0x03 ∷ []
-ReadsAs fast_forward name d = name ≡ 0x04 ∷ []
-ReadsAs rewind name d = name ≡ 0x05 ∷ []
-ReadsAs record_strobe name d = name ≡ 0x06 ∷ []
-ReadsAs record_exit name d = name ≡ 0x07 ∷ []
-ReadsAs pause name d = name ≡ 0x09 ∷ []
-ReadsAs reset name d = name ≡ 0x0D ∷ []
-ReadsAs write name d = name ≡ 0x40 ∷ []
-ReadsAs (locate_field r) name d = (name ≡ 0x44 ∷ []) × (past : List ℕ) × (d ≡ 0x00 ∷ r ∷ past) × (r ≢ 0x00)
+ReadsAs stop name d = name ≡ byte_of P.Stop ∷ []
+ReadsAs play name d = name ≡ byte_of P.Play ∷ []
+ReadsAs deferred_play name d = name ≡ byte_of P.DeferredPlay ∷ []
+ReadsAs fast_forward name d = name ≡ byte_of P.FastForward ∷ []
+ReadsAs rewind name d = name ≡ byte_of P.Rewind ∷ []
+ReadsAs record_strobe name d = name ≡ byte_of P.RecordStrobe ∷ []
+ReadsAs record_exit name d = name ≡ byte_of P.RecordExit ∷ []
+ReadsAs pause name d = name ≡ byte_of P.Pause ∷ []
+ReadsAs reset name d = name ≡ byte_of P.MmcReset ∷ []
+ReadsAs write name d = name ≡ byte_of P.Write ∷ []
+ReadsAs (locate_field r) name d = (name ≡ byte_of P.Locate ∷ []) × (past : List ℕ) × (d ≡ 0x00 ∷ r ∷ past) × (r ≢ 0x00)
 ReadsAs (locate_target c) name d =
-    (name ≡ 0x44 ∷ []) × (five : List ℕ) × (past : List ℕ) × (length five ≡ 5) × (d ≡ 0x01 ∷ (five ++ past)) × (c ≡ read_five five)
-ReadsAs (move a b) name d = (name ≡ 0x4C ∷ []) × (past : List ℕ) × (d ≡ a ∷ b ∷ past) × (a ≢ 0x00) × (b ≢ 0x00)
+    (name ≡ byte_of P.Locate ∷ []) × (five : List ℕ) × (past : List ℕ) × (length five ≡ 5) × (d ≡ 0x01 ∷ (five ++ past)) × (c ≡ read_five five)
+ReadsAs (move a b) name d = (name ≡ byte_of P.Move ∷ []) × (past : List ℕ) × (d ≡ a ∷ b ∷ past) × (a ≢ 0x00) × (b ≢ 0x00)
 ReadsAs other name d = ⊥
 
 -- A field's name, 01H to 1FH.
@@ -107,7 +108,7 @@ Writes source C.RecordStrobe = Unit
 Writes source C.RecordExit = Unit
 Writes source C.Pause = Unit
 Writes source C.Reset = Unit
-Writes source (C.Write d) = (is_inside source d ≡ true) × Writable Commands (0x40 ∷ []) (part_of source d)
+Writes source (C.Write d) = (is_inside source d ≡ true) × Writable Commands (byte_of P.Write ∷ []) (part_of source d)
 Writes source (C.LocateField r) = IsCommand (LOCATE_FIELD r)
 Writes source (C.LocateTarget c) = IsFf c.final_byte × (allowed (zeroed c) ≡ true)
 Writes source (C.Move d s) = IsCommand (MOVE d s)

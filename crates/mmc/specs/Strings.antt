@@ -16,6 +16,7 @@ use Rattle.mmc.specs.Length.{length_of}
 use Rattle.mmc.specs.Named.{name_fits, last_of_name}
 use Rattle.mmc.specs.Part.{part, part_of}
 use Rattle.mmc.specs.Rp013.{Item, IsItem}
+use Rattle.mmc.specs.Rp013Commands as P
 use Rattle.mmc.specs.Split.{split_at, ItemPlace, Next, next, next_as, parts_of}
 use Rattle.codes.specs.TimeCode.{standard_list, short_list, zeroed}
 use Rattle.universal.specs.Emission.{Emission, sent, ◌then◌}
@@ -191,19 +192,19 @@ fields_read body = read_from Fields body 0
 
 -- A command as an item.
 unfoldable pub command_pair : List ℕ → MmcCommand → Item
-command_pair source C.Stop = item (1 ∷ []) []
-command_pair source C.Play = item (2 ∷ []) []
-command_pair source C.DeferredPlay = item (3 ∷ []) []
-command_pair source C.FastForward = item (4 ∷ []) []
-command_pair source C.Rewind = item (5 ∷ []) []
-command_pair source C.RecordStrobe = item (6 ∷ []) []
-command_pair source C.RecordExit = item (7 ∷ []) []
-command_pair source C.Pause = item (9 ∷ []) []
-command_pair source C.Reset = item (13 ∷ []) []
-command_pair source (C.Write d) = item (64 ∷ []) (part_of source d)
-command_pair source (C.LocateField r) = item (68 ∷ []) (0 ∷ r ∷ [])
-command_pair source (C.LocateTarget c) = item (68 ∷ []) (1 ∷ standard_list c)
-command_pair source (C.Move d s) = item (76 ∷ []) (d ∷ s ∷ [])
+command_pair source C.Stop = item (P.byte_of P.Stop ∷ []) []
+command_pair source C.Play = item (P.byte_of P.Play ∷ []) []
+command_pair source C.DeferredPlay = item (P.byte_of P.DeferredPlay ∷ []) []
+command_pair source C.FastForward = item (P.byte_of P.FastForward ∷ []) []
+command_pair source C.Rewind = item (P.byte_of P.Rewind ∷ []) []
+command_pair source C.RecordStrobe = item (P.byte_of P.RecordStrobe ∷ []) []
+command_pair source C.RecordExit = item (P.byte_of P.RecordExit ∷ []) []
+command_pair source C.Pause = item (P.byte_of P.Pause ∷ []) []
+command_pair source C.Reset = item (P.byte_of P.MmcReset ∷ []) []
+command_pair source (C.Write d) = item (P.byte_of P.Write ∷ []) (part_of source d)
+command_pair source (C.LocateField r) = item (P.byte_of P.Locate ∷ []) (0 ∷ r ∷ [])
+command_pair source (C.LocateTarget c) = item (P.byte_of P.Locate ∷ []) (1 ∷ standard_list c)
+command_pair source (C.Move d s) = item (P.byte_of P.Move ∷ []) (d ∷ s ∷ [])
 command_pair source (C.Other n d) = item (part_of source n) (part_of source d)
 
 -- A field as an item.

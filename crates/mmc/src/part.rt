@@ -1,5 +1,5 @@
 // A part of lent bytes, by its start and length: it stands for a slice beside the bytes that it belongs to. Document 01 asks for this form
-// in commands and fields, which then go by value and stand in records for C.
+// in commands and fields, which then go by value.
 ghost use Rattle.std.specs.Prelude.{◌≡◌};
 ghost use Rattle.mmc.specs.Part.{is_inside, part_of};
 

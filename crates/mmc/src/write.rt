@@ -35,7 +35,7 @@ pub struct Wrote {
 }
 
 // The writer of an opening. No `From`: with one, anyone could make a writer at a position.
-fn writer_of(opened: Result<usize, SysexError>) -> Writer
+fn opened_writer(opened: Result<usize, SysexError>) -> Writer
     ensures { writing_of result ≡ opens_at (answer_of opened) }
 {
     match opened {
@@ -64,7 +64,7 @@ pub fn open_commands(out: &mut [u8], device_id: u8) -> Writer
         sub_id1: COMMAND,
         sub_id2: None,
     };
-    writer_of(header.open(out))
+    opened_writer(header.open(out))
 }
 
 // Opens a response string: F0H, 7FH, the device, 07H. A response comes from one device, so 7FH is refused.
@@ -86,7 +86,7 @@ pub fn open_responses(out: &mut [u8], device_id: u8) -> Writer
         sub_id1: RESPONSE,
         sub_id2: None,
     };
-    writer_of(header.open(out))
+    opened_writer(header.open(out))
 }
 
 // Opens a string of fields, for the data of a Write: it has no envelope and no device.
@@ -117,10 +117,6 @@ impl Writer {
     fn ready(self) -> Result<(), SysexError>
         ensures { stop_of result ≡ ready (writing_of self) }
     {
-        // Most often it is its own; handed on as it is, it is not made anew.
-        if self.items < MOST_ITEMS && self.at <= MOST_POSITION {
-            return self.checked;
-        }
         self.or_failed()?;
         if self.items == MOST_ITEMS {
             return Err(SysexError::ItemLimit);

@@ -1,12 +1,12 @@
 -- The laws that readers and upper crates cite: quarter frames, the full message and user bits, and what they mean by RP-004/008;
 -- the stream law. Assumes nothing.
 use Rattle.std.specs.Prelude.{Option}
-use Prim.Native.Nat.{ℕ, ◌+◌, ◌*◌, ◌%◌, ◌<◌}
+use Prim.Native.Nat.{ℕ, ◌+◌, ◌*◌, ◌/◌, ◌%◌, ◌<◌}
 use mathlib.Core.Path.{◌≡◌, refl}
 use mathlib.Core.List.{List, [], ◌∷◌, map}
 use lib.Dec.{T}
 use Rattle.labels.specs.St12.{is_valid, label_before}
-use Rattle.labels.specs.Time.{add_frames}
+use Rattle.labels.specs.Time.{add_frames, bits_of}
 use Rattle.labels.specs.declared.time.MtcTime.{MtcTime}
 use Rattle.mtc.specs.declared.generator.Direction.{Direction}
 use Rattle.mtc.specs.declared.generator.Direction.TheVariants.{Forward, Reverse}
@@ -51,6 +51,20 @@ byte_again = QuarterFrames.byte_again
 -- More is taken than the page has: a byte from 80H on is read as the same byte without bit 7.
 pub high_bit_ignored : (b : ℕ) → from_byte (b + 128) ≡ from_byte b
 high_bit_ignored = QuarterFrames.high_bit_ignored
+
+-- A label's data bytes one by one.
+pub pieces_each : (t : MtcTime) → pieces t
+    ≡ (t.frames % 16)
+    ∷ (0x10 + t.frames / 16 % 2)
+    ∷ (0x20 + t.seconds % 16)
+    ∷ (0x30 + t.seconds / 16 % 4)
+    ∷ (0x40 + t.minutes % 16)
+    ∷ (0x50 + t.minutes / 16 % 4)
+    ∷ (0x60 + t.hours % 16)
+    ∷ (0x70 + bits_of t.rate * 2 + t.hours / 16 % 2)
+    ∷ []
+unfolding pieces
+pieces_each t = refl
 
 -- A label's data bytes are RP-004/008's, where its numbers fit their widths.
 pub pieces_practice : (t : MtcTime) → InWidths t → pieces t ≡ data_bytes t

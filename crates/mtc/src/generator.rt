@@ -167,6 +167,6 @@ fn send(time: MtcTime, direction: Direction, piece: u8) -> Sent
             last: Some(piece),
             running: true,
         },
-        byte: Ok(QuarterFrame::piece(time, piece)),
+        byte: Ok(QuarterFrame::pieces(time)[piece as usize]),
     }
 }

@@ -51,23 +51,4 @@ impl QuarterFrame {
             0x70 + rate.into_bits() * 2 + h / 16 % 2,
         ]
     }
-
-    // One of them; 0 past piece 7.
-    #[tactic(auto, unfolding(crate::specs::QuarterFrame::pieces))]
-    pub fn piece(time: MtcTime, piece: u8) -> u8
-        ensures { result ≡ get_or (pieces time) piece 0 }
-    {
-        let rate = time.rate;
-        match piece {
-            0 => time.frames % 16,
-            1 => 0x10 + time.frames / 16 % 2,
-            2 => 0x20 + time.seconds % 16,
-            3 => 0x30 + time.seconds / 16 % 4,
-            4 => 0x40 + time.minutes % 16,
-            5 => 0x50 + time.minutes / 16 % 4,
-            6 => 0x60 + time.hours % 16,
-            7 => 0x70 + rate.into_bits() * 2 + time.hours / 16 % 2,
-            _ => 0,
-        }
-    }
 }

@@ -1,8 +1,8 @@
 -- Demand 3, as document 01 reads it ("Sequence", second paragraph): a list of commands is written, its string is read back from the
 -- bytes left in the buffer, its commands are applied one by one as they are read, and a reader gets the generator's next twenty-four
--- bytes. The lists are folded with the definitions in the contracts of the calls: `stringAnswer` and `stringOf` with those of the
--- writer, `messageFrom` and `nextCommand` with those of the reading, `applied` with that of the transport, `bytesSent`, `afterCalls` and
--- `events` with those of generator and reader. Assumes nothing.
+-- bytes. The lists are folded with the definitions in the contracts of the calls: `string_answer` and `string_of` with those of
+-- the writer, `message_from` and `next_command` with those of the reading, `applied` with that of the transport, `bytes_sent`,
+-- `after_calls` and `events` with those of generator and reader. Assumes nothing.
 use Rattle.std.specs.Prelude.{ℕ, zero, suc, ◌≤◌, ◌≡◌, false, List, [], ◌∷◌, ◌++◌, T, Option, Some, None}
 use Rattle.transport.specs.Transport.{Reply, Outcome, resolved, applied}
 use Rattle.mmc.specs.declared.command.MmcCommand.{MmcCommand}
@@ -111,8 +111,8 @@ pub record Promised (s : List ℕ) (device own : ℕ) (g : MtcGenerator) (calls 
   pub answers : Answers calls Forward t (events (after_calls fresh calls) (bytes_sent 24 (obeyed s own g).generator))
 
 -- Demand 3: for every list of commands, each with its lent source, whose writing into any buffer is accepted (its close answers a
--- length, which is so just where none of its calls is refused: `accepted-none-refused` of mmc), every device that addresses the transport's own, any generator, and any
--- list of calls that the reader got before, from fresh on.
+-- length, which is so just where none of its calls is refused: `accepted_none_refused` of mmc), every device that addresses the
+-- transport's own, any generator, and any list of calls that the reader got before, from fresh on.
 abbrev pub Demand3 : Type 0
 Demand3 =
     (gs : List (Given Commands)) (device own : ℕ) (out : List ℕ) (n : ℕ) (g : MtcGenerator) (calls : List Call) (t : MtcTime)

@@ -64,7 +64,7 @@ refused_given : {A : Type 0} (r : Refusal) (m : A) → refused r ≡ gives m →
 refused_given r m e = let z : ◌≡◌ {A = ℕ} 0 1 = cc in omega arith
 
 module _ {A : Type 0} (sub_id2 size : ℕ) (made : ℕ → List ℕ → A) where
-  -- What `readKind` answers of a message and its data.
+  -- What `read_kind` answers of a message and its data.
   abbrev pub reading : Universal → List ℕ → Answer (Option A)
   reading u bs = read_kind (is_time_code u sub_id2) (eqb (length bs) size) (made u.device_id bs)
 

@@ -3,4 +3,4 @@ use Rattle.mmc.proofs.Writing.WriterCalls.{opens_commands}
 use Rattle.mmc.proofs.write.open_commands.Goals as goal
 
 pub returns-clause-result_value : goal.returns-clause-result_value
-returns-clause-result_value c = opens_commands _ _ _ c.writer_of.ensures c.«open».ensures.result_value
+returns-clause-result_value c = opens_commands _ _ _ c.opened_writer.ensures c.«open».ensures.result_value

@@ -5,7 +5,7 @@ use Rattle.mmc.proofs.Writing.WriterCalls.{opens_responses, response_opening}
 use Rattle.mmc.proofs.write.open_responses.Goals as goal
 
 pub returns-clause-result_value : goal.returns-clause-result_value
-returns-clause-result_value c = opens_responses _ _ _ c.if-device_id-eq127.false c.writer_of.ensures c.«open».ensures.result_value
+returns-clause-result_value c = opens_responses _ _ _ c.if-device_id-eq127.false c.opened_writer.ensures c.«open».ensures.result_value
 
 pub returns-clause-out_after : goal.returns-clause-out_after
 returns-clause-out_after c =
