@@ -2,9 +2,10 @@
 //!
 //! It reads the exported calls of `crates/fimbrast_c/src`, which it holds to those of `crates/fimbrast/src`, the records and numbers
 //! that they pass, the refusals of `crates/universal/src/error.rt` and the version in `bindings/rust/Cargo.toml`, all under ROOT.
-//! Under OUT it writes the header, the Rust declarations, where the fields of the records lie, and the Rattle files that have the
-//! version. What it does not understand it refuses, and writes nothing.
+//! Under OUT it writes the header, the Rust declarations, the Rust enum of the refusals, where the fields of the records lie, and the
+//! Rattle files that have the version. What it does not understand it refuses, and writes nothing.
 
+mod cases;
 mod header;
 mod layout;
 mod library;
@@ -24,6 +25,7 @@ use version::Version;
 
 const HEADER: &str = include_str!("../templates/fimbrast.h");
 const RUST: &str = include_str!("../templates/ffi.rs");
+const CASES: &str = include_str!("../templates/refusals.rs");
 const LAYOUT: &str = include_str!("../templates/layout.c");
 
 fn main() -> ExitCode {
@@ -56,6 +58,10 @@ fn made(root: &Path) -> Result<Vec<(&'static str, String)>, String> {
         (
             "bindings/rust/src/ffi.rs",
             rust::made(RUST, HEADER, &library, &refusals, &version)?,
+        ),
+        (
+            "bindings/rust/src/refusals.rs",
+            cases::made(CASES, &refusals)?,
         ),
         ("bindings/c/layout.c", layout::program(LAYOUT, &library)?),
         ("bindings/c/layout.out", layout::expected(&library)?),

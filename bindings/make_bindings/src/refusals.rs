@@ -1,15 +1,21 @@
-//! The refusals with their numbers, from the one place where a refusal becomes a number.
+//! The refusals with their numbers and words, from the one place where a refusal becomes a number.
 
 /// Where that is.
 pub const PLACE: &str = "crates/universal/src/error.rt";
+/// How a case is written that gives the length that is needed; no other field is known.
+const NEEDED: &str = " { needed: usize }";
 
 /// A refusal.
 #[derive(Debug, PartialEq, Eq)]
 pub struct Refusal {
     pub number: u8,
+    /// As Rattle and Rust have it: DataByte.
+    pub case: String,
     /// As C has it: DATA_BYTE.
     pub name: String,
     pub words: String,
+    /// It gives the length that is needed.
+    pub needed: bool,
 }
 
 /// All of them, in the order of their numbers.
@@ -21,19 +27,15 @@ pub struct Refusals {
 impl Refusals {
     /// Reads the cases of `SysexError`, each under a comment `// NUMBER: words.`, and holds the numbers to those of `number`.
     pub fn parse(text: &str) -> Result<Self, String> {
-        let mut all = Vec::new();
-        let mut above = None;
+        let (mut all, mut above) = (Vec::new(), Vec::new());
         let cases = text.lines().skip_while(|l| *l != "pub enum SysexError {");
         for line in cases.skip(1).take_while(|l| *l != "}").map(str::trim) {
             if let Some(note) = line.strip_prefix("// ") {
-                above = Some(note);
+                above.push(note);
                 continue;
             }
-            let case: String = line
-                .chars()
-                .take_while(|c| c.is_ascii_alphanumeric())
-                .collect();
-            all.push(refusal(&case, above.take(), text).map_err(|w| format!("{PLACE}: {w}"))?);
+            let notes = std::mem::take(&mut above);
+            all.push(refusal(line, &notes, text).map_err(|w| format!("{PLACE}: {w}"))?);
         }
         if all.is_empty() {
             return Err(format!("{PLACE} has no `pub enum SysexError`"));
@@ -42,19 +44,48 @@ impl Refusals {
     }
 }
 
-fn refusal(case: &str, note: Option<&str>, text: &str) -> Result<Refusal, String> {
+/// The refusal of a line of the enum, the comments over it, and the whole file.
+fn refusal(line: &str, notes: &[&str], text: &str) -> Result<Refusal, String> {
+    let (case, needed) = case(line).ok_or(format!(
+        "`{line}` is not written `NAME,` or `NAME{NEEDED},`, as a case of `SysexError` is"
+    ))?;
     let number = numbered(case, text).ok_or(format!("`number` has no line for {case}"))?;
-    let (told, words) = note
-        .and_then(|n| n.split_once(": "))
-        .ok_or(format!("{case} has no comment `// NUMBER: words.` over it"))?;
+    let (told, words) = told(notes).ok_or(format!(
+        "{case} has no comment over it that is one line `// NUMBER: words.`"
+    ))?;
     if told != number.to_string() {
         return Err(format!("{case} is {number}, and its comment says {told}"));
     }
+    // They stand in a comment of C and in a string of Rust.
+    if words.contains(['"', '\\', '{', '}']) || words.contains("*/") {
+        return Err(format!(
+            "the words of {case} have a quotation mark, a backslash, a brace or `*/`"
+        ));
+    }
     Ok(Refusal {
         number,
+        case: case.to_string(),
         name: snake(case).to_uppercase(),
-        words: words.trim_end_matches('.').to_string(),
+        words: words.to_string(),
+        needed,
     })
+}
+
+/// A case's name, and whether it gives the length that is needed.
+fn case(line: &str) -> Option<(&str, bool)> {
+    let whole = line.strip_suffix(',')?;
+    let (name, needed) = match whole.strip_suffix(NEEDED) {
+        Some(name) => (name, true),
+        None => (whole, false),
+    };
+    let is_name = !name.is_empty() && name.chars().all(|c| c.is_ascii_alphanumeric());
+    is_name.then_some((name, needed))
+}
+
+/// What the comment over a case says: the number and the words.
+fn told<'a>(notes: &[&'a str]) -> Option<(&'a str, &'a str)> {
+    let [note] = notes else { return None };
+    note.strip_suffix('.')?.split_once(": ")
 }
 
 /// What `number` answers for a case.
@@ -84,25 +115,66 @@ pub fn snake(name: &str) -> String {
 mod tests {
     use super::Refusals;
 
-    fn source(told: u8, answered: &str) -> String {
+    fn source(comment: &str, fields: &str, answered: &str) -> String {
         format!(
-            "pub enum SysexError {{\n    // {told}: a byte.\n    DataByte {{ n: u8 }},\n}}\n\
-             fn number() {{\n    SysexError::DataByte {{ n: _ }} => {answered},\n}}\n"
+            "pub enum SysexError {{\n    // {comment}\n    DataByte{fields},\n}}\n\
+             fn number() {{\n    SysexError::DataByte => {answered},\n}}\n"
         )
+    }
+
+    fn why(comment: &str, fields: &str, answered: &str) -> String {
+        Refusals::parse(&source(comment, fields, answered)).unwrap_err()
     }
 
     #[test]
     fn a_refusal_is_read() {
-        let one = &Refusals::parse(&source(1, "1")).unwrap().all[0];
-        let parts = (one.number, one.name.as_str(), one.words.as_str());
-        assert_eq!(parts, (1, "DATA_BYTE", "a byte"));
+        let one = &Refusals::parse(&source("1: a byte.", "", "1")).unwrap().all[0];
+        let names = (one.case.as_str(), one.name.as_str());
+        assert_eq!(names, ("DataByte", "DATA_BYTE"));
+        let rest = (one.number, one.words.as_str(), one.needed);
+        assert_eq!(rest, (1, "a byte", false));
+    }
+
+    #[test]
+    fn a_case_with_the_needed_length_is_read() {
+        let text = source("1: a byte.", " { needed: usize }", "1");
+        let text = text.replace("SysexError::DataByte", "SysexError::DataByte { needed: _ }");
+        let one = &Refusals::parse(&text).unwrap().all[0];
+        assert_eq!((one.case.as_str(), one.needed), ("DataByte", true));
+    }
+
+    #[test]
+    fn another_field_is_refused() {
+        for fields in [
+            " { n: u8 }",
+            " { needed: u8 }",
+            " { needed: usize, n: u8 }",
+            "(usize)",
+            " {\n        needed: usize,\n    }",
+        ] {
+            assert!(why("1: a byte.", fields, "1").contains("is not written `NAME,` or `NAME {"));
+        }
     }
 
     #[test]
     fn a_number_that_differs_is_refused() {
-        let why = Refusals::parse(&source(2, "1")).unwrap_err();
-        assert!(why.contains("DataByte is 1, and its comment says 2"));
-        assert!(Refusals::parse(&source(1, "x")).is_err());
+        assert!(why("2: a byte.", "", "1").contains("DataByte is 1, and its comment says 2"));
+        assert!(why("1: a byte.", "", "x").contains("`number` has no line for DataByte"));
         assert!(Refusals::parse("").is_err());
+    }
+
+    #[test]
+    fn words_that_cannot_be_taken_are_refused() {
+        for comment in ["a byte.", "1: a byte", "1: a byte.\n    // And more."] {
+            assert!(why(comment, "", "1").contains("DataByte has no comment"));
+        }
+        for comment in [
+            "1: a \"byte\".",
+            "1: a {byte}.",
+            "1: a byte \\.",
+            "1: a */ byte.",
+        ] {
+            assert!(why(comment, "", "1").contains("the words of DataByte have"));
+        }
     }
 }

@@ -19,8 +19,8 @@ const LABEL_ANSWERS: [&str; 3] = [
 const LABEL: (&str, &str) = ("FlatTime", "MtcTime");
 
 /// The longest line, and the longest list of what a call is given.
-const WIDTH: usize = 100;
-const GIVEN: usize = 60;
+pub const WIDTH: usize = 100;
+pub const GIVEN: usize = 60;
 
 /// The whole file.
 pub fn made(

@@ -44,6 +44,7 @@ extern crate std;
 #[doc(hidden)]
 #[allow(missing_docs, unsafe_code)]
 pub mod ffi;
+mod refusals;
 #[allow(unsafe_code)]
 mod words;
 

@@ -433,11 +433,14 @@ fn the_version_is_the_archives() {
 
 #[test]
 fn refusals() {
+    let mut said = Vec::new();
     for number in 1..=255 {
         let refusal = SysexError::of(number, 7);
         assert_eq!(refusal.number(), number);
         assert_eq!(SysexError::check(number), Err(SysexError::of(number, 0)));
-        assert!(!refusal.to_string().is_empty());
+        let words = refusal.to_string();
+        assert!(!words.is_empty() && !said.contains(&words), "{words}");
+        said.push(words);
         // Each refusal of the library has its name here, and no other number has one.
         let named = refusal != SysexError::Unknown(number);
         assert_eq!(named, ffi::REFUSALS.contains(&number));
@@ -448,10 +451,7 @@ fn refusals() {
     );
     assert_eq!(SysexError::check(0), Ok(()));
     let small = SysexError::BufferTooSmall { needed: 14 };
-    assert_eq!(
-        small.to_string(),
-        "the buffer is too small: 14 bytes needed"
-    );
+    assert!(small.to_string().ends_with(": 14 bytes needed"));
     assert_eq!(format!("{small:?}"), "BufferTooSmall { needed: 14 }");
     let _: &dyn core::error::Error = &small;
 }

@@ -6,115 +6,20 @@
 //!
 //! A writer gives the length it wrote, or [`SysexError::BufferTooSmall`] with the length it needs.
 
-use core::fmt;
-
 use crate::ffi;
+
+pub use crate::refusals::SysexError;
 
 /// The device ID that addresses all devices (p. 35).
 pub const ALL_DEVICES: u8 = 0x7F;
 
-/// Why a reading or a writing was turned back. A later version may have more of them.
-#[derive(Debug, Clone, Copy, PartialEq, Eq, Hash)]
-#[non_exhaustive]
-pub enum SysexError {
-    /// 1: a byte above 7FH in a name or in data to be written.
-    DataByte,
-    /// 2: a length that the format does not allow.
-    Length,
-    /// 3: a value outside the range of its field.
-    OutOfRange,
-    /// 4: the buffer is shorter than the whole output.
-    BufferTooSmall {
-        /// The length of the whole output.
-        needed: usize,
-    },
-    /// 5: a device above 127.
-    Device,
-    /// 6: a part that is not inside the lent source.
-    Source,
-    /// 7: a Locate target that is blank or not valid.
-    Target,
-    /// 8: the generator is stopped.
-    Stopped,
-    /// 9: the place is at or past the end.
-    End,
-    /// 10: 256 items were already accepted in this writing.
-    ItemLimit,
-    /// A number that this version of the crate has no name for.
-    Unknown(u8),
-}
-
 impl SysexError {
-    /// The number of the refusal.
-    ///
-    /// ```
-    /// use fimbrast::universal::SysexError;
-    ///
-    /// assert_eq!(SysexError::Length.number(), 2);
-    /// assert_eq!(SysexError::BufferTooSmall { needed: 14 }.number(), 4);
-    /// ```
-    pub const fn number(self) -> u8 {
-        match self {
-            Self::DataByte => ffi::REFUSED_DATA_BYTE,
-            Self::Length => ffi::REFUSED_LENGTH,
-            Self::OutOfRange => ffi::REFUSED_OUT_OF_RANGE,
-            Self::BufferTooSmall { .. } => ffi::REFUSED_BUFFER_TOO_SMALL,
-            Self::Device => ffi::REFUSED_DEVICE,
-            Self::Source => ffi::REFUSED_SOURCE,
-            Self::Target => ffi::REFUSED_TARGET,
-            Self::Stopped => ffi::REFUSED_STOPPED,
-            Self::End => ffi::REFUSED_END,
-            Self::ItemLimit => ffi::REFUSED_ITEM_LIMIT,
-            Self::Unknown(number) => number,
-        }
-    }
-
-    /// The refusal of a number that is not 0, with the needed length for 4.
-    #[inline]
-    pub(crate) const fn of(number: u8, needed: usize) -> Self {
-        match number {
-            ffi::REFUSED_DATA_BYTE => Self::DataByte,
-            ffi::REFUSED_LENGTH => Self::Length,
-            ffi::REFUSED_OUT_OF_RANGE => Self::OutOfRange,
-            ffi::REFUSED_BUFFER_TOO_SMALL => Self::BufferTooSmall { needed },
-            ffi::REFUSED_DEVICE => Self::Device,
-            ffi::REFUSED_SOURCE => Self::Source,
-            ffi::REFUSED_TARGET => Self::Target,
-            ffi::REFUSED_STOPPED => Self::Stopped,
-            ffi::REFUSED_END => Self::End,
-            ffi::REFUSED_ITEM_LIMIT => Self::ItemLimit,
-            number => Self::Unknown(number),
-        }
-    }
-
     /// Nothing for 0, else the refusal.
     #[inline]
     pub(crate) const fn check(number: u8) -> Result<(), Self> {
         match number {
             0 => Ok(()),
             n => Err(Self::of(n, 0)),
-        }
-    }
-}
-
-impl fmt::Display for SysexError {
-    fn fmt(&self, f: &mut fmt::Formatter<'_>) -> fmt::Result {
-        match self {
-            Self::DataByte => f.write_str("a data byte above 7FH"),
-            Self::Length => f.write_str("a length that the format does not allow"),
-            Self::OutOfRange => f.write_str("a value out of the range of its field"),
-            Self::BufferTooSmall { needed } => {
-                write!(f, "the buffer is too small: {needed} bytes needed")
-            }
-            Self::Device => f.write_str("a device above 127"),
-            Self::Source => f.write_str("a part that is not inside its source"),
-            Self::Target => f.write_str("a Locate target that is blank or not valid"),
-            Self::Stopped => f.write_str("the generator is stopped"),
-            Self::End => f.write_str("the place is at or past the end"),
-            Self::ItemLimit => f.write_str("256 items were already accepted"),
-            Self::Unknown(number) => {
-                write!(f, "refusal {number}, which this crate has no name for")
-            }
         }
     }
 }
