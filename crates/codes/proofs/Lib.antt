@@ -1,9 +1,9 @@
 mod AcceptedCodes
-mod CodeAnswers
 mod BeyondPage
 mod Bits
+mod CodeAnswers
+mod LabelWidths
 pub mod Laws
 mod Names
 mod ReadByPage
-mod ToBytes
 mod WrittenAgain

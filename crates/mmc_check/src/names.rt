@@ -1,4 +1,4 @@
-// The names that the Machine Control practice gives to commands and time code fields (RP-013).
+// The names that the Machine Control practice gives to commands and time code fields (RP-013), known to the library or not.
 use crate::say::Byte;
 use std::fmt;
 use std::fmt::Display;

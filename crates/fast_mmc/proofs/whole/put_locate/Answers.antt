@@ -4,4 +4,5 @@ use Rattle.fast_mmc.proofs.whole.put_locate.Goals as goal
 
 pub returns : goal.returns
 returns c =
-    put_usual _ _ _ _ c.requires (c.is_in_range.ensures c.if-not-is_in_range.false).top (usual_of _ (c.is_in_range.ensures c.if-not-is_in_range.false) (c.is_kept.ensures c.if-not-is_kept.false)) c.store_locate.ensures
+    let range = c.is_in_range.ensures c.if-not-is_in_range.false in
+    put_usual _ _ _ _ c.requires range.top (usual_of _ range (c.is_kept.ensures c.if-not-is_kept.false)) c.store_locate.ensures

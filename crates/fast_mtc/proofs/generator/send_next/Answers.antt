@@ -6,5 +6,5 @@ use Rattle.fast_mtc.proofs.generator.send_next.Goals as goal
 
 pub returns : goal.returns
 returns c =
-    moves_on c.args.g.now _ _ _ _ c.requires.0 c.direction_at-direction.ensures (c.requires.1 ∙ ap final (sym c.direction_at-direction.ensures))
-    c.first.ensures.0 c.move_on.ensures c.send.ensures
+    let way = c.direction_at-direction.ensures in
+    moves_on c.args.g.now _ _ _ _ c.requires.0 way (c.requires.1 ∙ ap final (sym way)) c.first.ensures.0 c.move_on.ensures c.send.ensures

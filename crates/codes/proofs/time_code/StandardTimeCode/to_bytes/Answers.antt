@@ -1,6 +1,6 @@
 -- `codes::time_code::StandardTimeCode::to_bytes`: a label that passed its check fits its widths. Assumes nothing.
 use native.Mathlib.Omega.{arith}
-use Rattle.codes.proofs.ToBytes.{label_widths}
+use Rattle.codes.proofs.LabelWidths.{label_widths}
 use Rattle.codes.proofs.time_code.StandardTimeCode.to_bytes.Goals as goal
 
 pub overflow_add-mn : goal.overflow_add-mn

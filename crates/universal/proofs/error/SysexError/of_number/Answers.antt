@@ -41,4 +41,16 @@ returns-in-9 c = rw c.in-9.is
 
 pub returns-in_default : goal.returns-in_default
 unfolding error_of
-returns-in_default c = rw (ne_eqb _ _ c.in_default.in_default-own.rest.0.0.0.0.0.0.0.0.1, ne_eqb _ _ c.in_default.in_default-own.rest.0.0.0.0.0.0.0.1, ne_eqb _ _ c.in_default.in_default-own.rest.0.0.0.0.0.0.1, ne_eqb _ _ c.in_default.in_default-own.rest.0.0.0.0.0.1, ne_eqb _ _ c.in_default.in_default-own.rest.0.0.0.0.1, ne_eqb _ _ c.in_default.in_default-own.rest.0.0.0.1, ne_eqb _ _ c.in_default.in_default-own.rest.0.0.1, ne_eqb _ _ c.in_default.in_default-own.rest.0.1, ne_eqb _ _ c.in_default.in_default-own.rest.1)
+returns-in_default c =
+    let others = c.in_default.in_default-own.rest in
+    rw (
+      ne_eqb _ _ others.0.0.0.0.0.0.0.0.1,
+      ne_eqb _ _ others.0.0.0.0.0.0.0.1,
+      ne_eqb _ _ others.0.0.0.0.0.0.1,
+      ne_eqb _ _ others.0.0.0.0.0.1,
+      ne_eqb _ _ others.0.0.0.0.1,
+      ne_eqb _ _ others.0.0.0.1,
+      ne_eqb _ _ others.0.0.1,
+      ne_eqb _ _ others.0.1,
+      ne_eqb _ _ others.1,
+    )
