@@ -2,6 +2,7 @@
 
 use crate::refusals::{Refusal, Refusals};
 use crate::rust::{GIVEN, WIDTH};
+use crate::templates;
 
 /// Where the arms of a match stand, and what an arm holds.
 const ARM: &str = "            ";
@@ -9,23 +10,16 @@ const HELD: &str = "                ";
 
 /// The whole file.
 pub fn made(template: &str, refusals: &Refusals) -> Result<String, String> {
-    let mut text = String::new();
-    for line in template.lines() {
+    templates::filled(template, |line| {
         let writer = match line {
             "@cases" => case,
             "@numbers" => number,
             "@back" => back,
-            "@words" => words,
-            _ if line.starts_with('@') => return Err(crate::unknown(line)),
-            _ => {
-                text.push_str(line);
-                text.push('\n');
-                continue;
-            }
+            "@words" => saying,
+            _ => return Ok(None),
         };
-        text.extend(refusals.all.iter().map(writer));
-    }
-    Ok(text)
+        Ok(Some(refusals.all.iter().map(writer).collect()))
+    })
 }
 
 /// The case, under its comment.
@@ -58,9 +52,9 @@ fn back(refusal: &Refusal) -> String {
 }
 
 /// The case to its words.
-fn words(refusal: &Refusal) -> String {
+fn saying(refusal: &Refusal) -> String {
     let said = match refusal.needed {
-        true => write(&format!("\"{}: {{needed}} bytes needed\"", refusal.words)),
+        true => written(&format!("\"{}: {{needed}} bytes needed\"", refusal.words)),
         false => format!("f.write_str(\"{}\")", refusal.words),
     };
     arm(&format!("Self::{}", with_needed(refusal)), &said)
@@ -73,11 +67,11 @@ fn with_needed(refusal: &Refusal) -> String {
 }
 
 /// A `write!` of words with numbers in them, in one line or with a line for each part.
-fn write(words: &str) -> String {
-    let list = format!("f, {words}");
+fn written(quoted: &str) -> String {
+    let list = format!("f, {quoted}");
     match list.len() <= GIVEN {
         true => format!("write!({list})"),
-        false => format!("write!(\n{HELD}    f,\n{HELD}    {words}\n{HELD})"),
+        false => format!("write!(\n{HELD}    f,\n{HELD}    {quoted}\n{HELD})"),
     }
 }
 

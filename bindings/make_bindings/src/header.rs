@@ -4,6 +4,7 @@ use crate::library::{Declared, Library, Module, EXPORTS};
 use crate::parse::{Call, Field, Record, Type};
 use crate::passed::{scalar, Passed};
 use crate::refusals::Refusals;
+use crate::templates;
 use crate::version::Version;
 
 /// The longest line of a declaration.
@@ -18,24 +19,20 @@ pub fn made(
 ) -> Result<String, String> {
     let mut header = Header {
         library,
-        text: String::new(),
         seen: Vec::new(),
         headings: Vec::new(),
         modules: Vec::new(),
     };
-    for line in version.filled(template).lines() {
-        match line.split_once(' ') {
-            _ if line == "@refusals" => header.text.push_str(&list(refusals)),
+    let text = templates::filled(&version.filled(template), |line| {
+        Ok(Some(match line.split_once(' ') {
+            _ if line == "@refusals" => list(refusals),
             Some(("@heading", name)) => header.heading(library.module(name)?),
             Some(("@module", name)) => header.module(library.module(name)?)?,
-            _ if line.starts_with('@') => return Err(crate::unknown(line)),
-            _ => {
-                header.text.push_str(line);
-                header.text.push('\n');
-            }
-        }
-    }
-    header.whole()
+            _ => return Ok(None),
+        }))
+    })?;
+    header.whole()?;
+    Ok(text)
 }
 
 /// The refusals as numbers with names.
@@ -50,7 +47,6 @@ fn list(refusals: &Refusals) -> String {
 
 struct Header<'a> {
     library: &'a Library,
-    text: String,
     /// The types that are declared.
     seen: Vec<String>,
     /// The modules whose heading is written, and those that are.
@@ -59,8 +55,8 @@ struct Header<'a> {
 }
 
 impl<'a> Header<'a> {
-    /// The text, where each module has its place.
-    fn whole(self) -> Result<String, String> {
+    /// Whether each module has its place.
+    fn whole(&self) -> Result<(), String> {
         for module in &self.library.modules {
             if !self.modules.contains(&module.name.as_str()) {
                 return Err(format!(
@@ -70,17 +66,16 @@ impl<'a> Header<'a> {
                 ));
             }
         }
-        Ok(self.text)
+        Ok(())
     }
 
     /// The heading of a module, before text that is to stand under it.
-    fn heading(&mut self, module: &'a Module) {
+    fn heading(&mut self, module: &'a Module) -> String {
         self.headings.push(&module.name);
-        self.text
-            .push_str(&format!("/* ---- {} */\n", module.heading));
+        format!("/* ---- {} */\n", module.heading)
     }
 
-    fn module(&mut self, module: &'a Module) -> Result<(), String> {
+    fn module(&mut self, module: &'a Module) -> Result<String, String> {
         if self.modules.contains(&module.name.as_str()) {
             return Err(format!(
                 "the header's template has the module {} twice",
@@ -88,28 +83,30 @@ impl<'a> Header<'a> {
             ));
         }
         self.modules.push(&module.name);
+        let mut text = String::new();
         if !self.headings.contains(&module.name.as_str()) {
-            self.heading(module);
-            self.text.push('\n');
+            text.push_str(&self.heading(module));
+            text.push('\n');
         }
         for call in &module.calls {
-            self.types(call)?;
+            text.push_str(&self.types(call)?);
         }
         for call in &module.calls {
             let line = prototype(self.library, call).map_err(|w| format!("{}: {w}", call.name))?;
-            self.text.push_str(&comment("", &call.notes));
-            self.text.push_str(&line);
+            text.push_str(&comment("", &call.notes));
+            text.push_str(&line);
         }
-        Ok(())
+        Ok(text)
     }
 
     /// Declares the types of a call that are not yet declared.
-    fn types(&mut self, call: &Call) -> Result<(), String> {
+    fn types(&mut self, call: &Call) -> Result<String, String> {
+        let mut text = String::new();
         for name in self.library.used_by(call)? {
             if self.seen.contains(&name) {
                 continue;
             }
-            let text = match self.library.declared(&name)? {
+            let one = match self.library.declared(&name)? {
                 Declared::Record(record) => record_text(self.library, record)?,
                 Declared::Alias(alias) => {
                     let c = self.library.c_name(&name);
@@ -117,11 +114,11 @@ impl<'a> Header<'a> {
                     comment("", &alias.notes) + &line
                 }
             };
-            self.text.push_str(&text);
-            self.text.push('\n');
+            text.push_str(&one);
+            text.push('\n');
             self.seen.push(name);
         }
-        Ok(())
+        Ok(text)
     }
 }
 

@@ -13,6 +13,7 @@ mod parse;
 mod passed;
 mod refusals;
 mod rust;
+mod templates;
 mod version;
 
 use std::path::Path;
@@ -85,11 +86,6 @@ fn write(out: &Path, files: &[(&str, String)]) -> Result<(), String> {
         fs::write(&path, text).map_err(said)?;
     }
     Ok(())
-}
-
-/// Why a template's line that begins with `@` is refused.
-fn unknown(line: &str) -> String {
-    format!("a template has the line `{line}`, which stands for nothing")
 }
 
 /// The text of a file.

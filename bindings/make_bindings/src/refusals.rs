@@ -4,6 +4,8 @@
 pub const PLACE: &str = "crates/universal/src/error.rt";
 /// How a case is written that gives the length that is needed; no other field is known.
 const NEEDED: &str = " { needed: usize }";
+/// The case that the template of the Rust enum adds.
+const ADDED: &str = "Unknown";
 
 /// A refusal.
 #[derive(Debug, PartialEq, Eq)]
@@ -25,7 +27,8 @@ pub struct Refusals {
 }
 
 impl Refusals {
-    /// Reads the cases of `SysexError`, each under a comment `// NUMBER: words.`, and holds the numbers to those of `number`.
+    /// Reads the cases of `SysexError`, each under a comment `// NUMBER: words.`, and holds the numbers to those of `number` and to
+    /// their order.
     pub fn parse(text: &str) -> Result<Self, String> {
         let (mut all, mut above) = (Vec::new(), Vec::new());
         let cases = text.lines().skip_while(|l| *l != "pub enum SysexError {");
@@ -35,7 +38,13 @@ impl Refusals {
                 continue;
             }
             let notes = std::mem::take(&mut above);
-            all.push(refusal(line, &notes, text).map_err(|w| format!("{PLACE}: {w}"))?);
+            let one = refusal(line, &notes, text).and_then(|one| in_order(one, all.last()));
+            all.push(one.map_err(|w| format!("{PLACE}: {w}"))?);
+        }
+        if let Some(note) = above.first() {
+            return Err(format!(
+                "{PLACE}: the comment `// {note}` of `SysexError` has no case under it"
+            ));
         }
         if all.is_empty() {
             return Err(format!("{PLACE} has no `pub enum SysexError`"));
@@ -49,6 +58,11 @@ fn refusal(line: &str, notes: &[&str], text: &str) -> Result<Refusal, String> {
     let (case, needed) = case(line).ok_or(format!(
         "`{line}` is not written `NAME,` or `NAME{NEEDED},`, as a case of `SysexError` is"
     ))?;
+    if case == ADDED {
+        return Err(format!(
+            "a case of `SysexError` is named {ADDED}, as the one that bindings/make_bindings/templates/refusals.rs adds"
+        ));
+    }
     let number = numbered(case, text).ok_or(format!("`number` has no line for {case}"))?;
     let (told, words) = told(notes).ok_or(format!(
         "{case} has no comment over it that is one line `// NUMBER: words.`"
@@ -69,6 +83,17 @@ fn refusal(line: &str, notes: &[&str], text: &str) -> Result<Refusal, String> {
         words: words.to_string(),
         needed,
     })
+}
+
+/// The refusal, where its number is above that of the one before.
+fn in_order(refusal: Refusal, before: Option<&Refusal>) -> Result<Refusal, String> {
+    match before {
+        Some(before) if refusal.number <= before.number => Err(format!(
+            "{} is {}, which is not above {}, the number of {} before it",
+            refusal.case, refusal.number, before.number, before.case
+        )),
+        _ => Ok(refusal),
+    }
 }
 
 /// A case's name, and whether it gives the length that is needed.
@@ -113,7 +138,7 @@ pub fn snake(name: &str) -> String {
 
 #[cfg(test)]
 mod tests {
-    use super::Refusals;
+    use super::{Refusals, ADDED};
 
     fn source(comment: &str, fields: &str, answered: &str) -> String {
         format!(
@@ -161,6 +186,46 @@ mod tests {
         assert!(why("2: a byte.", "", "1").contains("DataByte is 1, and its comment says 2"));
         assert!(why("1: a byte.", "", "x").contains("`number` has no line for DataByte"));
         assert!(Refusals::parse("").is_err());
+    }
+
+    #[test]
+    fn a_number_that_is_not_above_the_one_before_is_refused() {
+        let two = |first: u8, second: u8| {
+            let one = source(&format!("{first}: a byte."), "", &first.to_string());
+            let more = format!("DataByte,\n    // {second}: a length.\n    Length,\n}}");
+            let text = one.replace("DataByte,\n}", &more);
+            Refusals::parse(&format!("{text}SysexError::Length => {second},\n"))
+        };
+        for second in [3, 4, 9] {
+            assert_eq!(two(2, second).unwrap().all[1].number, second);
+        }
+        for second in [1, 2] {
+            let expected =
+                format!("Length is {second}, which is not above 2, the number of DataByte");
+            assert!(two(2, second).unwrap_err().contains(&expected));
+        }
+    }
+
+    #[test]
+    fn a_comment_under_the_last_case_is_refused() {
+        for note in ["2: a length.", "And more."] {
+            let text = source("1: a byte.", "", "1");
+            let text = text.replace(",\n}\nfn", &format!(",\n    // {note}\n}}\nfn"));
+            let why = Refusals::parse(&text).unwrap_err();
+            assert!(why.contains(&format!(
+                "the comment `// {note}` of `SysexError` has no case"
+            )));
+        }
+    }
+
+    #[test]
+    fn the_case_that_the_template_adds_is_refused() {
+        assert!(crate::CASES.contains(&format!("    {ADDED}(u8),\n")));
+        for fields in ["", " { needed: usize }"] {
+            let text = source("1: a byte.", fields, "1").replace("DataByte", ADDED);
+            let why = Refusals::parse(&text).unwrap_err();
+            assert!(why.contains("a case of `SysexError` is named Unknown"));
+        }
     }
 
     #[test]

@@ -5,6 +5,7 @@ use crate::library::{Declared, Library, Module};
 use crate::parse::{Call, Field, Record, Type};
 use crate::passed::{scalar, Passed};
 use crate::refusals::Refusals;
+use crate::templates;
 use crate::version::Version;
 
 /// The module whose calls take and give labels as the crate's own type: a rate that they answer is proved to be 0 to 3, and no
@@ -30,22 +31,17 @@ pub fn made(
     refusals: &Refusals,
     version: &Version,
 ) -> Result<String, String> {
-    let mut text = String::new();
-    for line in version.filled(template).lines() {
-        match line {
-            "@constants" => text.push_str(&constants(header)?),
-            "@refusals" => text.push_str(&list(refusals)),
-            "@types" => text.push_str(&types(library)?),
-            "@calls" => text.push_str(&each(library, declaration)?),
-            "@lent" => text.push_str(&each(library, lending)?),
-            "@layout" => text.push_str(&layout::table(library)?),
-            _ if line.starts_with('@') => return Err(crate::unknown(line)),
-            _ => {
-                text.push_str(line);
-                text.push('\n');
-            }
-        }
-    }
+    let text = templates::filled(&version.filled(template), |line| {
+        Ok(Some(match line {
+            "@constants" => constants(header)?,
+            "@refusals" => list(refusals),
+            "@types" => types(library)?,
+            "@calls" => each(library, declaration)?,
+            "@lent" => each(library, lending)?,
+            "@layout" => layout::table(library)?,
+            _ => return Ok(None),
+        }))
+    })?;
     Ok(text.trim_end().to_string() + "\n")
 }
 
