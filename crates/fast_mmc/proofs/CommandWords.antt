@@ -288,7 +288,7 @@ word_move_back a b h k =
     let t = told_two 12 a b (lit≤ tt) h k in
     sym (is_word (with_bytes 12 a b) (Move a b) (said_move (with_bytes 12 a b) (omega (arith, t.0)) t.0 ∙ ap₂ (λ (m n : ℕ). Some (Move m n)) t.1.0 t.1.1) refl)
 
--- The word of a command is written as that command, for all but Write and another command.
+-- The word of a name alone, of a Locate or of a Move with values of a byte is written as that command.
 pub command_word_back : (c : MmcCommand) → OneWord c → word_command (command_word c) ≡ Some c
 unfolding command_word plain_command
 command_word_back Stop o = plain_back 0 Stop (lit≤ tt) refl

@@ -130,7 +130,7 @@ word_reads_back w c e h =
     ∙ ap next_word k
     ∙ ap (λ (x : Emission). record { word = command_word (as_read c); place = length x.bytes }) (sym i)
 
--- What is not blank reads back as the same word.
+-- A command that a read gives back as it was reads back as the same word.
 pub same_word_back : (w : ℕ) (c : MmcCommand) → word_command w ≡ Some c → as_read c ≡ c → (word_item w).stop ≡ None
     → next_word (next_command (word_item w).bytes 0) ≡ record { word = w; place = length (word_item w).bytes }
 same_word_back w c e z h =

@@ -1,5 +1,5 @@
 -- A command as one number, its word: the case in the lowest byte, in the source's order, and above it what the case has. Which number
--- is the word of which command is said once, by `command_word`; `word_command` is its inverse. Assumes nothing.
+-- is the word of which command is said once, by `command_word`; `word_command` is its inverse on names alone, Locate and Move with values of a byte. Assumes nothing.
 use Rattle.std.specs.Prelude.{ℕ, ◌+◌, ◌*◌, ◌/◌, ◌%◌, ◌<◌, cond, [], eqb, ltb, Option, Some, None}
 use Rattle.mmc.specs.declared.command.MmcCommand.{MmcCommand}
 use Rattle.mmc.specs.declared.command.MmcCommand.TheVariants.{Stop, Play, DeferredPlay, FastForward, Rewind, RecordStrobe, RecordExit, Pause, Reset, Write, LocateField, LocateTarget, Move, Other}

@@ -2,10 +2,11 @@
 -- (`string_answer`, `string_left`); the law `words_as_commands` says so of the words of commands. Assumes nothing.
 use Rattle.std.specs.Prelude.{ℕ, List, [], ◌∷◌, map, length}
 use Rattle.mmc.specs.declared.command.MmcCommand.{MmcCommand}
-use Rattle.mmc.specs.declared.command.MmcCommand.TheVariants.{Stop, Play, DeferredPlay, FastForward, Rewind, RecordStrobe, RecordExit, Pause, Reset, Write, LocateField, LocateTarget, Move, Other}
-use Rattle.codes.specs.TimeCode.{zeroed}
 use Rattle.mmc.specs.declared.length.Kind.TheVariants.{Commands}
+use Rattle.mmc.specs.Command.{command_of_case}
+use Rattle.mmc.specs.Part.{part}
 use Rattle.mmc.specs.Strings as S
+use Rattle.mmc.specs.Strings.{command_back}
 use Rattle.fast_mmc.specs.Word.{word_item, OneWord}
 use Rattle.mmc.specs.Write.{Writing, opened_commands, begun, out_after, writing_after, closed_message, whole_message}
 use Rattle.mmc.specs.Writings.{State}
@@ -48,17 +49,4 @@ given_all cs = map (S.given Commands []) cs
 
 -- A command without parts as it is read back: a blank target with zeros, any other as it was written.
 abbrev pub as_read : MmcCommand → MmcCommand
-as_read Stop = Stop
-as_read Play = Play
-as_read DeferredPlay = DeferredPlay
-as_read FastForward = FastForward
-as_read Rewind = Rewind
-as_read RecordStrobe = RecordStrobe
-as_read RecordExit = RecordExit
-as_read Pause = Pause
-as_read Reset = Reset
-as_read (Write d) = Write d
-as_read (LocateField r) = LocateField r
-as_read (LocateTarget c) = LocateTarget (zeroed c)
-as_read (Move a b) = Move a b
-as_read (Other n d) = Other n d
+as_read c = command_of_case (command_back [] c) (part 0 0) (part 0 0)

@@ -63,8 +63,8 @@ pub(crate) fn give_word(out: &mut [u8], writer: Writer, word: u64) -> Writer
     writer.put_command(out, &[], given_command(word)).writer
 }
 
-// The rest of the words, by the writer, from a position and so many items on, and the close. A part of `write_words` it would make every
-// message save registers.
+// The rest of the words, by the writer, from a position and so many items on, and the close. As a part of `write_words` it would
+// make every message save registers.
 #[inline(never)]
 fn put_rest(out: &mut [u8], words: &[u64], at: usize, items: usize) -> WrittenNumbers
     ensures value { result ≡ written_numbers (whole_message (after_words (open_writing at items) out.old words.now).writing (length out.old)) }
@@ -255,9 +255,9 @@ fn put_start(out: &mut [u8], device_id: u8)
     put_part(out, 0, &[0xF0, 0x7F, device_id, 0x06]);
 }
 
-// A message into a buffer that ends before its opening does.
+// A whole message by the writer from its first word on.
 #[inline(never)]
-fn write_short(out: &mut [u8], device_id: u8, words: &[u64]) -> WrittenNumbers
+fn write_by_writer(out: &mut [u8], device_id: u8, words: &[u64]) -> WrittenNumbers
     requires { device_id ≤ 127 }
     ensures value { result ≡ written_numbers (words_answer device_id words.now out.old) }
     ensures out_after { out.new ≡ words_left device_id words.now out.old }
@@ -274,13 +274,10 @@ pub fn write_words(out: &mut [u8], device_id: u8, words: &[u64]) -> WrittenNumbe
     if device_id > 0x7F {
         return WrittenNumbers::from(Err(SysexError::Device));
     }
-    // Where the four bytes fit, the compiler checks none of them for room.
-    if out.len() < 4 {
-        return write_short(out, device_id, words);
+    // Where the four bytes of the opening fit, the compiler checks none of them for room.
+    if out.len() < 4 || words.len() > MOST_COMMANDS {
+        return write_by_writer(out, device_id, words);
     }
     put_start(out, device_id);
-    if words.len() > MOST_COMMANDS {
-        return put_rest(out, words, 4, 0);
-    }
     put_words(out, words)
 }

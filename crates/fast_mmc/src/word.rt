@@ -129,7 +129,7 @@ fn locate_word(data: &[u8], item: ItemPlace) -> u64
 }
 
 // Move, where both names are given.
-#[tactic(auto, unfolding(crate::specs::Word::command_word, mmc::specs::Command::read_move))]
+#[tactic(auto, unfolding(crate::specs::Word::command_word), using(mmc::proofs::ReadingLaws::move_short, mmc::proofs::ReadingLaws::move_no_destination, mmc::proofs::ReadingLaws::move_no_source, mmc::proofs::ReadingLaws::move_both))]
 fn move_word(data: &[u8], item: ItemPlace) -> u64
     ensures { result ≡ command_word (command_of_case (read_move «data».now) item.name item.«data») }
 {

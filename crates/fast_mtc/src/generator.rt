@@ -9,7 +9,7 @@ ghost use Rattle.fast_mtc.specs.Clauses.{moved_to, sent_by};
 
 use crate::label::next_time;
 use crate::time::{FlatTime, time_at_front};
-use mtc::{Direction, MtcGenerator, MtcTime, QuarterFrame};
+use mtc::{Direction, MtcGenerator, MtcTime};
 use universal::SysexError;
 
 // The records here are for C, which has no Option and no Result: a flag or a refusal stands beside the value.
@@ -127,8 +127,8 @@ pub fn next_byte(g: &mut [u8; 8]) -> FlatByte
     send_next(g)
 }
 
-// The same after the last piece of a sequence: the first piece of the next one. One byte in eight comes here; a part of `next_byte` would
-// make the seven others save registers.
+// The same after the last piece of a sequence: the first piece of the next one. One byte in eight comes here; as a part of `next_byte` it
+// would make the seven others save registers.
 #[inline(never)]
 fn send_next(g: &mut [u8; 8]) -> FlatByte
     requires { (get_or g.now 7 0 ≡ 0 → ⊥) × (get_or g.now 6 0 ≡ final (direction_at (get_or g.now 5 0))) }

@@ -2,7 +2,7 @@
 ghost use Rattle.std.specs.Prelude.{◌≡◌, ◌+◌, ◌≤◌, ◌<◌, get_or, Some, None};
 ghost use Rattle.mtc.specs.QuarterFrame.{piece_of, value_of};
 ghost use Rattle.mtc.specs.Reader.{after_byte, event_of};
-ghost use Rattle.mtc.specs.Generator.{after, final, opposite};
+ghost use Rattle.mtc.specs.Generator.{after, opposite};
 ghost use Rattle.mtc.specs.declared.generator.Direction.{Direction};
 ghost use Rattle.mtc.specs.declared.generator.Direction.TheVariants.{Forward, Reverse};
 ghost use Rattle.fast_mtc.specs.Reader.{reader_in, flat_event};

@@ -1,7 +1,6 @@
 -- Reading strings: the splitter, the walk, and what commands and fields are read as. Assumes nothing.
 pub mod CommandReading
 pub mod CommandTests
-pub mod FieldTests
 pub mod FoundInside
 pub mod FrontItem
 pub mod ItemsFound

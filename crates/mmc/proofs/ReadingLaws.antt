@@ -27,7 +27,7 @@ use Rattle.mmc.specs.Strings.{Walk, before, walk_from, reads_of, item_at, walk, 
 use Rattle.universal.specs.Refusals.{Refusal, Answer, gives, refused, refusal, refusal_of}
 use Rattle.universal.specs.declared.error.SysexError.{SysexError}
 -- A Locate, a Move and a name by their bytes, as the parts that they stand at.
-pub use Rattle.mmc.proofs.Reading.CommandTests.{locate_short, locate_no_register, locate_register, locate_unknown, locate_cut, locate_target, move_short, move_no_destination, move_no_source, move_both, long_name, by_byte, unknown_byte, unknown_name}
+pub use Rattle.mmc.proofs.Reading.CommandTests.{locate_short, locate_no_register, locate_register, locate_unknown, locate_cut, locate_to_time, move_short, move_no_destination, move_no_source, move_both, long_name, by_byte, unknown_byte, unknown_name}
 -- A byte of a range, below it, and from its end on.
 pub use Rattle.mmc.proofs.RangeTests.{within_range, below_range, above_range}
 use Rattle.mmc.proofs.Reading.ItemsFound

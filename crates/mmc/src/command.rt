@@ -1,6 +1,6 @@
 // Commands (RP-013, pp. 14, 20 to 32): a name and its data read into a case, and the next command of a string.
 ghost use Rattle.mmc.specs.Split.{next_item_of};
-ghost use Rattle.std.specs.Prelude.{◌≡◌, ◌<◌, ◌≤◌, length, List, ℕ};
+ghost use Rattle.std.specs.Prelude.{◌≡◌, ◌<◌, List, ℕ};
 ghost use Rattle.mmc.specs.Split.{parts_as};
 ghost use Rattle.mmc.specs.Command.{read_command, read_locate, read_move, command_of_case, next_command};
 

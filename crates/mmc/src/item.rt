@@ -186,7 +186,7 @@ fn put_time_code(out: &mut [u8], place: Position, field: u8, code: StandardTimeC
 }
 
 // The short form of one, by the name 20H higher.
-#[tactic(auto, using(universal::proofs::Laws::overlay_none, universal::proofs::Laws::overlay_then, crate::proofs::Writing::ItemPuts::short_code, crate::proofs::Writing::ItemPuts::fits_below), unfolding(crate::specs::Item::short_code_item))]
+#[tactic(auto, using(universal::proofs::Laws::overlay_none, universal::proofs::Laws::overlay_then, crate::proofs::Writing::ItemPuts::short_as_code, crate::proofs::Writing::ItemPuts::fits_below), unfolding(crate::specs::Item::short_code_item))]
 fn put_short_code(out: &mut [u8], place: Position, field: u8, code: ShortTimeCode) -> Put
     ensures result_value { put_of result ≡ extent_of (short_code_item field code) }
     ensures out_after { out.new ≡ overlay out.old place.at (short_code_item field code).bytes }

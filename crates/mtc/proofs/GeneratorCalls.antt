@@ -1,9 +1,9 @@
 -- The generator: what its proofs cite. Assumes nothing.
 use Rattle.std.specs.Prelude.{Option, Some, None}
-use Prim.Native.Nat.{ℕ, ◌+◌, ◌%◌, ◌≤◌}
+use Prim.Native.Nat.{ℕ, ◌≤◌}
 use mathlib.Core.Bool.{Bool, true, false, cond}
 use mathlib.Core.List.{List, [], ◌∷◌}
-use mathlib.Core.Path.{◌≡◌, ◌∙◌}
+use mathlib.Core.Path.{◌≡◌}
 use native.Mathlib.Omega.{arith}
 use lib.Dec.{T, lit≤, le→leb}
 use lib.ListN.{get_or}
@@ -14,8 +14,7 @@ use Rattle.labels.specs.declared.time.MtcTime.{MtcTime}
 use Rattle.mtc.specs.declared.generator.Direction.{Direction}
 use Rattle.mtc.specs.declared.generator.Direction.TheVariants.{Forward, Reverse}
 use Rattle.mtc.specs.declared.generator.MtcGenerator.{MtcGenerator}
-use Rattle.mtc.specs.declared.generator.Sent.{Sent}
-use Rattle.universal.specs.Refusals.{gives, refused, refusal, answer_of}
+use Rattle.universal.specs.Refusals.{gives, refused, refusal}
 
 -- ---- a last piece above 7 is none
 
@@ -27,13 +26,6 @@ pub sends : (g : MtcGenerator) {m : Option ℕ} {t : MtcTime} {p : ℕ}
     → (gives (get_or (pieces t) p 0) ≡ next_byte g) × (sent_at t g.direction p ≡ after_next_byte g)
 unfolding next_byte after_next_byte
 sends g r k et ep = (rw (r, k, et, ep), rw (r, k, et, ep))
-
--- So it is with an answer that sends that piece.
-pub answers : (g : MtcGenerator) (s : Sent) {m : Option ℕ} {t : MtcTime} {p : ℕ}
-    → g.running ≡ true → known g.last ≡ m → t ≡ time_next g.direction m g.time → p ≡ piece_next g.direction m
-    → (answer_of s.byte ≡ gives (get_or (pieces t) p 0)) × (s.generator ≡ sent_at t g.direction p)
-    → (answer_of s.byte ≡ next_byte g) × (s.generator ≡ after_next_byte g)
-answers g s r k et ep q = let e = sends g r k et ep in (q.0 ∙ e.0, q.1 ∙ e.1)
 
 -- A stopped one refuses and stays as it is.
 pub stopped_refuses : (g : MtcGenerator) → g.running ≡ false → (refused (refusal 8) ≡ next_byte g) × (g ≡ after_next_byte g)
@@ -75,10 +67,3 @@ calls_fit [] g h = h
 calls_fit (c ∷ cs) g h = calls_fit cs (after_generator_call g c) (call_fits g c h)
 
 -- ---- the piece after one
-
--- The piece after one, of the last three bits alone.
-pub next_forward : (l : ℕ) → (l % 8 + 1) % 8 ≡ (l + 1) % 8
-next_forward l = omega arith
-
-pub next_reverse : (l : ℕ) → (l % 8 + 7) % 8 ≡ (l + 7) % 8
-next_reverse l = omega arith

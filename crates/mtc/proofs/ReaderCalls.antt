@@ -8,16 +8,16 @@ use mathlib.Core.Logic.{⊎_elim}
 use native.Mathlib.Nat.{eq-or-lt_of_le}
 use native.Mathlib.Numerals.{add-one}
 use native.Mathlib.Omega.{arith}
-use borrow.Author.Tests.{le-leb, lt-ltb, eq-eqb, ne_eqb}
-use lib.Dec.{T, leb, eqb, leb→le, le→leb}
+use borrow.Author.Tests.{le-leb, eq-eqb, ne_eqb}
+use lib.Dec.{T, leb, leb→le, le→leb}
 use lib.ListN.{get_or, set, take, length}
 use Rattle.mtc.specs.UserBits.{all_nibbles}
 use lib.Seq.{take_all}
 use Rattle.std.specs.List.{list_all}
 use Rattle.std.proofs.lemmas.List.Folds.{list_all_more}
-use Rattle.mtc.specs.Generator.{first, after}
+use Rattle.mtc.specs.Generator.{after}
 use Rattle.mtc.specs.QuarterFrame.{from_byte}
-use Rattle.mtc.specs.Reader.{Standing, nibbles_fit, piece_fits, is_sound, or_fresh, fresh, Control, control, direction_between, ordered, out_of_order, order_of, number_of, passed, stored, completed, sequence_of, reader_by_number, report_by_number, event_with, after_piece, report_of, after_byte, event_of}
+use Rattle.mtc.specs.Reader.{Standing, nibbles_fit, piece_fits, is_sound, or_fresh, fresh, Control, control, direction_between, ordered, out_of_order, order_of, number_of, stored, reader_by_number, report_by_number, event_with, after_piece, report_of, after_byte, event_of}
 use Rattle.mtc.specs.declared.generator.Direction.{Direction}
 use Rattle.mtc.specs.declared.quarter_frame.QuarterFrame.{QuarterFrame}
 use Rattle.mtc.specs.declared.reader.MtcEvent.{MtcEvent}
@@ -124,14 +124,6 @@ module _ (r : MtcReader) where
 
 -- ---- how a piece stands to those before it
 
-module _ (r : Control) (d f : Option Direction) where
-  pub turned : {x y : Direction} → d ≡ Some x → f ≡ Some y → ordered false (Some y) false ≡ out_of_order r d f
-  turned e g = rw (e, g)
-
-  pub second : {y : Direction} → d ≡ None → f ≡ Some y → (r.count ≡ 0 → ⊥) → {b : ℕ} → b ≡ first y
-      → ordered (eqb r.first b) (Some y) true ≡ out_of_order r d f
-  second e g h i = rw (e, g, i, lt-ltb 0 r.count (omega (arith, h)))
-
 module _ (r : Control) (p : ℕ) where
   module _ {l : ℕ} (e : r.last ≡ Some l) where
     pub order_second : {f : Option Direction} → f ≡ direction_between l p → r.direction ≡ None → out_of_order r r.direction f ≡ order_of r p
@@ -146,8 +138,6 @@ module _ (r : Control) (p : ℕ) where
         → out_of_order r (Some d) f ≡ order_of r p
     unfolding order_of
     order_turned i g h = rw (i, e, g, ne_eqb _ _ h)
-
--- ---- a piece's number
 
 -- ---- one byte
 
@@ -168,13 +158,6 @@ module _ (r₀ : MtcReader) (b : ℕ) {r : MtcReader} {q : QuarterFrame} {o : St
   -- The reader and the event that a byte leaves and gives.
   abbrev pub Steps : MtcReader → MtcEvent → Type 0
   Steps s e = (s ≡ after_byte r₀ b) × (e ≡ event_of r₀ b)
-
-  pub passes : {s : MtcReader} {e : MtcEvent} → n ≡ 0 → s ≡ passed r o q.piece → e ≡ event_with q.piece None → Steps s e
-  passes z x y = (x ∙ rw (← after_byte_lem, z), y ∙ rw (← event_byte, z))
-
-  pub completes : {s : MtcReader} {e : MtcEvent} {t : MtcReader} → n ≡ 8 → t ≡ stored r o n q.piece q.value
-      → (s ≡ completed t) × (e ≡ event_with q.piece (Some (sequence_of t))) → Steps s e
-  completes z et x = (x.0 ∙ rw (et, ← after_byte_lem, z), x.1 ∙ rw (et, ← event_byte, z))
 
   pub keeps : {s : MtcReader} {e : MtcEvent} → (n ≡ 0 → ⊥) → (n ≡ 8 → ⊥) → s ≡ stored r o n q.piece q.value
       → e ≡ event_with q.piece None → Steps s e

@@ -1,6 +1,6 @@
 // The data byte of the quarter frame message F1H: 0nnn dddd, piece nnn and value dddd (RP-004/008, p. 1), and the eight
 // data bytes of a label (p. 2).
-ghost use Rattle.std.specs.Prelude.{◌≡◌, get_or};
+ghost use Rattle.std.specs.Prelude.{◌≡◌};
 ghost use Rattle.mtc.specs.QuarterFrame.{from_byte, to_byte, pieces};
 
 use labels::MtcTime;

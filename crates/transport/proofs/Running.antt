@@ -13,7 +13,7 @@ use Rattle.mmc.specs.declared.length.Kind.TheVariants.{Commands}
 use Rattle.mmc.specs.Command.{next_command}
 use Rattle.mtc.specs.declared.generator.MtcGenerator.{MtcGenerator}
 use Rattle.transport.specs.declared.run.Turn.{Turn}
-use Rattle.transport.specs.Demand3.{Run, over, answered, on_read, obey_from, obey}
+use Rattle.transport.specs.Demand3.{Run, over, answered, on_read, obey_from}
 use Rattle.transport.specs.Obey.{CommandReply, TurnOutcome, turn_by, obey_next, command_reply_of, turn_of, one_refused, refused_in, Summary, summed_up, summary_after}
 use Rattle.transport.specs.Transport.{Outcome, applied}
 use Rattle.transport.proofs.Obeying.{obey_more}
@@ -68,13 +68,6 @@ ends_with commands refusals g r =
     ap₂ (λ (a b : ℕ). summed_up g a b r) n k
 
 -- ---- the loop
-
--- No command is read yet.
-pub begins : (body : List ℕ) (device own : ℕ) (g : MtcGenerator)
-    → summary_after 0 0 (obey body device own g) ≡ summary_after 0 0 (obey_from (suc (length body - 0)) body device own 0 g)
-begins body device own g =
-    let m : length body ≡ length body - 0 = omega arith in
-    ap (λ (n : ℕ). summary_after 0 0 (obey_from (suc n) body device own 0 g)) m
 
 module _ (body : List ℕ) (device own place : ℕ) (g : MtcGenerator) (t : Turn) (h : turn_of t ≡ obey_next body device own place g) where
   gives_told : (c : MmcCommand) (r : Result Reply SysexError) → t.answer ≡ Ok (record { command = c; reply = r })

@@ -84,14 +84,6 @@ module _ (real_time : Bool) (device sub_id1 : ℕ) (low : device < 128) (has : B
         (fourth after a)
 
     module _ (sub_id2 : ℕ) (given : has ≡ true) where
-      -- A sub-ID 1 above 7FH, with a sub-ID 2.
-      pub with_high : 127 < sub_id1
-          → EmissionPut (opening (header real_time device sub_id1 (Some sub_id2))) (refused (refusal 3)) out started
-      with_high h =
-          put_refused _ _ (refusal 3) out started
-          (opening_sub_id1 (header real_time device sub_id1 (Some sub_id2)) (le_of_suc-le-suc low) (sym given ∙ rule) h)
-          start
-
       module _ (h : sub_id1 ≤ 127) (middle : List ℕ) (a : middle ≡ overlay started 3 (sub_id1 ∷ [])) where
         -- A sub-ID 2 above 7FH.
         pub with_high_sub_id2 : 127 < sub_id2

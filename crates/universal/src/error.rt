@@ -1,5 +1,5 @@
 // The refusals of document 01, one case each, and the one place where a refusal becomes numbers and back. The definitions stand in
-// specs/Refusals.antt. The header for C has the names, numbers and words of the cases from here.
+// specs/Refusals.antt. The header for C and the enum in Rust have the names, numbers and words of the cases from here.
 ghost use Rattle.std.specs.Prelude.{◌≡◌};
 ghost use Rattle.universal.specs.Refusals.{refusal_of, needed_of, error_of};
 

@@ -33,10 +33,10 @@ module _ (d : List ℕ) (n a : Part) where
   unfolding read_locate
   locate_cut h e l = rw (le-ltb (length d) 2 h, e, lt-ltb (length d) 6 l)
 
-  pub locate_target : 2 ≤ length d → get_or d 0 0 ≡ 1 → 6 ≤ length d
+  pub locate_to_time : 2 ≤ length d → get_or d 0 0 ≡ 1 → 6 ≤ length d
       → LocateTarget (read_standard (get_or d 1 0) (get_or d 2 0) (get_or d 3 0) (get_or d 4 0) (get_or d 5 0)) ≡ command_of_case (read_locate d) n a
   unfolding read_locate
-  locate_target h e l = rw (le-ltb (length d) 2 h, e, le-ltb (length d) 6 l)
+  locate_to_time h e l = rw (le-ltb (length d) 2 h, e, le-ltb (length d) 6 l)
 
   -- ---- move
 

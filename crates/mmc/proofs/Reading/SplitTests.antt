@@ -46,10 +46,6 @@ few_zeros body at = go (eqb (get_or body at 1) 0) (eqb (get_or body (at + 1) 1) 
 -- ---- the data after it
 
 module _ (body : List ℕ) (name : Part) (after len : ℕ) where
-  pub past_the_end : length body < after → None ≡ measured body name after len
-  unfolding measured
-  past_the_end h = rw (lt-leb after (length body) h)
-
   pub too_few : after ≤ length body → length body - after < len → None ≡ measured body name after len
   unfolding measured
   too_few l h = rw (le-leb after (length body) l, lt-leb len (length body - after) h)

@@ -25,14 +25,6 @@ use Rattle.universal.proofs.Laws.{overlay_then, data_sent, data_refused}
 abbrev pub Puts : Emission → List ℕ → ℕ → Extent → List ℕ → Type 0
 Puts e out at o after = (o ≡ extent_of e) × (after ≡ overlay out at e.bytes)
 
--- An emission that is known: so many bytes, put at the position.
-pub puts : (e known : Emission) (out : List ℕ) (at n : ℕ) (after : List ℕ) → e ≡ known → n ≡ length known.bytes
-    → after ≡ overlay out at known.bytes → Puts e out at (record { len = n; stop = known.stop }) after
-puts e known out at n after q l b = (
-  ap (λ (k : ℕ). record { len = k; stop = known.stop }) l ∙ ap extent_of (sym q),
-  b ∙ ap (λ (x : Emission). overlay out at x.bytes) (sym q),
-)
-
 -- The buffer after bytes that went out and the emission behind them.
 pub left_behind : (e : Emission) (bs : List ℕ) (rest : Emission) (out middle after : List ℕ) (at next : ℕ) → e ≡ sent bs then rest
     → middle ≡ overlay out at bs → after ≡ overlay middle next rest.bytes → next ≡ at + length bs → after ≡ overlay out at e.bytes

@@ -47,9 +47,9 @@ pub standard_code : (c : StandardTimeCode) → standard_item c ≡ code_item (st
 unfolding standard_item
 standard_code c = code_by (standard_fits c) (standard_list c)
 
-pub short_code : (c : ShortTimeCode) → short_item c ≡ code_item (short_bytes c)
+pub short_as_code : (c : ShortTimeCode) → short_item c ≡ code_item (short_bytes c)
 unfolding short_item
-short_code c = code_by (short_fits c) (short_list c)
+short_as_code c = code_by (short_fits c) (short_list c)
 
 -- ---- names with data of the source
 

@@ -6,16 +6,15 @@ use mathlib.Core.Bool.{Bool, true, false, not}
 use mathlib.Core.List.{List, [], ◌∷◌}
 use mathlib.Core.Logic.{◌⊎◌, inl, inr}
 use native.Mathlib.Omega.{arith}
-use borrow.Author.Tests.{le-leb, lt-leb, lt-ltb, ne_eqb, leb-true, leb-false, ltb-true}
+use borrow.Author.Tests.{le-leb, lt-ltb, ne_eqb, leb-true, leb-false, ltb-true}
 use lib.Dec.{leb, ltb, eqb, lit≤}
 use lib.ListN.{length}
-use Rattle.mmc.specs.Named.{extent_of}
-use Rattle.mmc.specs.Write.{Writing, or_failed, opened_commands, opened_responses, begun, opens_at, ready, admitted, writing_past, writing_after, closed_message, whole_message}
-use Rattle.universal.specs.Refusals.{Refusal, refusal, Answer, refused}
+use Rattle.mmc.specs.Write.{Writing, or_failed, opened_commands, opened_responses, begun, opens_at, ready, admitted, writing_after, closed_message, whole_message}
+use Rattle.universal.specs.Refusals.{Refusal, refusal, Answer}
 use Rattle.universal.specs.Emission.{Emission, sent, refusing, check, resume, ◌then◌, fitted, reached, answer_in}
 use Rattle.universal.specs.Message.{opening, header, has_sub_id2, closing}
 use Rattle.universal.specs.Overlay.{overlay}
-use Rattle.universal.proofs.Laws.{overlay_none, then_accepted, check_held, reached_sent, reached_refusing, opening_device, opening_plain, closing_fits, closing_short}
+use Rattle.universal.proofs.Laws.{then_accepted, check_held, reached_sent, reached_refusing, opening_device, opening_plain, closing_fits, closing_short}
 use Rattle.mmc.proofs.RangeTests.{within_range, below_range, above_range}
 
 -- ---- opening
@@ -65,10 +64,6 @@ opens_responses device w o n p q =
 
 -- ---- before a call
 
-pub too_many : (w : Writing) → 256 < w.items → Some (refusal 10) ≡ (or_failed w).stop
-unfolding or_failed
-too_many w h = rw (lt-leb w.items 256 h)
-
 pub as_it_is : (w : Writing) → w.items ≤ 256 → w.at ≤ 40000 → w.stop ≡ (or_failed w).stop
 unfolding or_failed
 as_it_is w l h = rw (le-leb w.items 256 l, le-leb w.at 40000 h)
@@ -115,16 +110,6 @@ module _ (w : Writing) (e : Emission) where
   Gives after stop out left =
       ((after ≡ writing_after w e) × (stop ≡ (admitted w e).stop)) × (left ≡ overlay out w.at (admitted w e).bytes)
 
-  pub fails : (r : Refusal) (k : Emission) (after : Writing) (stop : Option Refusal) (out : List ℕ) → admitted w e ≡ k
-      → k ≡ record { bytes = []; stop = Some r } → (after ≡ writing_past w (record { len = 0; stop = Some r })) × (stop ≡ Some r)
-      → Gives after stop out out
-  unfolding writing_after
-  fails r k after stop out q z p =
-      let known : admitted w e ≡ record { bytes = []; stop = Some r } = q ∙ z in (
-        (p.0 ∙ ap (λ (x : Emission). writing_past w (extent_of x)) (sym known), p.1 ∙ ap (λ (x : Emission). x.stop) (sym known)),
-        sym (overlay_none out w.at) ∙ ap (λ (x : Emission). overlay out w.at x.bytes) (sym known),
-      )
-
 -- ---- closing
 
 module _ (w : Writing) where
@@ -143,12 +128,6 @@ module _ (w : Writing) where
   pub close_sent : (or_failed w).stop ≡ None → 5 ≤ w.at → w.at < 53 → closed_message w ≡ sent (247 ∷ [])
   unfolding closed_message
   close_sent h l m = rw (h, within_range 5 53 w.at l m)
-
-  -- A close that is refused, and one that goes out.
-  pub ends_refused : (r : Refusal) (out : List ℕ) → closed_message w ≡ record { bytes = []; stop = Some r }
-      → (refused r ≡ whole_message w (length out)) × (out ≡ overlay out w.at (closed_message w).bytes)
-  unfolding whole_message
-  ends_refused r out q = (rw q, rw q (sym (overlay_none out w.at)))
 
   pub ends_closed : (a : Answer ℕ) (out left : List ℕ) → closed_message w ≡ sent (247 ∷ []) → w.at < 53
       → a ≡ closing w.at (length out) → left ≡ overlay out w.at (247 ∷ [])

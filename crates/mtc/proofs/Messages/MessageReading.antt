@@ -21,8 +21,8 @@ module _ {A : Type 0} (right : Bool) (n size : ℕ) (m : A) where
   pub read_other : right ≡ false → read_kind right (eqb n size) m ≡ gives None
   read_other h = rw h
 
-  pub read_short : right ≡ true → (n ≡ size → ⊥) → read_kind right (eqb n size) m ≡ refused (refusal 2)
-  read_short h l = rw (h, ne_eqb n size l)
+  pub size_refused : right ≡ true → (n ≡ size → ⊥) → read_kind right (eqb n size) m ≡ refused (refusal 2)
+  size_refused h l = rw (h, ne_eqb n size l)
 
   pub read_whole : right ≡ true → n ≡ size → read_kind right (eqb n size) m ≡ gives (Some m)
   read_whole h l = rw (h, eq-eqb n size l)
@@ -84,5 +84,5 @@ module _ {A : Type 0} (sub_id2 size : ℕ) (made : ℕ → List ℕ → A) where
         accepts = λ device bs l. read_whole _ (length bs) size _ (header_kind device sub_id2) l;
         only = read_only;
         other_kind = λ u bs h. read_other _ (length bs) size _ (other_header u sub_id2 h);
-        other_length = λ device bs l. read_short _ (length bs) size _ (header_kind device sub_id2) l;
+        other_length = λ device bs l. size_refused _ (length bs) size _ (header_kind device sub_id2) l;
       }

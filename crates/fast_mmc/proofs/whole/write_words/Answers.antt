@@ -10,8 +10,5 @@ returns-then-device_id-gt127 c =
     let ends = refused_words _ _ _ c.if-device_id-gt127.true in
     value_and_out (c.from.ensures ∙ ends.0, ends.1)
 
-pub returns-then-words-gt-MOST_COMMANDS : goal.returns-then-words-gt-MOST_COMMANDS
-returns-then-words-gt-MOST_COMMANDS c = value_and_out (opened_words _ _ _ _ _ _ c.if-device_id-gt127.false c.put_start.ensures (c.put_rest.ensures.value, c.put_rest.ensures.out_after))
-
 pub returns : goal.returns
 returns c = value_and_out (opened_words _ _ _ _ _ _ c.if-device_id-gt127.false c.put_start.ensures (c.put_words.ensures.value, c.put_words.ensures.out_after))
