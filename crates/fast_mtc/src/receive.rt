@@ -89,7 +89,8 @@ fn turning(way: Direction, order: u32) -> u32
 // The words, the piece and the byte go on as they are: a struct of a `&mut` array and two numbers is no plainer. Their bounds stay
 // clauses: the words are an array that C keeps, and the piece is a plain number in `mtc` too.
 
-// `MtcReader::receive` on the words. As a call it takes an instruction more for each byte, and eight more in a list.
+// `MtcReader::receive` on the words. As a call it takes an instruction more for each byte of a running
+// stream, and some eight more in a list.
 #[inline(always)]
 pub fn receive(r: &mut [u32; 15], byte: u8) -> u64
     ensures { (result ≡ flat_event (event_of (reader_in r.old) byte)) × (reader_in r.new ≡ after_byte (reader_in r.old) byte) }
