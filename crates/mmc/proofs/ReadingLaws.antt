@@ -240,13 +240,18 @@ one_step read end on place =
 
 -- ---- a walk
 
--- A walk from a place is what the read there gives, before the walk from the place where it goes on.
+-- A walk from a place is what the read there gives, before the walk from the place where it goes on, whatever is made of the items.
+pub walk_as_step : {A : Type 0} (f : ItemPlace → A) (kind : Kind) (body : List ℕ) (place : ℕ)
+    → walk_from (λ (p : ℕ). next_as f (next kind body p)) (reads_of body) place
+    ≡ before (next_as f (next kind body place)).answer
+    (walk_from (λ (p : ℕ). next_as f (next kind body p)) (reads_of body) (next kind body place).place)
+walk_as_step f kind body place =
+    one_step (λ (p : ℕ). next_as f (next kind body p)) (length body) (λ p x. NextPlace.read_moves f x kind body p) place
+
 pub walk_step : (kind : Kind) (body : List ℕ) (place : ℕ)
     → walk kind body place ≡ before (next_as (item_at body) (next kind body place)).answer (walk kind body (next kind body place).place)
 unfolding walk
-walk_step kind body place =
-    one_step (λ (p : ℕ). next_as (item_at body) (next kind body p)) (length body)
-    (λ p x. NextPlace.read_moves (item_at body) x kind body p) place
+walk_step kind body place = walk_as_step (item_at body) kind body place
 
 -- So are the commands or fields that are read from a place on.
 pub read_step : (kind : Kind) (body : List ℕ) (place : ℕ)

@@ -30,7 +30,7 @@ use Rattle.mmc.specs.Named.{name_fits, last_of_name}
 use Rattle.mmc.specs.Part.{part_of}
 use Rattle.mmc.specs.Rp013.{Follows, Name, Item, IsItem, Spell, WellFormed, sub_id1_of, last_device, envelope, Message}
 use Rattle.mmc.specs.Strings.{before, walk_from, reads_of, next_of, item, item_at, item_places, given, back, item_bytes, joined, item_fits, all_fit, zeros_item, is_zeros, any_zeros, OfPageOrZeros, item_place, read_as, Found, Walk, walk, walk_means, on_to, Meaning, meaning, meanings, read_from, commands_read, command_pair, field_pair, AcceptedItem, Given, pair_of, emission, emissions, pairs_of, AcceptedItems, command_back, field_back}
-use Rattle.mmc.specs.Split.{ItemPlace, Next, parts_as}
+use Rattle.mmc.specs.Split.{ItemPlace, Next, next, next_as, parts_as}
 use Rattle.mmc.specs.Writings.{message_of}
 use Rattle.codes.specs.TimeCode.{zeroed}
 use Rattle.codes.specs.declared.time_code.StandardTimeCode.{StandardTimeCode}
@@ -134,7 +134,17 @@ pub read_after : (kind : Kind) (pre s : List ℕ)
 read_after kind pre s =
     Walks.meant kind pre s (all_of kind s) ∙ ap (walk_means kind (length pre)) (sym (Walks.walked kind [] s (all_of kind s)))
 
--- So is the whole string.
+-- The whole string is read so whatever is made of a name and data and of where they lie.
+pub read_walk_as : {A : Type 0} (read : List ℕ → List ℕ → ItemPlace → A) (kind : Kind) (body : List ℕ)
+    → walk_from (λ (p : ℕ). next_as (λ (l : ItemPlace). read (part_of body l.name) (part_of body l.«data») l) (next kind body p))
+    (reads_of body) 0
+    ≡ record { items = read_as read kind 0 (walk kind body 0).items; stop = (walk kind body 0).stop }
+read_walk_as read kind body =
+    Walks.walked_as read kind [] body (all_of kind body)
+    ∙ ap (λ (w : Walk Item). record { items = read_as read kind 0 w.items; stop = w.stop })
+    (sym (Walks.walked kind [] body (all_of kind body)))
+
+-- So are its commands or fields.
 pub read_walk : (kind : Kind) (body : List ℕ) → read_from kind body 0 ≡ walk_means kind 0 (walk kind body 0)
 read_walk kind body = read_after kind [] body
 
@@ -451,17 +461,26 @@ read_goes_on Commands body place x h =
 read_goes_on Fields body place x h =
     NextPlace.read_moves (parts_as (λ (n d : List ℕ). field_of_case (read_field n d)) body) x Fields body place h
 
--- No items mean nothing.
-pub meanings_none : (kind : Kind) (place : ℕ) → meanings kind place [] ≡ []
+-- No items are read as nothing.
+pub read_as_none : {A : Type 0} (read : List ℕ → List ℕ → ItemPlace → A) (kind : Kind) (place : ℕ) → read_as read kind place [] ≡ []
 unfolding read_as
-meanings_none kind place = refl
+read_as_none read kind place = refl
 
 -- An item, and then the others at the place after it.
+pub read_as_cons : {A : Type 0} (read : List ℕ → List ℕ → ItemPlace → A) (kind : Kind) (place : ℕ) (x : Item) (xs : List Item)
+    → read_as read kind place (x ∷ xs)
+    ≡ read x.name x.«data» (item_place kind place x) ∷ read_as read kind (place + length (item_bytes kind x)) xs
+unfolding read_as
+read_as_cons read kind place x xs = refl
+
+-- So is what items mean.
+pub meanings_none : (kind : Kind) (place : ℕ) → meanings kind place [] ≡ []
+meanings_none kind place = read_as_none (meaning kind) kind place
+
 pub meanings_cons : (kind : Kind) (place : ℕ) (x : Item) (xs : List Item)
     → meanings kind place (x ∷ xs)
     ≡ meaning kind x.name x.«data» (item_place kind place x) ∷ meanings kind (place + length (item_bytes kind x)) xs
-unfolding read_as
-meanings_cons kind place x xs = refl
+meanings_cons kind place x xs = read_as_cons (meaning kind) kind place x xs
 
 -- No items emit nothing.
 pub emissions_none : (kind : Kind) → emissions kind [] ≡ sent []

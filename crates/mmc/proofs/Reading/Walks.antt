@@ -287,7 +287,7 @@ walk_taken f kind body pre s t e most l = go t.ended
     go (inr q) = rw q.1 (through_cut f kind body t.items t.fit pre t.tail whole_bytes q.0 q.2 most enough)
 
 -- The same, each item read by the bytes of its parts.
-walked_as : {A : Type 0} (g : List ℕ → List ℕ → ItemPlace → A) (kind : Kind) (pre s : List ℕ) (t : TakenItems kind s)
+pub walked_as : {A : Type 0} (g : List ℕ → List ℕ → ItemPlace → A) (kind : Kind) (pre s : List ℕ) (t : TakenItems kind s)
     → walk_from (reads (by_bytes g (pre ++ s)) kind (pre ++ s)) (reads_of (pre ++ s)) (length pre)
     ≡ record { items = read_as g kind (length pre) t.items; stop = refusal t.stop }
 walked_as {A = A} g kind pre s t =
