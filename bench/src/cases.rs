@@ -2,16 +2,16 @@
 
 use std::hint::black_box;
 
-use super::boundary;
 use super::lib::mmc::{
     FinalByte, InfoField, InfoFields, MmcCommand, ShortTimeCode, StandardTimeCode, TimeCodeStatus,
 };
 use super::lib::mtc::{Direction, FullMessage, MtcGenerator, MtcReader, MtcTime, TimeCodeType};
 use super::lib::universal::Universal;
+use super::{boundary, Lookup};
 use crate::case::Case;
 use crate::inputs::{
-    self, BODIES, BODY, DROP_FRAME, FPS_24, FPS_25, GP0, LIST, LOCATE_PLAY, OTHER, PREFIXED,
-    RESPONSE, ROOM, ROUND,
+    self, BODIES, BODY, DROP_FRAME, FPS_24, FPS_25, GP0, LAST_NAME, LIST, LOCATE_PLAY, OTHER,
+    PREFIXED, RESPONSE, ROOM, ROUND,
 };
 
 /// Every case, in the order of the tables.
@@ -61,6 +61,8 @@ pub fn all() -> Vec<Case> {
         read_stops(),
         read_random(),
         read_fields(),
+        look_up(),
+        build_index(),
     ]
 }
 
@@ -274,6 +276,32 @@ fn read_fields() -> Case {
             ..commands(&RESPONSE)
         };
         black_box(boundary::read_fields(black_box(&message))) as u64
+    })
+}
+
+/// A response that stays.
+fn long_response() -> &'static [u8] {
+    Box::leak(inputs::long_response().into_boxed_slice())
+}
+
+/// The last field of a response looked up.
+fn look_up() -> Case {
+    let lookup = Lookup::new(long_response());
+    Case::new("look_up", move |_| {
+        let place = super::look_up(black_box(&lookup), black_box(LAST_NAME));
+        black_box(place).map_or(1000, |place| place as u64)
+    })
+}
+
+/// A response made ready for lookups.
+fn build_index() -> Case {
+    let response = long_response();
+    let mut lookup = Lookup::new(response);
+    Case::new("build_index", move |_| {
+        u64::from(super::build_index(
+            black_box(&mut lookup),
+            black_box(response),
+        ))
     })
 }
 

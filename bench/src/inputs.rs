@@ -18,6 +18,13 @@ pub const GP0: [u8; 6] = [0x08, 0x21, 2, 3, 4, 5];
 pub const RESPONSE: [u8; 14] = [
     0x01, 0x41, 37, 52, 0x30, 0x08, 0x28, 16, 5, 0x48, 3, 1, 2, 3,
 ];
+/// A response of 48 bytes: eight time codes, named 01H to 08H.
+pub fn long_response() -> Vec<u8> {
+    let field = |name| [name, 0x41, 37, 52, 0x30, 0x08];
+    (1..=LAST_NAME).flat_map(field).collect()
+}
+/// The name of its last field.
+pub const LAST_NAME: u8 = 0x08;
 /// The name and the data of another command, and the name of one without data.
 pub const OTHER: ([u8; 1], [u8; 3]) = ([0x50], [1, 2, 3]);
 pub const PREFIXED: [u8; 2] = [0x00, 0x0B];

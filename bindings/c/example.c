@@ -1,6 +1,6 @@
 /*
  * A desk's round in little: Locate 01:00:00:00 at 25 and Play are written, read back and obeyed by a generator, whose bytes a
- * reader gets. It must print example.out. Build it where libfimbrast.a is found:
+ * reader gets. Then fields of a response are looked up by an index. It must print example.out. Build it where libfimbrast.a is found:
  *
  *     gcc -std=c11 -Wall -Wextra -Wpedantic -O2 example.c -L ../../target/staticlib -lfimbrast
  */
@@ -56,6 +56,26 @@ static uint8_t print_commands(const uint8_t *body, size_t length)
     return next.refusal;
 }
 
+/* Looks up fields of a recorder's response: a field 4FH with two bytes, and 01:00:00:00 at 25 in GP0. */
+static void look_up(void)
+{
+    const uint8_t response[] = {0x4F, 0x02, 0x20, 0x01, 0x08, 0x21, 0x00, 0x00, 0x00, 0x00};
+    const uint8_t cut[] = {0x08, 0x21};
+    const uint8_t names[] = {0x4F, 0x08, 0x01, 0xFF};
+    fimbrast_field_index index = fimbrast_field_index_new();
+
+    printf("index: answer %u", (unsigned)fimbrast_field_index_build(&index, response, sizeof response));
+    printf(", and %u for one cut short\n", (unsigned)fimbrast_field_index_build(&index, cut, sizeof cut));
+    for (size_t i = 0; i < sizeof names; i++) {
+        const fimbrast_field_place field = fimbrast_field_index_place(&index, names[i]);
+        if (field.refusal != 0) {
+            printf("field %02XH: refusal %u\n", (unsigned)names[i], (unsigned)field.refusal);
+        } else {
+            printf("field %02XH: place %zu\n", (unsigned)names[i], field.place);
+        }
+    }
+}
+
 int main(void)
 {
     uint8_t out[16];
@@ -108,5 +128,6 @@ int main(void)
             printf("%s\n", sequence.discontinuity ? " discontinuity" : "");
         }
     }
+    look_up();
     return 0;
 }

@@ -9,7 +9,8 @@
  * Bytes are lent as a pointer and a length. The pointer may be null or dangling where the length is 0. A buffer that is
  * written must not overlap one that is read in the same call. A bool must be 0 or 1, as C's bool is.
  *
- * A name such as `MtcReader::receive` is that of the call in the Rust that the library was translated from.
+ * A name such as `MtcReader::receive` is that of the call in the Rust that the library was translated from. What that Rust does not
+ * have, as `InfoFieldIndex::build`, is named as in the Rust crate of this library.
  *
  * `make write-bindings` makes this file from the Rattle source.
  */
@@ -28,8 +29,8 @@
 extern "C" {
 #endif
 
-#define FIMBRAST_VERSION 200
-#define FIMBRAST_VERSION_STRING "0.2.0"
+#define FIMBRAST_VERSION 300
+#define FIMBRAST_VERSION_STRING "0.3.0"
 
 /* The refusals by their numbers. 0 is none; with 4 the needed length is given. A later version may have more. */
 enum {
@@ -43,6 +44,7 @@ enum {
     FIMBRAST_REFUSED_STOPPED = 8,            /* the generator is stopped */
     FIMBRAST_REFUSED_END = 9,                /* the reading place is at or past the end */
     FIMBRAST_REFUSED_ITEM_LIMIT = 10,        /* 256 items were already accepted in this writing */
+    FIMBRAST_REFUSED_NO_FIELD = 11,          /* an index has no field under this name */
 };
 
 /* An answer that is no refusal: the message is of another kind, or it is for another device. */
@@ -57,7 +59,7 @@ enum {
 /* The version as one number: 10,000 for each whole version, 100 for each minor one, and the patch. */
 uint32_t fimbrast_version(void);
 /* The same under a name that has the version. A program refers to it, so that an archive of another version does not link. */
-uint32_t fimbrast_version_0_2_0(void);
+uint32_t fimbrast_version_0_3_0(void);
 
 /* The archive must be of this version: where it is not, the linker misses this call. `retain` keeps it where the linker drops unused sections. */
 #if defined(__has_attribute)
@@ -65,7 +67,7 @@ uint32_t fimbrast_version_0_2_0(void);
 __attribute__((retain))
 #endif
 #endif
-__attribute__((used)) static uint32_t (*const fimbrast_needed_version)(void) = fimbrast_version_0_2_0;
+__attribute__((used)) static uint32_t (*const fimbrast_needed_version)(void) = fimbrast_version_0_3_0;
 
 /* ---- Labels, and the quarter frames of a label */
 
@@ -476,10 +478,34 @@ fimbrast_next_word_answer fimbrast_next_word(const uint8_t *body, size_t body_le
 /* The next of `InfoFields`: the field at a place of a string of fields, likewise. */
 fimbrast_next_field_answer fimbrast_next_field(const uint8_t *body, size_t body_length, size_t place);
 
+/* ---- An index beside a field string: where the first field of each one-byte name begins */
+
+/* An index of 128 cells, one for each name of one byte up to 7FH: 0 where there is no field of that name, else the place where the first
+ * one begins, plus 1. Cells that are all 0 are an index without fields. */
+typedef struct {
+    size_t cells[128];
+} fimbrast_field_index;
+
+/* Where a field begins, with refusal 0; or refusal 11, and place 0. */
+typedef struct {
+    uint8_t refusal;
+    size_t place;
+} fimbrast_field_place;
+
+/* `InfoFieldIndex::new`: an index without fields. */
+fimbrast_field_index fimbrast_field_index_new(void);
+/* `InfoFieldIndex::build`: makes the index of a field string from one walk, and answers 0; or 2 for a string that cannot be split,
+ * and then leaves the index as before. The bytes must not overlap the index. */
+uint8_t fimbrast_field_index_build(fimbrast_field_index *field_index, const uint8_t *body, size_t body_length);
+/* `InfoFieldIndex::place`: where the first field of a name begins, counted from the first byte of the last string that was accepted; 11
+ * for a name without a field, or above 7FH. A name with prefixes is another name; a short time code has one of its own, 20H above its
+ * field's. Where the refusal is 0, `fimbrast_next_field` at this place of that string reads the field. */
+fimbrast_field_place fimbrast_field_index_place(const fimbrast_field_index *field_index, uint8_t name);
+
 /* ---- Writing a string: opened, given its items one at a time, and closed, with one buffer throughout, left alone between the calls */
 
 /* A writer as one number: the position in the lowest four bytes, the items accepted in the next two, and in the byte above them the
- * first refusal, which it repeats. A refusal above 10 is taken as 10. */
+ * first refusal, which it repeats. A number that is no refusal's is taken as 10. */
 typedef uint64_t fimbrast_writer;
 
 /* `write_commands` opens: F0H, 7FH, the device, 06H. */

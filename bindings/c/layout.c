@@ -87,6 +87,13 @@ int main(void)
     PLACE(next, refusal);
     PLACE(next, byte);
     END;
+    SIZE(field_index);
+    PLACE(field_index, cells);
+    END;
+    SIZE(field_place);
+    PLACE(field_place, refusal);
+    PLACE(field_place, place);
+    END;
     SIZE(universal);
     PLACE(universal, real_time);
     PLACE(universal, device_id);

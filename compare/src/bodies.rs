@@ -112,7 +112,7 @@ fn any_bytes(g: &mut Group, seed: u64) {
 }
 
 /// Changes, cuts, doubles or inserts a few bytes.
-fn damage(rng: &mut Rng, body: &mut Vec<u8>) {
+pub(crate) fn damage(rng: &mut Rng, body: &mut Vec<u8>) {
     for _ in 0..rng.below(4) {
         let at = rng.below(body.len() + 1);
         match rng.below(4) {

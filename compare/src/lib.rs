@@ -19,6 +19,7 @@ macro_rules! both {
 pub mod bodies;
 pub mod codes;
 pub mod generators;
+pub mod indexes;
 pub mod items;
 pub mod labels;
 pub mod messages;

@@ -3,16 +3,19 @@
 use std::hint::black_box;
 
 use fimbrast::ffi::{
-    fimbrast_add_frames, fimbrast_close_message, fimbrast_feed, fimbrast_from_frame_count,
-    fimbrast_mmc_kind, fimbrast_next_byte, fimbrast_next_field, fimbrast_next_word,
-    fimbrast_open_commands, fimbrast_open_responses, fimbrast_put_field, fimbrast_put_other,
-    fimbrast_put_word, fimbrast_put_write, fimbrast_reader_full_message, fimbrast_receive,
-    fimbrast_to_frame_count, fimbrast_write_words,
+    fimbrast_add_frames, fimbrast_close_message, fimbrast_feed, fimbrast_field_index_build,
+    fimbrast_field_index_place, fimbrast_from_frame_count, fimbrast_mmc_kind, fimbrast_next_byte,
+    fimbrast_next_field, fimbrast_next_word, fimbrast_open_commands, fimbrast_open_responses,
+    fimbrast_put_field, fimbrast_put_other, fimbrast_put_word, fimbrast_put_write,
+    fimbrast_reader_full_message, fimbrast_receive, fimbrast_to_frame_count, fimbrast_write_words,
 };
 pub use fimbrast::ffi::{
-    fimbrast_generator_forward, fimbrast_generator_reverse, fimbrast_reader_new,
+    fimbrast_field_index_new, fimbrast_generator_forward, fimbrast_generator_reverse,
+    fimbrast_reader_new,
 };
-pub use fimbrast::ffi::{Code, Event, Field, Generator, Part, Reader, ShortCode, Time};
+pub use fimbrast::ffi::{
+    Code, Event, Field, FieldIndex, FieldPlace, Generator, Part, Reader, ShortCode, Time,
+};
 pub use fimbrast::ffi::{Universal, Written};
 pub use fimbrast::mtc::{MtcTime, TimeCodeType};
 
@@ -135,6 +138,19 @@ pub fn read_fields(header: &Universal, data: &[u8]) -> usize {
         place = answer.place;
         items += 1;
     }
+}
+
+/// Where the first field of a name begins.
+#[inline(never)]
+pub fn look_up(index: &FieldIndex, name: u8) -> FieldPlace {
+    fimbrast_field_index_place(index, name)
+}
+
+/// Makes the index of a response: 0 where it is accepted.
+#[inline(never)]
+pub fn build_index(index: &mut FieldIndex, response: &[u8]) -> u8 {
+    // SAFETY: the pointer and the length are a live slice.
+    unsafe { fimbrast_field_index_build(index, response.as_ptr(), response.len()) }
 }
 
 /// A whole message of commands, item by item: how many.

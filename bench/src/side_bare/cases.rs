@@ -9,8 +9,8 @@ use super::boundary::{
 };
 use crate::case::Case;
 use crate::inputs::{
-    self, BODIES, BODY, DROP_FRAME, FPS_24, FPS_25, GP0, LIST, LOCATE_PLAY, OTHER, PREFIXED,
-    RESPONSE, ROOM, ROUND,
+    self, BODIES, BODY, DROP_FRAME, FPS_24, FPS_25, GP0, LAST_NAME, LIST, LOCATE_PLAY, OTHER,
+    PREFIXED, RESPONSE, ROOM, ROUND,
 };
 
 /// The header of a message of commands, for all devices.
@@ -69,6 +69,8 @@ pub fn all() -> Vec<Case> {
         read_stops(),
         read_random(),
         read_fields(),
+        look_up(),
+        build_index(),
     ]
 }
 
@@ -289,6 +291,29 @@ fn read_fields() -> Case {
             black_box(&header),
             black_box(&RESPONSE),
         )) as u64
+    })
+}
+
+fn look_up() -> Case {
+    let mut index = boundary::fimbrast_field_index_new();
+    boundary::build_index(&mut index, &inputs::long_response());
+    Case::new("look_up", move |_| {
+        let found = black_box(boundary::look_up(black_box(&index), black_box(LAST_NAME)));
+        match found.refusal {
+            0 => found.place as u64,
+            _ => 1000,
+        }
+    })
+}
+
+fn build_index() -> Case {
+    let (mut index, response) = (
+        boundary::fimbrast_field_index_new(),
+        inputs::long_response(),
+    );
+    Case::new("build_index", move |_| {
+        let answer = boundary::build_index(black_box(&mut index), black_box(&response));
+        u64::from(answer == 0)
     })
 }
 

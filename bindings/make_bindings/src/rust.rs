@@ -105,7 +105,13 @@ fn types(library: &Library) -> Result<String, String> {
 fn record_text(record: &Record) -> Result<String, String> {
     let name = Library::short(&record.name);
     let mut text = comment("", &record.notes);
-    text.push_str("#[derive(Debug, Clone, Copy, PartialEq, Eq, Default)]\n#[repr(C)]\n");
+    let default = match record.fields.iter().any(|f| is_long(&f.kind)) {
+        true => "",
+        false => ", Default",
+    };
+    text.push_str(&format!(
+        "#[derive(Debug, Clone, Copy, PartialEq, Eq{default})]\n#[repr(C)]\n"
+    ));
     text.push_str(&format!("pub struct {name} {{\n"));
     for field in &record.fields {
         text.push_str(&comment("    ", &field.notes));
@@ -116,6 +122,11 @@ fn record_text(record: &Record) -> Result<String, String> {
         ));
     }
     Ok(text + "}\n")
+}
+
+/// An array longer than those for which Rust has a `Default`.
+fn is_long(kind: &Type) -> bool {
+    matches!(kind, Type::Array(_, count) if *count > 32)
 }
 
 fn kind_text(kind: &Type) -> Result<String, String> {
@@ -303,6 +314,15 @@ mod tests {
         assert!(lent.contains("pub fn read(place: &Place, data: &[u8]) -> Place {"));
         assert!(lent.contains("unsafe { fimbrast_read(place, data.as_ptr(), data.len()) }"));
         assert!(!lent.contains("fresh"));
+    }
+
+    #[test]
+    fn a_long_array_has_no_default() {
+        let with = |count| {
+            types(&of(&CALL.replace("[u8; 4]", &format!("[u8; {count}]"))).unwrap()).unwrap()
+        };
+        assert!(with(32).contains("Eq, Default)]"));
+        assert!(with(33).contains("Eq)]"));
     }
 
     #[test]

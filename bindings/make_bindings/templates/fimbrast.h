@@ -9,7 +9,8 @@
  * Bytes are lent as a pointer and a length. The pointer may be null or dangling where the length is 0. A buffer that is
  * written must not overlap one that is read in the same call. A bool must be 0 or 1, as C's bool is.
  *
- * A name such as `MtcReader::receive` is that of the call in the Rust that the library was translated from.
+ * A name such as `MtcReader::receive` is that of the call in the Rust that the library was translated from. What that Rust does not
+ * have, as `InfoFieldIndex::build`, is named as in the Rust crate of this library.
  *
  * `make write-bindings` makes this file from the Rattle source.
  */
@@ -102,6 +103,8 @@ enum {
 };
 
 @module string
+
+@module index
 
 @module write
 

@@ -29,8 +29,10 @@ impl SysexError {
         }
     }
 
-    /// The refusal of a number that is not 0, with the needed length where it gives one.
-    #[inline]
+    /// The refusal of a number that is not 0, with the needed length where it gives one. Kept apart, so that a caller whose input was
+    /// accepted does not go through the refusals.
+    #[cold]
+    #[inline(never)]
     pub(crate) const fn of(number: u8, needed: usize) -> Self {
         match number {
 @back

@@ -10,11 +10,11 @@ use core::mem::{offset_of, size_of};
 use crate::mtc::MtcTime;
 
 /// The version of the library that this is made for.
-pub const VERSION: u32 = 200;
+pub const VERSION: u32 = 300;
 
 /// The archive must be of this version: where it is not, the linker misses this call.
 #[used]
-static NEEDED_VERSION: extern "C" fn() -> u32 = fimbrast_version_0_2_0;
+static NEEDED_VERSION: extern "C" fn() -> u32 = fimbrast_version_0_3_0;
 
 pub const NOT_THIS: u8 = 255;
 pub const NONE: u8 = 255;
@@ -60,8 +60,10 @@ pub const REFUSED_STOPPED: u8 = 8;
 pub const REFUSED_END: u8 = 9;
 /// 10: 256 items were already accepted in this writing.
 pub const REFUSED_ITEM_LIMIT: u8 = 10;
+/// 11: an index has no field under this name.
+pub const REFUSED_NO_FIELD: u8 = 11;
 /// The number of every refusal.
-pub const REFUSALS: [u8; 10] = [1, 2, 3, 4, 5, 6, 7, 8, 9, 10];
+pub const REFUSALS: [u8; 11] = [1, 2, 3, 4, 5, 6, 7, 8, 9, 10, 11];
 
 /// A label. Rates: 0 is 24, 1 is 25, 2 is 30 drop-frame, 3 is 30 frames per second. Only the two low bits of a rate are read.
 #[derive(Debug, Clone, Copy, PartialEq, Eq, Default)]
@@ -203,6 +205,22 @@ pub struct Reader {
 pub struct Next {
     pub refusal: u8,
     pub byte: u8,
+}
+
+/// An index of 128 cells, one for each name of one byte up to 7FH: 0 where there is no field of that name, else the place where the first
+/// one begins, plus 1. Cells that are all 0 are an index without fields.
+#[derive(Debug, Clone, Copy, PartialEq, Eq)]
+#[repr(C)]
+pub struct FieldIndex {
+    pub cells: [usize; 128],
+}
+
+/// Where a field begins, with refusal 0; or refusal 11, and place 0.
+#[derive(Debug, Clone, Copy, PartialEq, Eq, Default)]
+#[repr(C)]
+pub struct FieldPlace {
+    pub refusal: u8,
+    pub place: usize,
 }
 
 /// The split parts of a Universal message but its data.
@@ -390,7 +408,7 @@ pub struct EightBytes {
 }
 
 /// A writer as one number: the position in the lowest four bytes, the items accepted in the next two, and in the byte above them the
-/// first refusal, which it repeats. A refusal above 10 is taken as 10.
+/// first refusal, which it repeats. A number that is no refusal's is taken as 10.
 pub type Writer = u64;
 
 /// A record's name in the header, its size, and the place of each field.
@@ -400,7 +418,7 @@ pub(crate) type Layout = (&'static str, usize, &'static [(&'static str, usize)])
 /// Where the fields lie, to be held against `layout.out`.
 #[cfg(test)]
 #[rustfmt::skip]
-pub(crate) const LAYOUT: [Layout; 33] = [
+pub(crate) const LAYOUT: [Layout; 35] = [
     ("time", size_of::<Time>(), &[("hours", offset_of!(Time, hours)), ("minutes", offset_of!(Time, minutes)), ("seconds", offset_of!(Time, seconds)), ("frames", offset_of!(Time, frames)), ("rate", offset_of!(Time, rate))]),
     ("generator", size_of::<Generator>(), &[("time", offset_of!(Generator, time)), ("direction", offset_of!(Generator, direction)), ("last", offset_of!(Generator, last)), ("running", offset_of!(Generator, running))]),
     ("code", size_of::<Code>(), &[("time", offset_of!(Code, time)), ("color_frame", offset_of!(Code, color_frame)), ("blank", offset_of!(Code, blank)), ("negative", offset_of!(Code, negative)), ("status", offset_of!(Code, status)), ("last", offset_of!(Code, last))]),
@@ -416,6 +434,8 @@ pub(crate) const LAYOUT: [Layout; 33] = [
     ("fed", size_of::<Fed>(), &[("reports", offset_of!(Fed, reports)), ("discontinuities", offset_of!(Fed, discontinuities)), ("last", offset_of!(Fed, last))]),
     ("reader", size_of::<Reader>(), &[("words", offset_of!(Reader, words))]),
     ("next", size_of::<Next>(), &[("refusal", offset_of!(Next, refusal)), ("byte", offset_of!(Next, byte))]),
+    ("field_index", size_of::<FieldIndex>(), &[("cells", offset_of!(FieldIndex, cells))]),
+    ("field_place", size_of::<FieldPlace>(), &[("refusal", offset_of!(FieldPlace, refusal)), ("place", offset_of!(FieldPlace, place))]),
     ("universal", size_of::<Universal>(), &[("real_time", offset_of!(Universal, real_time)), ("device_id", offset_of!(Universal, device_id)), ("sub_id1", offset_of!(Universal, sub_id1)), ("has_sub_id2", offset_of!(Universal, has_sub_id2)), ("sub_id2", offset_of!(Universal, sub_id2))]),
     ("written", size_of::<Written>(), &[("refusal", offset_of!(Written, refusal)), ("length", offset_of!(Written, length))]),
     ("full_message", size_of::<FullMessage>(), &[("answer", offset_of!(FullMessage, answer)), ("device_id", offset_of!(FullMessage, device_id)), ("time", offset_of!(FullMessage, time))]),
@@ -486,6 +506,19 @@ unsafe extern "C" {
     pub safe fn fimbrast_locate(generator: Generator, time: Time) -> Generator;
     /// `MtcGenerator::time`: what the current or next sequence encodes.
     pub safe fn fimbrast_generator_time(generator: Generator) -> Time;
+    /// `InfoFieldIndex::new`: an index without fields.
+    pub safe fn fimbrast_field_index_new() -> FieldIndex;
+    /// `InfoFieldIndex::build`: makes the index of a field string from one walk, and answers 0; or 2 for a string that cannot be split,
+    /// and then leaves the index as before. The bytes must not overlap the index.
+    pub fn fimbrast_field_index_build(
+        field_index: &mut FieldIndex,
+        body: *const u8,
+        body_length: usize,
+    ) -> u8;
+    /// `InfoFieldIndex::place`: where the first field of a name begins, counted from the first byte of the last string that was accepted; 11
+    /// for a name without a field, or above 7FH. A name with prefixes is another name; a short time code has one of its own, 20H above its
+    /// field's. Where the refusal is 0, `fimbrast_next_field` at this place of that string reads the field.
+    pub safe fn fimbrast_field_index_place(field_index: &FieldIndex, name: u8) -> FieldPlace;
     /// `addressed`: a message for `device_id` is for the device `own`.
     pub safe fn fimbrast_addressed(device_id: u8, own: u8) -> bool;
     /// `has_sub_id2`: messages of this family carry a Sub-ID#2.
@@ -591,7 +624,7 @@ unsafe extern "C" {
     /// The version as one number: 10,000 for each whole version, 100 for each minor one, and the patch.
     pub safe fn fimbrast_version() -> u32;
     /// The same under a name that has the version. A program refers to it, so that an archive of another version does not link.
-    pub safe fn fimbrast_version_0_2_0() -> u32;
+    pub safe fn fimbrast_version_0_3_0() -> u32;
     /// `write_commands` opens: F0H, 7FH, the device, 06H.
     pub fn fimbrast_open_commands(out: *mut u8, out_length: usize, device_id: u8) -> Writer;
     /// `write_responses` opens: F0H, 7FH, the device, 07H.
@@ -658,6 +691,14 @@ unsafe extern "C" {
 pub fn feed(reader: &mut Reader, bytes: &[u8]) -> Fed {
     // SAFETY: each pointer and length are those of a live slice, and what is written is borrowed alone.
     unsafe { fimbrast_feed(reader, bytes.as_ptr(), bytes.len()) }
+}
+
+/// `InfoFieldIndex::build`: makes the index of a field string from one walk, and answers 0; or 2 for a string that cannot be split,
+/// and then leaves the index as before. The bytes must not overlap the index.
+#[inline]
+pub fn field_index_build(field_index: &mut FieldIndex, body: &[u8]) -> u8 {
+    // SAFETY: each pointer and length are those of a live slice, and what is written is borrowed alone.
+    unsafe { fimbrast_field_index_build(field_index, body.as_ptr(), body.len()) }
 }
 
 /// `Universal::write`: the whole message, F0H to F7H.

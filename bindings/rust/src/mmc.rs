@@ -2,7 +2,7 @@
 //!
 //! - A command message is `F0 7F <device ID> 06 <commands> F7`, a response `F0 7F <device ID> 07 <responses> F7` (p. 1).
 //!   [`MmcMessage`] reads both from their split parts, [`Commands`] and [`InfoFields`] read the strings item by item, and
-//!   [`write_commands`], [`write_responses`] and [`write_info_fields`] write them.
+//!   [`write_commands`], [`write_responses`] and [`write_info_fields`] write them. [`InfoFieldIndex`] says where a field begins.
 //! - The byte after at most two 00H prefixes gives an item's length (p. 5), known or not. What is not known here, or has data
 //!   that does not fit, is `Other`.
 //! - [`StandardTimeCode`] and [`ShortTimeCode`] are the five and two bytes of a time code (pp. 8, 9). A reader keeps the raw
@@ -765,11 +765,74 @@ impl<'a> Iterator for InfoFields<'a> {
         let body = self.bytes;
         let answer = ffi::next_field(body, 0);
         self.bytes = body.get(answer.place..).unwrap_or(&[]);
-        match SysexError::check(answer.refusal) {
-            Ok(()) => Some(Ok(InfoField::of(answer.field, body))),
-            Err(SysexError::End) => None,
-            Err(refusal) => Some(Err(refusal)),
+        // The end is told by its number, without a refusal being made.
+        match answer.refusal {
+            0 => Some(Ok(InfoField::of(answer.field, body))),
+            ffi::REFUSED_END => None,
+            refusal => Some(Err(SysexError::of(refusal, 0))),
         }
+    }
+}
+
+/// An index beside a field string: where the first field of each one-byte name begins. A desk that looks up the
+/// same response many times builds it once. Names with prefixes and names above 7FH are not in it.
+///
+/// ```
+/// use fimbrast::mmc::{field, InfoField, InfoFieldIndex};
+/// use fimbrast::universal::SysexError;
+///
+/// // Field 4FH with two bytes, then 01:00:00:00 at 25 frames in GP0.
+/// let response = [0x4F, 0x02, 0x20, 0x01, 0x08, 0x21, 0x00, 0x00, 0x00, 0x00];
+/// let mut index = InfoFieldIndex::new();
+/// index.build(&response)?;
+/// assert_eq!(index.place(field::GP0), Ok(4));
+/// assert_eq!(index.place(field::SELECTED_TIME_CODE), Err(SysexError::NoField));
+///
+/// let Ok(InfoField::TimeCode { code, .. }) = index.field(field::GP0, &response) else {
+///     panic!("not a time code");
+/// };
+/// assert_eq!(code.time.hours, 1);
+/// # Ok::<(), SysexError>(())
+/// ```
+#[derive(Debug, Clone, PartialEq, Eq)]
+pub struct InfoFieldIndex {
+    index: ffi::FieldIndex,
+}
+
+impl InfoFieldIndex {
+    /// An index without fields.
+    pub fn new() -> Self {
+        Self {
+            index: ffi::fimbrast_field_index_new(),
+        }
+    }
+
+    /// Makes it the index of a field string: a response's data, or the data of a WRITE command. A string that cannot be split is
+    /// [`SysexError::Length`], and leaves the index as before.
+    pub fn build(&mut self, fields: &[u8]) -> Result<(), SysexError> {
+        SysexError::check(ffi::field_index_build(&mut self.index, fields))
+    }
+
+    /// Where the first field of a name begins, counted from the first byte of the last string that was accepted;
+    /// [`SysexError::NoField`] for a name without a field, or above 7FH. A short time code has a name of its own, 20H above its field's.
+    #[inline]
+    pub fn place(&self, name: u8) -> Result<usize, SysexError> {
+        let answer = ffi::fimbrast_field_index_place(&self.index, name);
+        SysexError::check(answer.refusal).map(|()| answer.place)
+    }
+
+    /// The field of a name, read from the last string that was accepted, or [`SysexError::NoField`]. From another string it is whatever
+    /// field stands at that place: [`SysexError::Length`] where that is cut short, [`SysexError::End`] where the string is no longer than
+    /// the place.
+    pub fn field<'a>(&self, name: u8, fields: &'a [u8]) -> Result<InfoField<'a>, SysexError> {
+        let answer = ffi::next_field(fields, self.place(name)?);
+        SysexError::check(answer.refusal).map(|()| InfoField::of(answer.field, fields))
+    }
+}
+
+impl Default for InfoFieldIndex {
+    fn default() -> Self {
+        Self::new()
     }
 }
 

@@ -31,6 +31,8 @@ pub enum SysexError {
     End,
     /// 10: 256 items were already accepted in this writing.
     ItemLimit,
+    /// 11: an index has no field under this name.
+    NoField,
     /// A number that this version of the crate has no name for.
     Unknown(u8),
 }
@@ -56,12 +58,15 @@ impl SysexError {
             Self::Stopped => ffi::REFUSED_STOPPED,
             Self::End => ffi::REFUSED_END,
             Self::ItemLimit => ffi::REFUSED_ITEM_LIMIT,
+            Self::NoField => ffi::REFUSED_NO_FIELD,
             Self::Unknown(number) => number,
         }
     }
 
-    /// The refusal of a number that is not 0, with the needed length where it gives one.
-    #[inline]
+    /// The refusal of a number that is not 0, with the needed length where it gives one. Kept apart, so that a caller whose input was
+    /// accepted does not go through the refusals.
+    #[cold]
+    #[inline(never)]
     pub(crate) const fn of(number: u8, needed: usize) -> Self {
         match number {
             ffi::REFUSED_DATA_BYTE => Self::DataByte,
@@ -74,6 +79,7 @@ impl SysexError {
             ffi::REFUSED_STOPPED => Self::Stopped,
             ffi::REFUSED_END => Self::End,
             ffi::REFUSED_ITEM_LIMIT => Self::ItemLimit,
+            ffi::REFUSED_NO_FIELD => Self::NoField,
             number => Self::Unknown(number),
         }
     }
@@ -97,6 +103,7 @@ impl fmt::Display for SysexError {
             Self::Stopped => f.write_str("the generator is stopped"),
             Self::End => f.write_str("the reading place is at or past the end"),
             Self::ItemLimit => f.write_str("256 items were already accepted in this writing"),
+            Self::NoField => f.write_str("an index has no field under this name"),
             Self::Unknown(number) => {
                 write!(f, "refusal {number}, which this crate has no name for")
             }

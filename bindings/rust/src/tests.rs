@@ -626,6 +626,66 @@ fn fields_go_out_and_come_back() {
     );
 }
 
+/// The field at the front of a string.
+fn one_field(bytes: &[u8]) -> Result<InfoField<'_>, SysexError> {
+    InfoFields::new(bytes).next().unwrap()
+}
+
+#[test]
+fn fields_are_looked_up() {
+    // Field 4FH, GP0 with 01:00:00:00 and again with 02:00:00:00, a prefixed 0BH, and a name above 7FH.
+    let first = [0x08, 0x21, 0, 0, 0, 0];
+    let second = [0x08, 0x22, 0, 0, 0, 0];
+    let response = [
+        &[0x4F, 2, 7, 8][..],
+        &first,
+        &second,
+        &[0, 0x0B, 1, 2, 3, 4, 5, 0xC4],
+    ]
+    .concat();
+    let mut index = InfoFieldIndex::new();
+    assert_eq!(index, InfoFieldIndex::default());
+    assert_eq!(index.place(0x08), Err(SysexError::NoField));
+    assert_eq!(index.build(&response), Ok(()));
+
+    // The first of a name; no prefixed name, none above 7FH, none that is not there.
+    assert_eq!(index.place(0x4F), Ok(0));
+    assert_eq!(index.place(0x08), Ok(4));
+    for name in [0x00, 0x0B, 0xC4, 0x44, 0x7F, 0x80, 0xFF] {
+        assert_eq!(index.place(name), Err(SysexError::NoField), "{name:02X}H");
+        assert_eq!(
+            index.field(name, &response),
+            Err(SysexError::NoField),
+            "{name:02X}H"
+        );
+    }
+    assert_eq!(index.field(0x08, &response), one_field(&first));
+    assert_eq!(
+        index.field(0x4F, &response),
+        Ok(InfoField::Other {
+            name: &[0x4F],
+            data: &[7, 8]
+        })
+    );
+
+    // From another string: what stands there, 2 where that is cut short, 9 past the end.
+    assert_eq!(index.field(0x08, &response[..9]), Err(SysexError::Length));
+    assert_eq!(index.field(0x08, &response[..4]), Err(SysexError::End));
+    assert_eq!(index.field(0x08, &[0x01; 10]), one_field(&[0x01; 6]));
+
+    // A string that cannot be split leaves the index; the next one that can takes its place.
+    let kept = index.clone();
+    assert_eq!(index.build(&response[..9]), Err(SysexError::Length));
+    assert_eq!(index, kept);
+    assert_eq!(index.build(&second), Ok(()));
+    assert_eq!(
+        (index.place(0x08), index.place(0x4F)),
+        (Ok(0), Err(SysexError::NoField))
+    );
+    assert_eq!(index.build(&[]), Ok(()));
+    assert_eq!(index, InfoFieldIndex::new());
+}
+
 #[test]
 fn cut_strings_and_empty_ones() {
     let mut cut = commands(&[0x01, 0x44, 0x06, 0x01]);

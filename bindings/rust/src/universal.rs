@@ -32,13 +32,6 @@ pub(crate) fn written(answer: ffi::Written) -> Result<usize, SysexError> {
     if answer.refusal == 0 {
         return Ok(answer.length);
     }
-    refused(answer)
-}
-
-/// Kept apart, so that a caller whose writing was accepted does not go through the refusals.
-#[cold]
-#[inline(never)]
-fn refused(answer: ffi::Written) -> Result<usize, SysexError> {
     Err(SysexError::of(answer.refusal, answer.length))
 }
 

@@ -4,7 +4,9 @@
 //! and new seeds for that many minutes (60 without a number). Exit status 1 on any difference.
 
 use compare::report::Report;
-use compare::{bodies, codes, generators, labels, messages, quarter_frames, readers, writers};
+use compare::{
+    bodies, codes, generators, indexes, labels, messages, quarter_frames, readers, writers,
+};
 use std::process::ExitCode;
 use std::time::{Duration, Instant};
 
@@ -19,6 +21,7 @@ fn fixed(report: &mut Report) {
     quarter_frames::all(report);
     readers::all(report);
     bodies::all(report);
+    indexes::all(report);
     messages::all(report);
     codes::all(report);
     writers::all(report);
@@ -32,6 +35,7 @@ fn random(report: &mut Report, round: u64) {
     readers::random(report, seed);
     generators::random(report, seed);
     bodies::random(report, seed);
+    indexes::random(report, seed);
     messages::random(report, seed);
     codes::random(report, seed);
     writers::random(report, seed);

@@ -8,7 +8,7 @@ use mmc::Writer;
 use universal::SysexError;
 
 // A writer as one number: the position in the lowest four bytes, the items accepted in the next two, and in the byte above them the
-// first refusal, which it repeats. A refusal above 10 is taken as 10.
+// first refusal, which it repeats. A number that is no refusal's is taken as 10.
 pub type FlatWriter = u64;
 
 // No `From` for these three: a check is made of two values, and a writer's number is a plain one.

@@ -1,3 +1,4 @@
 pub mod Feed
+pub mod Index
 pub mod Obey
 pub mod Version

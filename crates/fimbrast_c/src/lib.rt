@@ -5,6 +5,7 @@ pub mod apply;
 pub mod code;
 pub mod feed;
 pub mod generator;
+pub mod index;
 pub mod message;
 pub mod obey;
 pub mod reader;

@@ -15,6 +15,7 @@ fn words(error: SysexError) -> &'static str {
         SysexError::Stopped => "the generator is stopped",
         SysexError::End => "the string has ended",
         SysexError::ItemLimit => "more than 256 items",
+        SysexError::NoField => "no field under this name",
     }
 }
 

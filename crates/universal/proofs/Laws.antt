@@ -14,8 +14,8 @@ use lib.ListN.{length, take, drop, get_or, set, length-set, length-append, get_o
 use lib.Seq.{length-sets, sets-eq, set_out, get_or-set_same, get_or-set_other}
 use Rattle.std.proofs.lemmas.List.Edits.{sets}
 use Rattle.universal.specs.declared.error.SysexError.{SysexError}
-use Rattle.universal.specs.declared.error.SysexError.TheVariants.{DataByte, Length, OutOfRange, BufferTooSmall, Device, Source, Target, Stopped, End, ItemLimit}
-use Rattle.universal.specs.Refusals.{Refusal, refusal, too_small, gives, refused, refusal_of, needed_of, error_of}
+use Rattle.universal.specs.declared.error.SysexError.TheVariants.{DataByte, Length, OutOfRange, BufferTooSmall, Device, Source, Target, Stopped, End, ItemLimit, NoField}
+use Rattle.universal.specs.Refusals.{Refusal, refusal, too_small, gives, refused, refusal_of, needed_of, error_of, error_from_10}
 use Rattle.universal.specs.Overlay.{overlay}
 use Rattle.universal.specs.Emission.{Emission, sent, refusing, check, resume, ◌then◌, answer_in, answer, reached, reached_in, fitted}
 use Rattle.universal.specs.Midi1.{has_sub_id2, sub_id2_given, sub_id2_bytes, class_id, inside, universal_bytes, InLayout, Allowed}
@@ -138,7 +138,7 @@ then_accepted d e h = go d.stop h
 
 -- A refusal is told by its number and the needed length.
 pub error_back : (e : SysexError) → error_of (refusal_of e).number (needed_of (refusal_of e)) ≡ e
-unfolding error_of
+unfolding error_of error_from_10
 error_back DataByte = refl
 error_back Length = refl
 error_back OutOfRange = refl
@@ -149,6 +149,7 @@ error_back Target = refl
 error_back Stopped = refl
 error_back End = refl
 error_back ItemLimit = refl
+error_back NoField = refl
 
 -- The answer by the refusal and the length.
 pub answer_by : (e : Emission) (room : ℕ) → answer e room ≡ answer_in e.stop (length e.bytes) room

@@ -1,8 +1,8 @@
--- The refusals by document 01's numbers ("Turned back by the input", "Turned back by the state"), and answers that may be
--- a refusal. Contracts and reference definitions speak in these numbers. Assumes nothing.
+-- The refusals by their numbers, 1 to 10 document 01's ("Turned back by the input", "Turned back by the state"), from 11 on document
+-- 02's, and answers that may be a refusal. Contracts and reference definitions speak in these numbers. Assumes nothing.
 use Rattle.std.specs.Prelude.{ℕ, cond, List, [], ◌∷◌, eqb, Result, Ok, Err}
 use Rattle.universal.specs.declared.error.SysexError.{SysexError}
-use Rattle.universal.specs.declared.error.SysexError.TheVariants.{DataByte, Length, OutOfRange, BufferTooSmall, Device, Source, Target, Stopped, End, ItemLimit}
+use Rattle.universal.specs.declared.error.SysexError.TheVariants.{DataByte, Length, OutOfRange, BufferTooSmall, Device, Source, Target, Stopped, End, ItemLimit, NoField}
 
 -- A refusal: its number, and the values given with it.
 pub record Refusal : Type 0 where
@@ -29,6 +29,7 @@ refusal_of Target = refusal 7
 refusal_of Stopped = refusal 8
 refusal_of End = refusal 9
 refusal_of ItemLimit = refusal 10
+refusal_of NoField = refusal 11
 
 -- The first of a refusal's values, or 0.
 abbrev pub first_of : List ℕ → ℕ
@@ -39,7 +40,11 @@ first_of (n ∷ ns) = n
 abbrev pub needed_of : Refusal → ℕ
 needed_of r = first_of r.values
 
--- The refusal of a number; one above 10 is taken as 10.
+-- The refusal of a number from 10 on; a number that is no refusal's is taken as 10.
+unfoldable pub error_from_10 : ℕ → SysexError
+error_from_10 n = cond (eqb n 11) NoField ItemLimit
+
+-- The refusal of a number, likewise.
 unfoldable pub error_of : ℕ → ℕ → SysexError
 error_of n needed =
     cond (eqb n 1) DataByte
@@ -47,7 +52,8 @@ error_of n needed =
     (cond (eqb n 3) OutOfRange
     (cond (eqb n 4) (BufferTooSmall needed)
     (cond (eqb n 5) Device
-    (cond (eqb n 6) Source (cond (eqb n 7) Target (cond (eqb n 8) Stopped (cond (eqb n 9) End ItemLimit))))))))
+    (cond (eqb n 6) Source
+    (cond (eqb n 7) Target (cond (eqb n 8) Stopped (cond (eqb n 9) End (error_from_10 n)))))))))
 
 -- What a call that may refuse answers: a value, or its refusal.
 pub data Answer (A : Type 0) : Type 0 where

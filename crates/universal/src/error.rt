@@ -1,7 +1,7 @@
-// The refusals of document 01, one case each, and the one place where a refusal becomes numbers and back. The definitions stand in
+// The refusals of documents 01 and 02, one case each, and the one place where a refusal becomes numbers and back. The definitions stand in
 // specs/Refusals.antt. The header for C and the enum in Rust have the names, numbers and words of the cases from here.
 ghost use Rattle.std.specs.Prelude.{◌≡◌};
-ghost use Rattle.universal.specs.Refusals.{refusal_of, needed_of, error_of};
+ghost use Rattle.universal.specs.Refusals.{refusal_of, needed_of, error_from_10, error_of};
 
 // Why a reading or a writing was turned back.
 #[derive(Clone, Copy)]
@@ -26,11 +26,13 @@ pub enum SysexError {
     End,
     // 10: 256 items were already accepted in this writing.
     ItemLimit,
+    // 11: an index has no field under this name.
+    NoField,
 }
 
 // Numbers and back are functions, and no `From`: refusal 4 has two numbers, and every number has a refusal.
 impl SysexError {
-    // The number of document 01.
+    // Its number in documents 01 and 02.
     pub fn number(self) -> u8
         ensures { result ≡ (refusal_of self).number }
     {
@@ -45,6 +47,7 @@ impl SysexError {
             SysexError::Stopped => 8,
             SysexError::End => 9,
             SysexError::ItemLimit => 10,
+            SysexError::NoField => 11,
         }
     }
 
@@ -58,10 +61,13 @@ impl SysexError {
         }
     }
 
-    // The refusal of a number, with the needed length for 4; one above 10 is taken as 10.
+    // The refusal of a number, with the needed length for 4; a number that is no refusal's is taken as 10.
     pub fn of_number(number: u8, needed: usize) -> SysexError
         ensures { result ≡ error_of number needed }
     {
+        if number > 9 {
+            return SysexError::from_10(number);
+        }
         match number {
             1 => SysexError::DataByte,
             2 => SysexError::Length,
@@ -72,6 +78,18 @@ impl SysexError {
             7 => SysexError::Target,
             8 => SysexError::Stopped,
             9 => SysexError::End,
+            _ => SysexError::ItemLimit,
+        }
+    }
+
+    // Likewise from 10 on. It stands apart: with one match over all numbers each call of a writer takes some seven instructions
+    // more.
+    #[tactic(auto, unfolding(crate::specs::Refusals::error_from_10))]
+    fn from_10(number: u8) -> SysexError
+        ensures { result ≡ error_from_10 number }
+    {
+        match number {
+            11 => SysexError::NoField,
             _ => SysexError::ItemLimit,
         }
     }

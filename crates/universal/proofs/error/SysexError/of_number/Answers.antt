@@ -1,7 +1,29 @@
 -- `universal::error::SysexError::of_number` meets its contract. Assumes nothing.
+use Prim.Native.Nat.{ℕ, ◌<◌}
+use mathlib.Core.Path.{◌≡◌, ◌∙◌}
+use native.Mathlib.Omega.{arith}
 use borrow.Author.Tests.{ne_eqb}
-use Rattle.universal.specs.Refusals.{error_of}
+use Rattle.universal.specs.Refusals.{error_from_10, error_of}
 use Rattle.universal.proofs.error.SysexError.of_number.Goals as goal
+
+-- Above 9 the refusal of a number is that of `error_from_10`.
+above_9 : (n needed : ℕ) → 9 < n → error_from_10 n ≡ error_of n needed
+unfolding error_of
+above_9 n needed h =
+    rw (
+      ne_eqb n 1 (λ q. omega arith),
+      ne_eqb n 2 (λ q. omega arith),
+      ne_eqb n 3 (λ q. omega arith),
+      ne_eqb n 4 (λ q. omega arith),
+      ne_eqb n 5 (λ q. omega arith),
+      ne_eqb n 6 (λ q. omega arith),
+      ne_eqb n 7 (λ q. omega arith),
+      ne_eqb n 8 (λ q. omega arith),
+      ne_eqb n 9 (λ q. omega arith),
+    )
+
+pub returns-then-number-gt9 : goal.returns-then-number-gt9
+returns-then-number-gt9 c = c.from_10.ensures ∙ above_9 _ _ c.if-number-gt9.true
 
 pub returns-in-1 : goal.returns-in-1
 unfolding error_of
@@ -40,7 +62,7 @@ unfolding error_of
 returns-in-9 c = rw c.in-9.is
 
 pub returns-in_default : goal.returns-in_default
-unfolding error_of
+unfolding error_of error_from_10
 returns-in_default c =
     let others = c.in_default.in_default-own.rest in
     rw (
@@ -53,4 +75,5 @@ returns-in_default c =
       ne_eqb _ _ others.0.0.1,
       ne_eqb _ _ others.0.1,
       ne_eqb _ _ others.1,
+      ne_eqb c.args.number 11 (λ q. omega (arith, c.if-number-gt9.false)),
     )

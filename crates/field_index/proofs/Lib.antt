@@ -1,0 +1,5 @@
+mod Cells
+mod FirstFields
+pub mod Instances
+pub mod Laws
+mod Walking
