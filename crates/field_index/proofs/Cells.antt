@@ -1,6 +1,7 @@
 -- The cells of an index: what they say after one field more, and that they are all of it. Assumes nothing.
 use Rattle.std.specs.Prelude.{Option, Some, None}
 use Rattle.std.specs.Option.{option_or}
+use Rattle.std.proofs.lemmas.Option.{none-some}
 use Prim.Native.Nat.{ℕ, zero, suc, ◌+◌, ◌-◌, ◌≤◌, ◌<◌}
 use mathlib.Core.Bool.{Bool, true, false, cond, ◌&&◌, true≢false, and-true, and-false}
 use mathlib.Core.List.{List, [], ◌∷◌}
@@ -40,7 +41,7 @@ module _ (index : Index) (place : ℕ) where
       by (Some p) b h = refl
       by None false h = refl
       by None true (inl q) = absurd (true≢false q)
-      by None true (inr q) = absurd (let z : ◌≡◌ {A = ℕ} 0 1 = cc in omega arith)
+      by None true (inr q) = absurd (none-some q.0 q.1)
 
   -- A name that is not one byte.
   pub not_one : (name : List ℕ) → (length name ≡ 1 → ⊥) → with_field index place name ≡ index
@@ -118,8 +119,8 @@ all_empty = fun_ext (λ n. ap cell_place (go 128 n))
 -- A cell by its place.
 cell_told : (a b : ℕ) → cell_place a ≡ cell_place b → a ≡ b
 cell_told zero zero h = refl
-cell_told zero (suc b) h = absurd (let z : ◌≡◌ {A = ℕ} 0 1 = cc in omega arith)
-cell_told (suc a) zero h = absurd (let z : ◌≡◌ {A = ℕ} 0 1 = cc in omega arith)
+cell_told zero (suc b) h = absurd (none-some b h)
+cell_told (suc a) zero h = absurd (none-some a (sym h))
 cell_told (suc a) (suc b) h = cc
 
 -- Two lists of 128 cells that hold the same index are equal cell by cell.

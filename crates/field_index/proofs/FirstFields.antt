@@ -1,5 +1,6 @@
 -- What a first field is: the walk's items, each with the place where it begins, and the first of a name among them. Assumes nothing.
 use Rattle.std.specs.Prelude.{Option, Some, None, option_map, find, ◌≢◌}
+use Rattle.std.proofs.lemmas.Option.{none-some}
 use Rattle.std.proofs.lemmas.List.Elements.{All-nil, All-cons, All-head, All-tail}
 use Rattle.std.proofs.lemmas.Slice.Eq.{bytes_eq-Decides}
 use Prim.Native.Nat.{ℕ, ◌+◌}
@@ -63,8 +64,7 @@ module _ (n : ℕ) where
 
   -- What is found is the first.
   pub found_first : (start : ℕ) (xs : List Item) (place : ℕ) → first_named n (placed start xs) ≡ Some place → FirstOf n start xs place
-  found_first start [] place h =
-      absurd (let e = sym (ap (first_named n) (placed_none start)) ∙ h in let z : ◌≡◌ {A = ℕ} 0 1 = cc in omega arith)
+  found_first start [] place h = absurd (none-some place (sym (ap (first_named n) (placed_none start)) ∙ h))
   found_first start (x ∷ xs) place h =
       go (is_named n x.name) refl (sym (ap (first_named n) (placed_cons start x xs)) ∙ h)
       (found_first (start + length (item_bytes Fields x)) xs place)
@@ -125,7 +125,7 @@ module _ (n : ℕ) where
           → option_map (λ (f : PlacedField). f.place) (cond b (Some (record { name = x.name; place = start })) rest) ≡ None
           → (first_named n (placed (start + length (item_bytes Fields x)) xs) ≡ None → OtherNames n xs)
           → OtherNames n (x ∷ xs)
-      go true e h later = absurd (let z : ◌≡◌ {A = ℕ} 0 1 = cc in omega arith)
+      go true e h later = absurd (none-some start (sym h))
       go false e h later = All-cons HasOther x xs (other_name n x.name e) (later h)
 
   pub found_none : (start : ℕ) (xs : List Item) → OtherNames n xs → first_named n (placed start xs) ≡ None

@@ -3,6 +3,7 @@
 use Rattle.std.specs.Prelude.{Option, Some, None, reverse, find}
 use Rattle.std.specs.Option.{option_or}
 use Rattle.std.proofs.lemmas.Bool.{cases_lt}
+use Rattle.std.proofs.lemmas.Option.{none-some}
 use Rattle.std.proofs.lemmas.List.{reverse-append}
 use Rattle.std.proofs.lemmas.List.Folds.{find-append}
 use Prim.Native.Nat.{ℕ, ◌≤◌, ◌<◌}
@@ -25,6 +26,7 @@ use Rattle.mmc.specs.Rp013.{Item}
 use Rattle.mmc.specs.Split.{Next}
 use Rattle.mmc.specs.Strings.{item, all_fit, joined, walk}
 use Rattle.mmc.proofs.StringLaws.{walk_stops, walk_exact, walk_item_fits, walk_item_found, walk_item_read, read_goes_on, zeros_item_lem}
+use Rattle.universal.proofs.Laws.{gives_refused}
 use Rattle.universal.specs.Refusals.{Refusal, gives, refused, refusal}
 -- Two lists of 128 cells that hold the same index are equal cell by cell.
 pub use Rattle.field_index.proofs.Cells.{cells_told}
@@ -96,7 +98,7 @@ accepted_exactly body = (
   where
     go : (b : Bool) → cond b None (Some (refusal 2)) ≡ None → b ≡ true
     go true h = refl
-    go false h = absurd (let z : ◌≡◌ {A = ℕ} 0 1 = cc in omega arith)
+    go false h = absurd (none-some (refusal 2) (sym h))
 
 -- Every string is accepted, and leaves its own index, or is refused by 2, and leaves any index as before.
 pub accepted_or_2 : (body : List ℕ)
@@ -133,7 +135,7 @@ first_field body n place = (λ h. go (is_indexed n) refl (sym (index_by_walk bod
     go : (b : Bool) → ltb n 128 ≡ b → cond b (first_named n (placed 0 (walk Fields body 0).items)) None ≡ Some place
         → (n < 128) × FirstField body n place
     go true e h = (ltb-true n 128 e, found_first n 0 (walk Fields body 0).items place h)
-    go false e h = absurd (let z : ◌≡◌ {A = ℕ} 0 1 = cc in omega arith)
+    go false e h = absurd (none-some place h)
 
     back : n < 128 → FirstField body n place → index_of body n ≡ Some place
     back l f =
@@ -193,7 +195,7 @@ lookup_first bodies body n place h = (
 )
   where
     to : (o : Option ℕ) → place_or_11 o ≡ gives place → o ≡ Some place
-    to None q = absurd (let z : ◌≡◌ {A = ℕ} 0 1 = cc in omega arith)
+    to None q = absurd (gives_refused place (refusal 11) q)
     to (Some p) q = ap Some cc
 
 -- After these builds a lookup is 11 just where the name is above 7FH or no item of the walk has it.
@@ -206,7 +208,7 @@ lookup_11 bodies body n h = (
   where
     none : (o : Option ℕ) → place_or_11 o ≡ refused (refusal 11) → o ≡ None
     none None q = refl
-    none (Some p) q = absurd (let z : ◌≡◌ {A = ℕ} 0 1 = cc in omega arith)
+    none (Some p) q = absurd (gives_refused p (refusal 11) (sym q))
 
     go : (n < 128) ⊎ (128 ≤ n) → index_of body n ≡ None → (128 ≤ n) ⊎ OtherNames n (walk Fields body 0).items
     go (inl l) e = inr ((no_field body n l).0 e)
