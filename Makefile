@@ -22,7 +22,7 @@ MAKE_BINDINGS = --offline --quiet --manifest-path bindings/make_bindings/Cargo.t
 PART ?= mtc
 
 .NOTPARALLEL:
-.PHONY: test part run program prove listed words library bindings bindings-made write-bindings c-example compare compare-long bench names after-proof
+.PHONY: test part run program minute-starts prove listed words library bindings bindings-made write-bindings c-example compare compare-long bench names after-proof
 
 test:
 	@.ci/run
@@ -35,11 +35,18 @@ part:
 run: program
 	@target/bin/mmc_check examples/strings.txt
 
-# target/bin/mmc_check, proved as its sources are; rt runs what it builds, here for its page of help.
+# Puts a proved program into target/bin: $(1) is its crate, $(2) the arguments of the run after the build.
+built = mkdir -p target/bin && { (cd crates/$(1) && rt run $(2) > ../../target/run.log 2>&1) || { tail -n 20 target/run.log; exit 1; }; } && \
+  cp -f crates/$(1)/out/$(1) target/bin/$(1)
+
+# target/bin/mmc_check; rt asks it for its page of help.
 program:
-	@mkdir -p target/bin
-	@cd crates/mmc_check && rt run -- --help > ../../target/run.log 2>&1 || { tail -n 20 ../../target/run.log; exit 1; }
-	@cp -f crates/mmc_check/out/mmc_check target/bin/mmc_check
+	@$(call built,mmc_check,-- --help)
+
+# target/bin/minute_starts. Its sixty lines are the constants by which labels are counted at drop-frame, as the source has them.
+minute-starts:
+	@$(call built,minute_starts,)
+	@tools/minute_starts target/bin/minute_starts
 
 # Proves every crate, runs the programs, tries the edits that must be refused: the gate without what comes after the proof.
 prove:
@@ -47,7 +54,7 @@ prove:
 
 # The library for C and Rust, and what it answers there; where cargo or the published Rust is missing, a line says what was left out.
 after-proof:
-	@$(MAKE) --no-print-directory listed names words library c-example
+	@$(MAKE) --no-print-directory listed names words minute-starts library c-example
 	@if $(CARGO) --version >/dev/null 2>&1; then $(MAKE) --no-print-directory bindings-made bindings; \
 	  else echo "bindings/rust was not tested, the made files not made again, and old not compared with new: there is no cargo here"; fi
 	@if ! $(CARGO) --version >/dev/null 2>&1; then :; \

@@ -29,8 +29,8 @@
 extern "C" {
 #endif
 
-#define FIMBRAST_VERSION 300
-#define FIMBRAST_VERSION_STRING "0.3.0"
+#define FIMBRAST_VERSION 400
+#define FIMBRAST_VERSION_STRING "0.4.0"
 
 /* The refusals by their numbers. 0 is none; with 4 the needed length is given. A later version may have more. */
 enum {
@@ -59,7 +59,7 @@ enum {
 /* The version as one number: 10,000 for each whole version, 100 for each minor one, and the patch. */
 uint32_t fimbrast_version(void);
 /* The same under a name that has the version. A program refers to it, so that an archive of another version does not link. */
-uint32_t fimbrast_version_0_3_0(void);
+uint32_t fimbrast_version_0_4_0(void);
 
 /* The archive must be of this version: where it is not, the linker misses this call. `retain` keeps it where the linker drops unused sections. */
 #if defined(__has_attribute)
@@ -67,7 +67,7 @@ uint32_t fimbrast_version_0_3_0(void);
 __attribute__((retain))
 #endif
 #endif
-__attribute__((used)) static uint32_t (*const fimbrast_needed_version)(void) = fimbrast_version_0_3_0;
+__attribute__((used)) static uint32_t (*const fimbrast_needed_version)(void) = fimbrast_version_0_4_0;
 
 /* ---- Labels, and the quarter frames of a label */
 

@@ -11,11 +11,15 @@ const DAYS: [u32; 4] = [2_073_600, 2_160_000, 2_589_408, 2_592_000];
 const HOURS: [u8; 14] = [0, 1, 9, 12, 22, 23, 24, 25, 31, 32, 63, 127, 128, 255];
 const SECONDS: [u8; 12] = [0, 1, 2, 9, 29, 58, 59, 60, 61, 63, 128, 255];
 
+/// Seconds and frames in each minute: the two that drop-frame may skip, the one behind them, the last, and one far behind.
+const PLACES: [[u8; 2]; 5] = [[0, 0], [0, 1], [0, 2], [59, 29], [255, 255]];
+
 /// The groups that need no seed.
 pub fn all(report: &mut Report) {
     report.group("labels: every count of the day", every_count);
     report.group("labels: every label of the message's widths", every_width);
     report.group("labels: grid over the whole bytes", grid);
+    report.group("labels: counts of every minute of every hour", every_minute);
     report.group("rates: every byte", rates);
 }
 
@@ -74,6 +78,22 @@ fn grid(g: &mut Group) {
                         on_label(g, t);
                         g.check(both!(label::new(t)), || format!("new of {}", label(&t)));
                     }
+                }
+            }
+        }
+    }
+}
+
+/// The counts at drop-frame go by a table of an hour's minutes; so each minute is asked for, past 59 too.
+fn every_minute(g: &mut Group) {
+    for rate in 0..4 {
+        for h in 0..=255 {
+            for m in 0..=255 {
+                for [s, f] in PLACES {
+                    let t = [h, m, s, f, rate];
+                    g.check(both!(label::to_frame_count(t)), || {
+                        format!("to_frame_count of {}", label(&t))
+                    });
                 }
             }
         }

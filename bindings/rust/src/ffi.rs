@@ -10,11 +10,11 @@ use core::mem::{offset_of, size_of};
 use crate::mtc::MtcTime;
 
 /// The version of the library that this is made for.
-pub const VERSION: u32 = 300;
+pub const VERSION: u32 = 400;
 
 /// The archive must be of this version: where it is not, the linker misses this call.
 #[used]
-static NEEDED_VERSION: extern "C" fn() -> u32 = fimbrast_version_0_3_0;
+static NEEDED_VERSION: extern "C" fn() -> u32 = fimbrast_version_0_4_0;
 
 pub const NOT_THIS: u8 = 255;
 pub const NONE: u8 = 255;
@@ -624,7 +624,7 @@ unsafe extern "C" {
     /// The version as one number: 10,000 for each whole version, 100 for each minor one, and the patch.
     pub safe fn fimbrast_version() -> u32;
     /// The same under a name that has the version. A program refers to it, so that an archive of another version does not link.
-    pub safe fn fimbrast_version_0_3_0() -> u32;
+    pub safe fn fimbrast_version_0_4_0() -> u32;
     /// `write_commands` opens: F0H, 7FH, the device, 06H.
     pub fn fimbrast_open_commands(out: *mut u8, out_length: usize, device_id: u8) -> Writer;
     /// `write_responses` opens: F0H, 7FH, the device, 07H.

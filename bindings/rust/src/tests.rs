@@ -166,6 +166,37 @@ fn labels() {
     assert_eq!(out.next_valid(), out);
 }
 
+/// At 30 drop-frame a valid label counts as many as stand before it, and an invalid one by the formula.
+#[test]
+fn drop_frame_counts() {
+    let label = |hours, minutes, seconds, frames| MtcTime {
+        hours,
+        minutes,
+        seconds,
+        frames,
+        rate: TimeCodeType::Fps30Drop,
+    };
+    let mut before = 0;
+    for n in 0..24 * 60 * 60 * 30u32 {
+        let (frames, seconds) = (n % 30, n / 30 % 60);
+        let (minutes, hours) = (n / 1_800 % 60, n / 108_000);
+        let t = label(hours as u8, minutes as u8, seconds as u8, frames as u8);
+        if t.is_valid() {
+            assert_eq!(t.to_frame_count(), before);
+            before += 1;
+        }
+    }
+    assert_eq!(before, 2_589_408);
+    // The last number of the table, and its minute's two skipped labels.
+    assert_eq!(label(0, 59, 0, 2).to_frame_count(), 106_094);
+    assert_eq!(label(0, 59, 0, 0).to_frame_count(), 106_092);
+    assert_eq!(label(0, 59, 0, 1).to_frame_count(), 106_093);
+    // Minutes from 60 on count in the hours that follow.
+    assert_eq!(label(0, 60, 0, 0).to_frame_count(), 107_892);
+    assert_eq!(label(0, 75, 0, 2).to_frame_count(), 134_866);
+    assert_eq!(label(1, 255, 7, 3).to_frame_count(), 566_645);
+}
+
 #[test]
 fn quarter_frames() {
     for byte in 0..=127 {

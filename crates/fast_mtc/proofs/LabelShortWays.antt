@@ -1,6 +1,6 @@
--- The short ways of the label calls: counts and labels by one quotient, labels as one number, and a few frames away in the same second.
--- Assumes nothing.
-use Prim.Native.Nat.{ℕ, zero, suc, ◌+◌, ◌-◌, ◌*◌, ◌/◌, ◌%◌, ◌≤◌, ◌<◌}
+-- The short ways of the label calls: counts by the table of minute starts, labels by one quotient, labels as one number, and a few frames
+-- away in the same second. Assumes nothing.
+use Prim.Native.Nat.{ℕ, zero, suc, ◌+◌, ◌-◌, ◌*◌, ◌/◌, ◌%◌, ◌^◌, ◌≤◌, ◌<◌}
 use mathlib.Core.Path.{◌≡◌, refl, sym, subst, ap, ◌∙◌}
 use mathlib.Core.Bool.{false, true≢false}
 use mathlib.Core.Logic.{inr}
@@ -13,9 +13,10 @@ use mir.Val.{Fits}
 use Rattle.labels.specs.declared.time.MtcTime.{MtcTime}
 use Rattle.labels.specs.declared.time.TimeCodeType.{TimeCodeType}
 use Rattle.labels.specs.declared.time.TimeCodeType.TheVariants.{Fps24, Fps25, Fps30Drop, Fps30}
+use Rattle.labels.specs.MinuteStarts.{labels_of_minutes}
 use Rattle.labels.specs.St12.{label, frames_per_second, is_drop_frame, is_valid}
 use Rattle.labels.specs.Time.{bits_of, day_of, formula, frame_count, label_at_second, label_at, mod_z, add_frames}
-use Rattle.labels.proofs.Laws.{count_by_formula, count_below, even_label, drop_split, label_round, moved_by_count, moved_by_sum, moved_by_none, frames_later, in_range_valid, mod_below, valid_widths, bits_small, fps_small}
+use Rattle.labels.proofs.Laws.{count_by_formula, from_next_start, count_below, even_label, drop_split, label_round, moved_by_count, moved_by_sum, moved_by_none, frames_later, in_range_valid, mod_below, valid_widths, bits_small, fps_small}
 use Rattle.fast_mtc.specs.Label.{label_number}
 
 -- ---- rates by their bits
@@ -34,16 +35,15 @@ two_fit Fps30 = lit≤ tt
 
 -- ---- counts
 
--- 1798 frames for each minute, and two more for each tenth.
-drop_by_minutes : (m s f : ℕ) → m * 1798 + s * 30 + f + m / 10 * 2 ≡ formula Fps30Drop m s f
-drop_by_minutes m s f = omega arith
-
-pub drop_frame_count : (t : MtcTime) (n : ℕ) → bits_of t.rate ≡ 2
-    → n ≡ ((t.hours * 60 + t.minutes) * 1798 + t.seconds * 30 + t.frames + (t.hours * 60 + t.minutes) / 10 * 2) % 2589408
-    → n ≡ frame_count t
-drop_frame_count t n e h =
-    h
-    ∙ ap (λ (k : ℕ). k % 2589408) (drop_by_minutes (t.hours * 60 + t.minutes) t.seconds t.frames)
+-- At drop-frame, back from the start of the next minute.
+pub by_next_start : (t : MtcTime) (back n : ℕ) → bits_of t.rate ≡ 2 → t.hours < 256 → t.minutes < 256 → t.seconds < 256 → t.frames < 256
+    → back ≡ (t.hours * 107892 + t.seconds * 30 + t.frames + (2 ^ 32 - 1800)) % 2 ^ 32
+    → n ≡ (back + labels_of_minutes (t.minutes + 1)) % 2 ^ 32 % 2589408 → n ≡ frame_count t
+by_next_start t back n e hh hm hs hf eb en =
+    let up : (back + labels_of_minutes (t.minutes + 1)) % 2 ^ 32 ≡ t.hours * 107892 + t.seconds * 30 + t.frames + labels_of_minutes (t.minutes + 1) - 1800
+    = omega (arith, hh, hm, hs, hf, eb) in
+    en
+    ∙ ap (λ (x : ℕ). x % 2589408) (up ∙ from_next_start t.hours t.minutes t.seconds t.frames)
     ∙ subst (λ (r : TimeCodeType). formula r (t.hours * 60 + t.minutes) t.seconds t.frames % day_of r ≡ frame_count t)
     (is_drop t.rate e) (sym (count_by_formula t))
 

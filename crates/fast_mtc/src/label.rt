@@ -1,8 +1,9 @@
 // Label arithmetic in registers: the answers of `to_frame_count`, `from_frame_count` and `add_frames` of `labels`. A number below
-// the day is not divided, each rate divides by constants, and the drop-frame minute is one quotient. A label is made as one number,
-// and a few frames away in the same second it is a sum. As calls the functions marked `inline` take more
-// instructions.
-ghost use Rattle.std.specs.Prelude.{◌≡◌, true, false, ◌-◌, ◌<◌, ◌≤◌, ◌+◌, ◌*◌, ◌/◌, ◌%◌, pos, negsuc};
+// the day is not divided, and each rate divides by constants. At drop-frame a label is counted by the table of minute starts, and the minute
+// of a count is one quotient. A label is made as one number, and a few frames away in the same second it is a sum. As calls the functions
+// marked `inline(always)` take more instructions.
+ghost use Rattle.std.specs.Prelude.{◌≡◌, true, false, ◌-◌, ◌<◌, ◌≤◌, ◌+◌, ◌*◌, ◌/◌, ◌%◌, ◌^◌, pos, negsuc};
+ghost use Rattle.labels.specs.MinuteStarts.{labels_of_minutes};
 ghost use Rattle.labels.specs.St12.{is_drop_frame};
 ghost use Rattle.labels.specs.Time.{bits_of, type_of, frame_count, label_at, add_frames, mod_z, label_at_second};
 ghost use Rattle.mtc.specs.Generator.{sequence_frames};
@@ -10,15 +11,18 @@ ghost use Rattle.fast_mtc.specs.Clauses.{RateOf};
 ghost use Rattle.fast_mtc.specs.Label.{label_number};
 
 use crate::time::time_numbered;
+use labels::{DROP_HOUR, MINUTE_STARTS};
 use mtc::{Direction, MtcTime, TimeCodeType};
 
-// The frames of a minute that drops two numbers. `labels` keeps its constants to itself.
+// The frame numbers of a minute, and the frames of one that skips two of them. `labels` keeps its other constants to itself.
+const MINUTE: u32 = 1_800;
+
 const DROP_MINUTE: u32 = 1_798;
 
 // The seconds of 24 hours, and their frames at drop-frame.
 const DAY: u32 = 86_400;
 
-const DAY_DROP: u32 = 2_589_408;
+const DAY_DROP: u32 = 24 * DROP_HOUR;
 
 // The two bits of a rate, by which it is told.
 const BITS_24: u8 = 0;
@@ -137,20 +141,56 @@ fn even_number(count: u32, rate: TimeCodeType) -> u64
 }
 
 // `MtcTime::to_frame_count`.
-#[tactic(auto, using(crate::proofs::LabelShortWays::drop_frame_count, crate::proofs::LabelShortWays::even_frame_count))]
+#[tactic(auto, using(crate::proofs::LabelShortWays::even_frame_count))]
 pub fn frame_count(t: MtcTime) -> u32
     ensures { result ≡ frame_count t }
 {
     let rate = t.rate;
-    let minutes = t.hours as u32 * 60 + t.minutes as u32;
-    let frames = t.frames as u32;
     if rate.into_bits() == BITS_DROP {
-        let n = minutes * DROP_MINUTE + t.seconds as u32 * 30 + frames;
-        return modulo_day(n + minutes / 10 * 2, DAY_DROP);
+        return count_back(t);
     }
+    let minutes = t.hours as u32 * 60 + t.minutes as u32;
     let seconds = minutes * 60 + t.seconds as u32;
     let per_second = rate.frames_per_second() as u32;
-    modulo_day(seconds * per_second + frames, DAY * per_second)
+    modulo_day(seconds * per_second + t.frames as u32, DAY * per_second)
+}
+
+// The labels before a minute of an hour, from the table.
+#[tactic(auto, using(labels::proofs::Laws::start_by_rule))]
+fn start_in_table(minute: usize) -> u32
+    requires { minute < 60 }
+    ensures { result ≡ labels_of_minutes minute }
+{
+    MINUTE_STARTS[minute]
+}
+
+// `frame_count` at drop-frame, back from the start of the next minute. A minute skips numbers at its own start alone, so it is not asked
+// whether this one does. In hour 0 `back` wraps below 0; adding the start brings it up again.
+#[tactic(auto, using(crate::proofs::LabelShortWays::by_next_start))]
+fn count_back(t: MtcTime) -> u32
+    requires { bits_of t.rate ≡ 2 }
+    ensures { result ≡ frame_count t }
+{
+    let place = t.hours as u32 * DROP_HOUR + t.seconds as u32 * 30 + t.frames as u32;
+    let back = place.wrapping_sub(MINUTE);
+    if t.minutes >= 59 {
+        return count_back_late(back, t.minutes);
+    }
+    modulo_day(
+        back.wrapping_add(start_in_table(t.minutes as usize + 1)),
+        DAY_DROP,
+    )
+}
+
+// From minute 59 on the next minute is in a later hour. Inlined, this costs the usual way two instructions.
+#[cold]
+#[inline(never)]
+fn count_back_late(back: u32, minutes: u8) -> u32
+    ensures { result ≡ (back + labels_of_minutes (minutes + 1)) % 2 ^ 32 % 2589408 }
+{
+    let next = minutes as u32 + 1;
+    let start = next / 60 * DROP_HOUR + start_in_table((next % 60) as usize);
+    modulo_day(back.wrapping_add(start), DAY_DROP)
 }
 
 // The number of `MtcTime::from_frame_count`.

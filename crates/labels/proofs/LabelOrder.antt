@@ -16,7 +16,7 @@ use Rattle.labels.proofs.Validity.{NotDropped, skipped_kept, kept_skipped, valid
 
 -- ---- the order, number by number
 
-lower_cases : (a b : ℕ) (p : Bool) → T (lower a b p) → (a < b) ⊎ ((a ≡ b) × T p)
+pub lower_cases : (a b : ℕ) (p : Bool) → T (lower a b p) → (a < b) ⊎ ((a ≡ b) × T p)
 lower_cases a b p = go (ltb a b) (eqb a b) refl refl
   where
     go : (l e : Bool) → ltb a b ≡ l → eqb a b ≡ e → T (l || (e && p)) → (a < b) ⊎ ((a ≡ b) × T p)
@@ -34,7 +34,7 @@ lower_both a b p q l u = go (lower_cases a b p l) (lower_cases b a q u)
     go (inr x) (inl y) = absurd (omega (arith, x.0))
     go (inr x) (inr y) = (x.0, x.1, y.1)
 
-lower_same : (a : ℕ) (p : Bool) → T p → T (lower a a p)
+pub lower_same : (a : ℕ) (p : Bool) → T p → T (lower a a p)
 lower_same a p h = rw (le-ltb a a (omega arith), eq-eqb a a refl) h
 
 -- ---- a skipped label

@@ -6,9 +6,12 @@ use mathlib.Core.Bool.{true, false}
 use mathlib.Core.Logic.{◌⊎◌}
 use lib.Dec.{T}
 use lib.IntN.{ℤ, pos, negsuc, ◌+ℤ◌}
+use lib.ListN.{get_or}
+use Rattle.labels.specs.declared.minutes.TheConstants.{MINUTE_STARTS}
 use Rattle.labels.specs.declared.time.MtcTime.{MtcTime}
 use Rattle.labels.specs.declared.time.TimeCodeType.{TimeCodeType}
 use Rattle.labels.specs.declared.time.TimeCodeType.TheVariants.{Fps30Drop}
+use Rattle.labels.specs.MinuteStarts.{FirstOfMinute, skipped_in, first_of_minute, minute_start, minute_starts, labels_of_minutes}
 use Rattle.labels.specs.St12.{label, frames_per_second, is_drop_frame, is_skipped, is_valid, LeastAbove, count_before, labels_of_day, label_after, label_before}
 use Rattle.labels.specs.Time.{day_of, formula, frame_count, label_at_second, label_at, mod_z, add_frames, next_valid}
 use Rattle.labels.proofs.LabelAfter
@@ -23,6 +26,9 @@ use Rattle.labels.proofs.LabelOrder
 use Rattle.labels.proofs.Rates
 -- A rate has two bits, which tell it, and at most 30 frames, a day as many as it has; a count and a residue of the day fit a word.
 pub use Rattle.labels.proofs.Rates.{bits_small, rate_back, fps_small, day_positive, day_small, sum_fits}
+use Rattle.labels.proofs.MinuteStarts
+-- What the faster form rests on: a number of the table by its rule, and a label's count back from the next minute's start.
+pub use Rattle.labels.proofs.MinuteStarts.{start_by_rule, from_next_start}
 use Rattle.labels.proofs.Skipped
 use Rattle.labels.proofs.Validity
 -- A valid label's numbers are in their ranges, and fit the widths in which they are sent.
@@ -113,6 +119,44 @@ label_round = CountParts.label_round
 -- A move goes by the count.
 pub moved_by_count : (t : MtcTime) (z : ℤ) → add_frames t z ≡ label_at (frame_count t + mod_z z (day_of t.rate)) t.rate
 moved_by_count = CountParts.moved_by_count
+
+-- ---- minute starts at 30 drop-frame (document 02, #102)
+
+-- Each minute of the day has a first valid label, after the numbers that the minute skips, and no other label is the first.
+pub first_of_minute_lem : (h m : ℕ) → h ≤ 23 → m ≤ 59 → FirstOfMinute h m (first_of_minute h m)
+first_of_minute_lem = MinuteStarts.first_of_minute_lem
+
+pub only_first : (h m : ℕ) (t : MtcTime) → FirstOfMinute h m t → t ≡ first_of_minute h m
+only_first = MinuteStarts.only_first
+
+-- The table is the sixty starts: of each minute of an hour, how many valid labels ST 12-1 has before its first one.
+pub table_of_starts : MINUTE_STARTS ≡ minute_starts
+table_of_starts = MinuteStarts.table_of_starts
+
+-- The first number, the second and the last.
+pub starts_named : (minute_start 0 ≡ 0) × ((minute_start 1 ≡ 1800) × (minute_start 59 ≡ 106094))
+starts_named = MinuteStarts.starts_named
+
+-- By the rule: 1,800 for each minute before, less 2 for each but every tenth.
+pub minute_start_is : (m : ℕ) → m ≤ 59 → minute_start m ≡ labels_of_minutes m
+minute_start_is = MinuteStarts.minute_start_is
+
+pub count_by_minutes : (h m : ℕ) → h ≤ 23 → m ≤ 59 → count_before (first_of_minute h m) ≡ labels_of_minutes (h * 60 + m)
+count_by_minutes = MinuteStarts.count_by_minutes
+
+-- In every hour: 107,892 labels for each hour before, and the minute's start.
+pub start_in_hour : (h m : ℕ) (t : MtcTime) → FirstOfMinute h m t → count_before t ≡ h * 107892 + minute_start m
+start_in_hour = MinuteStarts.start_in_hour
+
+-- The count of any label with minutes below 60 by its minute's number, also of one that is skipped or otherwise invalid.
+pub count_in_hour : (t : MtcTime) → t.rate ≡ Fps30Drop → t.minutes < 60
+    → frame_count t ≡ (t.hours * 107892 + get_or MINUTE_STARTS t.minutes 0 + t.seconds * 30 + t.frames - skipped_in t.minutes) % 2589408
+count_in_hour = MinuteStarts.count_in_hour
+
+-- The count of any label at all: minutes from 60 on count in the hours that follow.
+pub count_by_table : (t : MtcTime) (m : ℕ) → t.rate ≡ Fps30Drop → m ≡ t.hours * 60 + t.minutes
+    → frame_count t ≡ (m / 60 * 107892 + get_or MINUTE_STARTS (m % 60) 0 + t.seconds * 30 + t.frames - skipped_in m) % 2589408
+count_by_table = MinuteStarts.count_by_table
 
 -- ---- by ST 12-1
 

@@ -2,10 +2,12 @@ mod CountParts
 mod Counts
 mod DayCount
 mod Distance
+mod Instances
 mod LabelAfter
 mod LabelBefore
 mod LabelOrder
 pub mod Laws
+mod MinuteStarts
 mod Moves
 mod Rates
 mod Skipped

@@ -1,5 +1,5 @@
--- What each rate's numbers are bounded by, and the answers of the label calls at a rate that a match has told. Assumes nothing.
-use Prim.Native.Nat.{ℕ, ◌+◌, ◌-◌, ◌*◌, ◌/◌, ◌%◌, ◌≤◌, ◌<◌}
+-- What each rate's numbers are bounded by, and what the calls rest on that count and move labels. Assumes nothing.
+use Prim.Native.Nat.{ℕ, ◌+◌, ◌*◌, ◌/◌, ◌%◌, ◌≤◌, ◌<◌}
 use mathlib.Core.Path.{◌≡◌, refl, sym, ap, subst}
 use mathlib.Core.Bool.{true, false}
 use native.Mathlib.Nat.{mod-lt}
@@ -57,14 +57,7 @@ pub count_below : (t : MtcTime) → frame_count t < day_of t.rate
 unfolding frame_count
 count_below t = mod-lt _ (day_positive t.rate)
 
--- ---- the count, from whole seconds
-
-formula_of_drop : (r : TimeCodeType) (m s f : ℕ) → is_drop_frame r ≡ true
-    → (m * 60 + s) * frames_per_second r + f - 2 * (m - m / 10) ≡ formula r m s f
-formula_of_drop Fps24 m s f d = absurd (subst T (sym d) tt)
-formula_of_drop Fps25 m s f d = absurd (subst T (sym d) tt)
-formula_of_drop Fps30Drop m s f d = refl
-formula_of_drop Fps30 m s f d = absurd (subst T (sym d) tt)
+-- ---- the count, by the formula of the rate
 
 even_formula : (r : TimeCodeType) (m s f : ℕ) → is_drop_frame r ≡ false → (m * 60 + s) * frames_per_second r + f ≡ formula r m s f
 even_formula Fps24 m s f d = refl
@@ -72,18 +65,25 @@ even_formula Fps25 m s f d = refl
 even_formula Fps30Drop m s f d = absurd (subst T d tt)
 even_formula Fps30 m s f d = refl
 
-module _ (t : MtcTime) (n d : ℕ) (en : n ≡ frames_per_second t.rate) (ed : d ≡ day_of t.rate) where
-  pub drop_count : is_drop_frame t.rate ≡ true
-      → (((t.hours * 60 + t.minutes) * 60 + t.seconds) * n + t.frames - 2 * (t.hours * 60 + t.minutes - (t.hours * 60 + t.minutes) / 10)) % d
-      ≡ frame_count t
-  unfolding frame_count
-  drop_count k =
-      rw (en, ed) (ap (λ (x : ℕ). x % day_of t.rate) (formula_of_drop t.rate (t.hours * 60 + t.minutes) t.seconds t.frames k))
+-- The rate that drops numbers is one.
+pub drop_rate : (r : TimeCodeType) → is_drop_frame r ≡ true → r ≡ Fps30Drop
+drop_rate Fps24 e = absurd (subst T (sym e) tt)
+drop_rate Fps25 e = absurd (subst T (sym e) tt)
+drop_rate Fps30Drop e = refl
+drop_rate Fps30 e = absurd (subst T (sym e) tt)
 
-  pub even_count : is_drop_frame t.rate ≡ false
+module _ (t : MtcTime) (n d : ℕ) (ed : d ≡ day_of t.rate) where
+  pub drop_by_formula : (m : ℕ) → n ≡ formula Fps30Drop m t.seconds t.frames → m ≡ t.hours * 60 + t.minutes → is_drop_frame t.rate ≡ true
+      → n % d ≡ frame_count t
+  unfolding frame_count
+  drop_by_formula m en em k =
+      rw (en, em, ed)
+      (ap (λ (r : TimeCodeType). formula r (t.hours * 60 + t.minutes) t.seconds t.frames % day_of t.rate) (sym (drop_rate t.rate k)))
+
+  pub even_by_formula : n ≡ frames_per_second t.rate → is_drop_frame t.rate ≡ false
       → (((t.hours * 60 + t.minutes) * 60 + t.seconds) * n + t.frames) % d ≡ frame_count t
   unfolding frame_count
-  even_count k =
+  even_by_formula en k =
       rw (en, ed) (ap (λ (x : ℕ). x % day_of t.rate) (even_formula t.rate (t.hours * 60 + t.minutes) t.seconds t.frames k))
 
 -- ---- the label of a count
@@ -92,10 +92,6 @@ pub label_at_lem : (n k d p : ℕ) (r : TimeCodeType) → d ≡ day_of r → k �
     → label_at_second r (k / p) (k % p) ≡ label_at n r
 unfolding label_at
 label_at_lem n k d p r ed ek ep = rw (ek, ep, ed)
-
--- ---- at a rate that a match has told
-
--- ---- a valid label, test by test
 
 -- ---- moving by a distance
 

@@ -1,16 +1,16 @@
 -- The labels that drop-frame skips: what holds of one, and what it counts as. Assumes nothing.
 use Prim.Native.Nat.{ℕ, ◌+◌, ◌-◌, ◌*◌, ◌/◌, ◌%◌, ◌≤◌, ◌<◌}
-use mathlib.Core.Path.{◌≡◌, refl, sym, ap, subst}
+use mathlib.Core.Path.{◌≡◌, refl, ap}
 use mathlib.Core.Bool.{Bool, true, false, not, ◌&&◌}
 use mathlib.Core.Logic.{inr}
 use native.Mathlib.Omega.{arith}
 use borrow.Author.Tests.{ltb-true, eqb-true, eqb-false}
 use lib.Dec.{T, ltb, eqb}
 use Rattle.labels.specs.declared.time.MtcTime.{MtcTime}
-use Rattle.labels.specs.declared.time.TimeCodeType.{TimeCodeType}
-use Rattle.labels.specs.declared.time.TimeCodeType.TheVariants.{Fps24, Fps25, Fps30Drop, Fps30}
+use Rattle.labels.specs.declared.time.TimeCodeType.TheVariants.{Fps30Drop}
 use Rattle.labels.specs.St12.{label, is_drop_frame, is_skipped, is_valid}
 use Rattle.labels.specs.Time.{day_of, formula, frame_count}
+use Rattle.labels.proofs.Rates.{drop_rate}
 use Rattle.labels.proofs.Validity.{in_range_valid}
 
 -- What holds of it.
@@ -19,12 +19,6 @@ pub record Skipped (t : MtcTime) : Type 0 where
   pub start : t.seconds ≡ 0
   pub low : t.frames < 2
   pub minute : t.minutes % 10 ≡ 0 → ⊥
-
-drop_rate : (r : TimeCodeType) → is_drop_frame r ≡ true → r ≡ Fps30Drop
-drop_rate Fps24 e = absurd (subst T (sym e) tt)
-drop_rate Fps25 e = absurd (subst T (sym e) tt)
-drop_rate Fps30Drop e = refl
-drop_rate Fps30 e = absurd (subst T (sym e) tt)
 
 pub skipped_facts : (t : MtcTime) → T (is_skipped t) → Skipped t
 unfolding is_skipped

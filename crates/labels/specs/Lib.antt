@@ -1,2 +1,3 @@
+pub mod MinuteStarts
 pub mod St12
 pub mod Time

@@ -5,19 +5,22 @@ ghost use Rattle.std.specs.Prelude.{◌≡◌, ◌<◌};
 ghost use Rattle.labels.specs.St12.{label, frames_per_second, is_drop_frame, is_valid, is_skipped};
 ghost use Rattle.labels.specs.Time.{day_of, bits_of, type_of, new_time, next_valid, frame_count, label_at, add_frames, raw_time, hours_byte, mod_z, label_at_second, with_skipped};
 
+use crate::minutes::drop_count;
 use universal::SysexError;
 
 // The frames of ten minutes at 30 drop-frame: 10 * 1800 - 9 * 2.
 const DROP_10_MINUTES: u32 = 17_982;
 // The frames of a minute that drops two numbers.
 const DROP_MINUTE: u32 = 1_798;
+// The frames of an hour at 30 drop-frame.
+pub const DROP_HOUR: u32 = 6 * DROP_10_MINUTES;
 
 // The frames of 24 hours at each rate.
 const DAY_24: u32 = 86_400 * 24;
 
 const DAY_25: u32 = 86_400 * 25;
 
-const DAY_DROP: u32 = 24 * 6 * DROP_10_MINUTES;
+const DAY_DROP: u32 = 24 * DROP_HOUR;
 
 const DAY_30: u32 = 86_400 * 30;
 
@@ -210,11 +213,11 @@ impl MtcTime {
     {
         let rate = self.rate;
         let minutes = self.hours as u32 * 60 + self.minutes as u32;
+        if rate.is_drop_frame() {
+            return drop_count(minutes, self.seconds as u32, self.frames as u32) % rate.day();
+        }
         let seconds = minutes * 60 + self.seconds as u32;
         let n = seconds * rate.frames_per_second() as u32 + self.frames as u32;
-        if rate.is_drop_frame() {
-            return (n - 2 * (minutes - minutes / 10)) % rate.day();
-        }
         n % rate.day()
     }
 
