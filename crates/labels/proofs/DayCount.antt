@@ -1,6 +1,6 @@
 -- ST 12-1's counts, computed: how many valid labels a second, a minute, an hour and a day have at each rate, and how many
 -- stand before a valid label, which is the reference count. Assumes nothing.
-use Prim.Native.Nat.{ℕ, zero, suc, ◌+◌, ◌-◌, ◌*◌, ◌/◌, ◌%◌, ◌≤◌, ◌<◌}
+use Prim.Native.Nat.{ℕ, zero, suc, ◌+◌, ◌-◌, ◌*◌, ◌%◌, ◌≤◌, ◌<◌}
 use mathlib.Core.Path.{◌≡◌, refl, sym, ap, ap₂, ◌∙◌}
 use mathlib.Core.Bool.{Bool, true, false, not, cond, ◌&&◌}
 use mathlib.Core.Logic.{inl, inr}
@@ -10,9 +10,11 @@ use lib.Dec.{T, leb, ltb, eqb}
 use Rattle.labels.specs.declared.time.MtcTime.{MtcTime}
 use Rattle.labels.specs.declared.time.TimeCodeType.{TimeCodeType}
 use Rattle.labels.specs.declared.time.TimeCodeType.TheVariants.{Fps24, Fps25, Fps30Drop, Fps30}
+use Rattle.labels.specs.MinuteStarts.{labels_of_minutes}
 use Rattle.labels.specs.St12.{label, frames_per_second, is_skipped, is_valid, lower, is_earlier, sum, one, how_many, count_before, labels_of_day}
 use Rattle.labels.specs.Time.{day_of, formula, frame_count}
 use Rattle.labels.proofs.Counts.{count_is_formula}
+use Rattle.labels.proofs.LabelOrder.{lower_equal}
 use Rattle.labels.proofs.Rates.{fps_small}
 use Rattle.labels.proofs.Sums.{sum_below, sum_cut, sum_to, sum_same, sum_none, sum_zero}
 use Rattle.labels.proofs.Validity.{NotDropped, skipped_kept, InRange, valid_facts}
@@ -152,7 +154,7 @@ module _ (v : Bool) (e : Bool) (a b : ℕ) where
   lower_before l = rw (lt-ltb a b l)
 
   lower_at : a ≡ b → one (lower a b e && v) ≡ one (e && v)
-  lower_at q = rw (le-ltb a b (omega arith), eq-eqb a b q)
+  lower_at q = ap (λ (x : Bool). one (x && v)) (lower_equal a b e q)
 
   lower_after : b < a → one (lower a b e && v) ≡ 0
   lower_after l = rw (le-ltb a b (omega arith), ne_eqb a b (omega arith))
@@ -193,19 +195,18 @@ module _ (r : TimeCodeType) (h m s f : ℕ) where
 -- ---- the sums in closed form
 
 -- one more drop-frame minute, after a sum k of m minutes
-minute_more : (m k : ℕ) → k + 2 * m ≡ 1800 * m + 2 * ((m + 9) / 10)
-    → k + labels_of_minute Fps30Drop (tenth m) + 2 * suc m ≡ 1800 * suc m + 2 * ((suc m + 9) / 10)
+minute_more : (m k : ℕ) → k ≡ labels_of_minutes m → k + labels_of_minute Fps30Drop (tenth m) ≡ labels_of_minutes (suc m)
 minute_more m k ih = go (tenth m) refl
   where
-    short : (m % 10 ≡ 0 → ⊥) → k + 1798 + 2 * suc m ≡ 1800 * suc m + 2 * ((suc m + 9) / 10)
+    short : (m % 10 ≡ 0 → ⊥) → k + 1798 ≡ labels_of_minutes (suc m)
     short e = omega arith
 
-    go : (b : Bool) → tenth m ≡ b → k + cond b 1800 1798 + 2 * suc m ≡ 1800 * suc m + 2 * ((suc m + 9) / 10)
-    go true e = omega (arith, eqb-true (m % 10) 0 e)
+    go : (b : Bool) → tenth m ≡ b → k + cond b 1800 1798 ≡ labels_of_minutes (suc m)
+    go true e = omega (arith, ih, eqb-true (m % 10) 0 e)
     go false e = short (eqb-false (m % 10) 0 e)
 
 -- Drop-frame minutes: two fewer for each that is no multiple of ten.
-drop_minutes : (m : ℕ) → sum m (λ i. labels_of_minute Fps30Drop (tenth i)) + 2 * m ≡ 1800 * m + 2 * ((m + 9) / 10)
+drop_minutes : (m : ℕ) → sum m (λ i. labels_of_minute Fps30Drop (tenth i)) ≡ labels_of_minutes m
 unfolding sum
 drop_minutes zero = refl
 drop_minutes (suc m) = minute_more m _ (drop_minutes m)
@@ -269,7 +270,7 @@ drop_tenth h m s f e =
     ap₂ (λ (x y : ℕ). h * 107892 + (sum m (λ i. labels_of_minute Fps30Drop (tenth i)) + (x + y))) seconds frames
     ∙ come (sum m (λ i. labels_of_minute Fps30Drop (tenth i))) (drop_minutes m)
   where
-    come : (k : ℕ) → k + 2 * m ≡ 1800 * m + 2 * ((m + 9) / 10) → h * 107892 + (k + (s * 30 + f * 1)) ≡ formula Fps30Drop (h * 60 + m) s f
+    come : (k : ℕ) → k ≡ labels_of_minutes m → h * 107892 + (k + (s * 30 + f * 1)) ≡ formula Fps30Drop (h * 60 + m) s f
     come k ih = omega arith
 
 -- at the start of a minute that drops two numbers, past them
@@ -288,7 +289,7 @@ drop_start h m f e =
     frame : (k : ℕ) → one (not (is_skipped (label Fps30Drop h m 0 k))) ≡ one (not (ltb k 2))
     frame k = rw (ne_eqb (m % 10) 0 e, and_yes (ltb k 2))
 
-    come : (k : ℕ) → k + 2 * m ≡ 1800 * m + 2 * ((m + 9) / 10) → (m % 10 ≡ 0 → ⊥)
+    come : (k : ℕ) → k ≡ labels_of_minutes m → (m % 10 ≡ 0 → ⊥)
         → h * 107892 + (k + (0 + f)) ≡ formula Fps30Drop (h * 60 + m) 0 (suc (suc f))
     come k ih n = omega arith
 
@@ -303,7 +304,7 @@ drop_later h m s f e =
     ap₂ (λ (x y : ℕ). h * 107892 + (sum m (λ i. labels_of_minute Fps30Drop (tenth i)) + (x + y))) seconds frames
     ∙ come (sum m (λ i. labels_of_minute Fps30Drop (tenth i))) (drop_minutes m) e
   where
-    come : (k : ℕ) → k + 2 * m ≡ 1800 * m + 2 * ((m + 9) / 10) → (m % 10 ≡ 0 → ⊥)
+    come : (k : ℕ) → k ≡ labels_of_minutes m → (m % 10 ≡ 0 → ⊥)
         → h * 107892 + (k + (28 + s * 30 + f * 1)) ≡ formula Fps30Drop (h * 60 + m) (suc s) f
     come k ih n = omega arith
 

@@ -1,11 +1,12 @@
 -- The order of labels, and that `next_valid` of a skipped label is the least valid label above it. Assumes nothing.
 use Prim.Native.Nat.{ℕ, ◌≤◌, ◌<◌}
 use mathlib.Core.Path.{◌≡◌, refl, sym, subst, ◌∙◌}
-use mathlib.Core.Bool.{Bool, true, false, cond, ◌&&◌, ◌||◌}
+use mathlib.Core.Bool.{Bool, true, false, not, cond, ◌&&◌, ◌||◌}
 use mathlib.Core.Logic.{◌⊎◌, inl, inr}
 use native.Mathlib.Omega.{arith}
 use borrow.Author.Tests.{ltb-true, eqb-true, eq-eqb, lt-ltb, le-ltb}
-use lib.Dec.{T, ltb, eqb, lit<, ltb→lt, not_T}
+use lib.Dec.{T, ltb, eqb, lit<, ltb→lt, lt→ltb, not_T, T_not}
+use Rattle.std.proofs.lemmas.Bool.{cases_lt}
 use Rattle.labels.specs.declared.time.MtcTime.{MtcTime}
 use Rattle.labels.specs.declared.time.TimeCodeType.{TimeCodeType}
 use Rattle.labels.specs.declared.time.TimeCodeType.TheVariants.{Fps30Drop}
@@ -16,7 +17,7 @@ use Rattle.labels.proofs.Validity.{NotDropped, skipped_kept, kept_skipped, valid
 
 -- ---- the order, number by number
 
-pub lower_cases : (a b : ℕ) (p : Bool) → T (lower a b p) → (a < b) ⊎ ((a ≡ b) × T p)
+lower_cases : (a b : ℕ) (p : Bool) → T (lower a b p) → (a < b) ⊎ ((a ≡ b) × T p)
 lower_cases a b p = go (ltb a b) (eqb a b) refl refl
   where
     go : (l e : Bool) → ltb a b ≡ l → eqb a b ≡ e → T (l || (e && p)) → (a < b) ⊎ ((a ≡ b) × T p)
@@ -34,8 +35,43 @@ lower_both a b p q l u = go (lower_cases a b p l) (lower_cases b a q u)
     go (inr x) (inl y) = absurd (omega (arith, x.0))
     go (inr x) (inr y) = (x.0, x.1, y.1)
 
-pub lower_same : (a : ℕ) (p : Bool) → T p → T (lower a a p)
-lower_same a p h = rw (le-ltb a a (omega arith), eq-eqb a a refl) h
+-- Where two numbers are the same, the rest decides.
+pub lower_equal : (a b : ℕ) (p : Bool) → a ≡ b → lower a b p ≡ p
+lower_equal a b p e = rw (le-ltb a b (omega (arith, e)), eq-eqb a b e) refl
+
+lower_same : (a : ℕ) (p : Bool) → T p → T (lower a a p)
+lower_same a p h = subst T (sym (lower_equal a a p refl)) h
+
+-- In a minute seconds and frames decide.
+pub order_in_minute : (t u : MtcTime) → t.hours ≡ u.hours → t.minutes ≡ u.minutes
+    → is_earlier t u ≡ lower t.seconds u.seconds (ltb t.frames u.frames)
+unfolding is_earlier
+order_in_minute t u eh em = lower_equal t.hours u.hours _ eh ∙ lower_equal t.minutes u.minutes _ em
+
+-- Below the first place in a second is below it in the frames.
+pub below_in_second : (s f k : ℕ) → T (lower s 0 (ltb f k)) → (s ≡ 0) × (f < k)
+below_in_second s f k h = by (lower_cases s 0 _ h)
+  where
+    by : (s < 0) ⊎ ((s ≡ 0) × T (ltb f k)) → (s ≡ 0) × (f < k)
+    by (inl x) = absurd (omega arith)
+    by (inr x) = (x.0, ltb→lt f k x.1)
+
+-- Two places of which none is lower are one.
+pub place_told : (a b c d : ℕ) → T (not (lower a c (ltb b d))) → T (not (lower c a (ltb d b))) → (a ≡ c) × (b ≡ d)
+place_told a b c d n o = by (cases_lt a c) (cases_lt c a) (cases_lt b d) (cases_lt d b)
+  where
+    less : (x y : ℕ) (p : Bool) → x < y → T (lower x y p)
+    less x y p l = rw (lt-ltb x y l) tt
+
+    same : (x y : ℕ) (p : Bool) → x ≡ y → T p → T (lower x y p)
+    same x y p e t = subst T (sym (lower_equal x y p e)) t
+
+    by : (a < c) ⊎ (c ≤ a) → (c < a) ⊎ (a ≤ c) → (b < d) ⊎ (d ≤ b) → (d < b) ⊎ (b ≤ d) → (a ≡ c) × (b ≡ d)
+    by (inl x) y z w = absurd (T_not (lower a c (ltb b d)) n (less a c (ltb b d) x))
+    by (inr x) (inl y) z w = absurd (T_not (lower c a (ltb d b)) o (less c a (ltb d b) y))
+    by (inr x) (inr y) (inl z) w = absurd (T_not (lower a c (ltb b d)) n (same a c (ltb b d) (omega arith) (lt→ltb b d z)))
+    by (inr x) (inr y) (inr z) (inl w) = absurd (T_not (lower c a (ltb d b)) o (same c a (ltb d b) (omega arith) (lt→ltb d b w)))
+    by (inr x) (inr y) (inr z) (inr w) = (omega arith, omega arith)
 
 -- ---- a skipped label
 

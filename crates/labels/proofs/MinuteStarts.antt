@@ -6,11 +6,10 @@ use mathlib.Core.Bool.{Bool, true, false, cond, not}
 use mathlib.Core.List.{List, map}
 use mathlib.Core.Logic.{◌⊎◌, inl, inr}
 use native.Mathlib.Omega.{arith}
-use borrow.Author.Tests.{eqb-true, eqb-false, lt-ltb}
-use lib.Dec.{T, eqb, ltb, ltb→lt, lt→ltb, not_T, T_not}
+use borrow.Author.Tests.{eqb-true, eqb-false}
+use lib.Dec.{T, eqb, not_T}
 use lib.ListN.{length, get_or}
 use Rattle.std.specs.List.{range_with_len}
-use Rattle.std.proofs.lemmas.Bool.{cases_lt}
 use Rattle.std.proofs.lemmas.List.{ext_get_or}
 use Rattle.std.proofs.lemmas.List.FromFn.{length-map-range_with_len, get_or-map-range_with_len}
 use Rattle.labels.specs.declared.minutes.TheConstants.{MINUTE_STARTS}
@@ -18,11 +17,11 @@ use Rattle.labels.specs.declared.time.MtcTime.{MtcTime}
 use Rattle.labels.specs.declared.time.TimeCodeType.{TimeCodeType}
 use Rattle.labels.specs.declared.time.TimeCodeType.TheVariants.{Fps30Drop}
 use Rattle.labels.specs.MinuteStarts.{FirstOfMinute, skipped_in, first_of_minute, minute_start, labels_of_minutes, minute_starts}
-use Rattle.labels.specs.St12.{label, is_skipped, is_valid, lower, is_earlier, count_before}
+use Rattle.labels.specs.St12.{label, is_skipped, is_valid, is_earlier, count_before}
 use Rattle.labels.specs.Time.{formula, frame_count}
 use Rattle.labels.proofs.Counts.{count_is_formula}
 use Rattle.labels.proofs.DayCount.{count_is_practice}
-use Rattle.labels.proofs.LabelOrder.{lower_cases, lower_same}
+use Rattle.labels.proofs.LabelOrder.{order_in_minute, below_in_second, place_told}
 use Rattle.labels.proofs.Validity.{NotDropped, skipped_kept, valid_facts, in_range_valid}
 
 -- ---- the first valid label of a minute
@@ -45,35 +44,15 @@ first_valid h m hh hm = by (skipped_in m) (skips m)
     by k (inl p) = in_range_valid Fps30Drop h m 0 k hh hm (omega arith) (omega (arith, p.1)) (λ d. inl p.0)
     by k (inr p) = in_range_valid Fps30Drop h m 0 k hh hm (omega arith) (omega (arith, p.1)) (λ d. inr (omega (arith, p.1)))
 
--- Of two labels of one minute the earlier one has the lower place in it.
-earlier_in_minute : (h m k : ℕ) (v : MtcTime) → v.hours ≡ h → v.minutes ≡ m → T (is_earlier v (label Fps30Drop h m 0 k))
-    → (v.seconds ≡ 0) × (v.frames < k)
-unfolding is_earlier
-earlier_in_minute h m k v eh em e =
-    let s = lower_cases v.seconds 0 _ (same v.minutes m _ em (same v.hours h _ eh e)) in
-    by s
-  where
-    same : (a b : ℕ) (p : Bool) → a ≡ b → T (lower a b p) → T p
-    same a b p q l = go (lower_cases a b p l)
-      where
-        go : (a < b) ⊎ ((a ≡ b) × T p) → T p
-        go (inl x) = absurd (omega (arith, q))
-        go (inr x) = x.1
-
-    by : (v.seconds < 0) ⊎ ((v.seconds ≡ 0) × T (ltb v.frames k)) → (v.seconds ≡ 0) × (v.frames < k)
-    by (inl x) = absurd (omega arith)
-    by (inr x) = (x.0, ltb→lt v.frames k x.1)
-
 none_earlier : (h m : ℕ) (v : MtcTime) → v.rate ≡ Fps30Drop → v.hours ≡ h → v.minutes ≡ m → T (is_valid v)
     → T (is_earlier v (first_of_minute h m)) → ⊥
 none_earlier h m v er eh em valid e =
-    let low = earlier_in_minute h m (skipped_in m) v eh em e in
+    let low = below_in_second v.seconds v.frames (skipped_in m) (subst T (order_in_minute v (first_of_minute h m) eh em) e) in
     let kept : is_skipped (label Fps30Drop v.hours v.minutes v.seconds v.frames) ≡ false
     = subst (λ (r : TimeCodeType). is_skipped (label r v.hours v.minutes v.seconds v.frames) ≡ false) er (valid_facts v valid).kept in
     by (skips m) low.0 low.1 (skipped_kept v.hours v.minutes v.seconds v.frames kept)
   where
-    by : Skips m (skipped_in m)
-        → v.seconds ≡ 0 → v.frames < skipped_in m → NotDropped v.minutes v.seconds v.frames → ⊥
+    by : Skips m (skipped_in m) → v.seconds ≡ 0 → v.frames < skipped_in m → NotDropped v.minutes v.seconds v.frames → ⊥
     by (inl p) es l n = omega (arith, p.1)
     by (inr p) es l (inl t) = p.0 (sym (ap (λ (k : ℕ). k % 10) em) ∙ t)
     by (inr p) es l (inr t) = omega (arith, p.1)
@@ -88,53 +67,43 @@ first_of_minute_lem h m hh hm =
       first = λ v er eh em valid. not_T (is_earlier v (first_of_minute h m)) (none_earlier h m v er eh em valid);
     }
 
--- A place in a minute is told by the order.
-place_told : (a b c d : ℕ) → T (not (lower a c (ltb b d))) → T (not (lower c a (ltb d b))) → (a ≡ c) × (b ≡ d)
-place_told a b c d n o = by (cases_lt a c) (cases_lt c a) (cases_lt b d) (cases_lt d b)
-  where
-    less : (x y : ℕ) (p : Bool) → x < y → T (lower x y p)
-    less x y p l = rw (lt-ltb x y l) tt
-
-    same : (x y : ℕ) (p : Bool) → x ≡ y → T p → T (lower x y p)
-    same x y p e t = subst (λ (z : ℕ). T (lower x z p)) e (lower_same x p t)
-
-    by : (a < c) ⊎ (c ≤ a) → (c < a) ⊎ (a ≤ c) → (b < d) ⊎ (d ≤ b) → (d < b) ⊎ (b ≤ d) → (a ≡ c) × (b ≡ d)
-    by (inl x) y z w = absurd (T_not (lower a c (ltb b d)) n (less a c (ltb b d) x))
-    by (inr x) (inl y) z w = absurd (T_not (lower c a (ltb d b)) o (less c a (ltb d b) y))
-    by (inr x) (inr y) (inl z) w = absurd (T_not (lower a c (ltb b d)) n (same a c (ltb b d) (omega arith) (lt→ltb b d z)))
-    by (inr x) (inr y) (inr z) (inl w) = absurd (T_not (lower c a (ltb d b)) o (same c a (ltb d b) (omega arith) (lt→ltb d b w)))
-    by (inr x) (inr y) (inr z) (inr w) = (omega arith, omega arith)
-
 -- No other label is the first.
 pub only_first : (h m : ℕ) (t : MtcTime) → FirstOfMinute h m t → t ≡ first_of_minute h m
-unfolding is_earlier
 only_first h m t k =
     let v = valid_facts t k.valid in
-    let valid : T (is_valid (first_of_minute h m)) = first_valid h m (omega (arith, v.hours, k.hours)) (omega (arith, v.minutes, k.minutes)) in
-    let none : T (is_earlier t (first_of_minute h m)) → ⊥ = none_earlier h m t k.rate k.hours k.minutes k.valid in
-    let place = told t.hours t.minutes k.hours k.minutes (not_T (is_earlier t (first_of_minute h m)) none)
-    (k.first (first_of_minute h m) refl refl refl valid) in
+    let u : MtcTime = first_of_minute h m in
+    let valid : T (is_valid u) = first_valid h m (omega (arith, v.hours, k.hours)) (omega (arith, v.minutes, k.minutes)) in
+    let before : T (not (is_earlier t u)) = not_T (is_earlier t u) (none_earlier h m t k.rate k.hours k.minutes k.valid) in
+    let after : T (not (is_earlier u t)) = k.first u refl refl refl valid in
+    let place =
+    place_told t.seconds t.frames 0 (skipped_in m)
+    (subst (λ (b : Bool). T (not b)) (order_in_minute t u k.hours k.minutes) before)
+    (subst (λ (b : Bool). T (not b)) (order_in_minute u t (sym k.hours) (sym k.minutes)) after) in
     same t.rate t.hours t.minutes t.seconds t.frames k.rate k.hours k.minutes place.0 place.1
   where
-    next : (a : ℕ) (p : Bool) → T (not (lower a a p)) → T (not p)
-    next a p n = not_T p (λ t. T_not (lower a a p) n (lower_same a p t))
-
-    told : (g n : ℕ) → g ≡ h → n ≡ m → T (not (lower g h (lower n m (lower t.seconds 0 (ltb t.frames (skipped_in m))))))
-        → T (not (lower h g (lower m n (lower 0 t.seconds (ltb (skipped_in m) t.frames))))) → (t.seconds ≡ 0) × (t.frames ≡ skipped_in m)
-    told g n eg en a b =
-        place_told t.seconds t.frames 0 (skipped_in m) (next m _ (next h _ (rw (eg, en) at a))) (next m _ (next h _ (rw (eg, en) at b)))
-
     same : (r : TimeCodeType) (a b c d : ℕ) → r ≡ Fps30Drop → a ≡ h → b ≡ m → c ≡ 0 → d ≡ skipped_in m → label r a b c d ≡ first_of_minute h m
     same r a b c d er ea eb ec ed = rw (er, ea, eb, ec, ed)
 
 -- ---- its count
 
-formula_of_first : (h m : ℕ) → m ≤ 59 → formula Fps30Drop (h * 60 + m) 0 (skipped_in m) ≡ labels_of_minutes (h * 60 + m)
-formula_of_first h m hm = by (skipped_in m) (skips m)
+-- A place in a minute counts from the minute's start on; the numbers that the minute skips count back from it.
+pub from_start : (m s f : ℕ) → labels_of_minutes m + s * 30 + f - skipped_in m ≡ formula Fps30Drop m s f
+from_start m s f = by (skipped_in m) (skips m)
   where
-    by : (k : ℕ) → Skips m k → formula Fps30Drop (h * 60 + m) 0 k ≡ labels_of_minutes (h * 60 + m)
+    by : (k : ℕ) → Skips m k → labels_of_minutes m + s * 30 + f - k ≡ formula Fps30Drop m s f
     by k (inl p) = omega (arith, p.0, p.1)
     by k (inr p) = omega (arith, p.0, p.1)
+
+-- A minute of the day skips what it skips in its hour.
+skipped_in_hour : (h m : ℕ) → skipped_in (h * 60 + m) ≡ skipped_in m
+skipped_in_hour h m = let tens : (h * 60 + m) % 10 ≡ m % 10 = omega arith in ap (λ (k : ℕ). cond (eqb k 0) 0 2) tens
+
+formula_of_first : (h m : ℕ) → formula Fps30Drop (h * 60 + m) 0 (skipped_in m) ≡ labels_of_minutes (h * 60 + m)
+formula_of_first h m =
+    let start : labels_of_minutes (h * 60 + m) + 0 * 30 + skipped_in m - skipped_in m ≡ labels_of_minutes (h * 60 + m) = omega arith in
+    sym (from_start (h * 60 + m) 0 (skipped_in m))
+    ∙ ap (λ (k : ℕ). labels_of_minutes (h * 60 + m) + 0 * 30 + skipped_in m - k) (skipped_in_hour h m)
+    ∙ start
 
 -- By the rule.
 pub count_by_minutes : (h m : ℕ) → h ≤ 23 → m ≤ 59 → count_before (first_of_minute h m) ≡ labels_of_minutes (h * 60 + m)
@@ -142,7 +111,7 @@ count_by_minutes h m hh hm =
     let v = first_valid h m hh hm in
     sym (count_is_practice (first_of_minute h m) v)
     ∙ count_is_formula (first_of_minute h m) v
-    ∙ formula_of_first h m hm
+    ∙ formula_of_first h m
 
 pub minute_start_is : (m : ℕ) → m ≤ 59 → minute_start m ≡ labels_of_minutes m
 unfolding minute_start
@@ -191,14 +160,6 @@ by_hour m =
     let tenths : m / 10 ≡ m / 60 * 6 + m % 60 / 10 = omega arith in
     omega (arith, entry, tenths)
 
--- A place in a minute counts from the minute's start on; the numbers that the minute skips count back from it.
-pub from_start : (m s f : ℕ) → labels_of_minutes m + s * 30 + f - skipped_in m ≡ formula Fps30Drop m s f
-from_start m s f = by (skipped_in m) (skips m)
-  where
-    by : (k : ℕ) → Skips m k → labels_of_minutes m + s * 30 + f - k ≡ formula Fps30Drop m s f
-    by k (inl p) = omega (arith, p.0, p.1)
-    by k (inr p) = omega (arith, p.0, p.1)
-
 -- It counts back from the next minute's start, too, whatever its own minute skips.
 pub from_next_start : (h m s f : ℕ) → h * 107892 + s * 30 + f + labels_of_minutes (m + 1) - 1800 ≡ formula Fps30Drop (h * 60 + m) s f
 from_next_start h m s f = omega arith
@@ -218,8 +179,7 @@ count_in_hour t er hm =
     let m : ℕ = t.hours * 60 + t.minutes in
     let hours : m / 60 ≡ t.hours = omega arith in
     let minutes : m % 60 ≡ t.minutes = omega arith in
-    let tens : m % 10 ≡ t.minutes % 10 = omega arith in
     count_by_table t m er refl
     ∙ ap₂ (λ (h k : ℕ). (h * 107892 + get_or MINUTE_STARTS k 0 + t.seconds * 30 + t.frames - skipped_in m) % 2589408) hours minutes
-    ∙ ap
-    (λ (k : ℕ). (t.hours * 107892 + get_or MINUTE_STARTS t.minutes 0 + t.seconds * 30 + t.frames - cond (eqb k 0) 0 2) % 2589408) tens
+    ∙ ap (λ (k : ℕ). (t.hours * 107892 + get_or MINUTE_STARTS t.minutes 0 + t.seconds * 30 + t.frames - k) % 2589408)
+    (skipped_in_hour t.hours t.minutes)
