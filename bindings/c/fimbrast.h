@@ -29,8 +29,8 @@
 extern "C" {
 #endif
 
-#define FIMBRAST_VERSION 400
-#define FIMBRAST_VERSION_STRING "0.4.0"
+#define FIMBRAST_VERSION 500
+#define FIMBRAST_VERSION_STRING "0.5.0"
 
 /* The refusals by their numbers. 0 is none; with 4 the needed length is given. A later version may have more. */
 enum {
@@ -59,7 +59,7 @@ enum {
 /* The version as one number: 10,000 for each whole version, 100 for each minor one, and the patch. */
 uint32_t fimbrast_version(void);
 /* The same under a name that has the version. A program refers to it, so that an archive of another version does not link. */
-uint32_t fimbrast_version_0_4_0(void);
+uint32_t fimbrast_version_0_5_0(void);
 
 /* The archive must be of this version: where it is not, the linker misses this call. `retain` keeps it where the linker drops unused sections. */
 #if defined(__has_attribute)
@@ -67,7 +67,7 @@ uint32_t fimbrast_version_0_4_0(void);
 __attribute__((retain))
 #endif
 #endif
-__attribute__((used)) static uint32_t (*const fimbrast_needed_version)(void) = fimbrast_version_0_4_0;
+__attribute__((used)) static uint32_t (*const fimbrast_needed_version)(void) = fimbrast_version_0_5_0;
 
 /* ---- Labels, and the quarter frames of a label */
 
@@ -547,7 +547,8 @@ typedef struct {
     uint8_t answer;
 } fimbrast_applied;
 
-/* `apply`: one command of a message for `device_id`, to the generator of the device `own`. */
+/* `apply`: one command of a message for `device_id`, to the generator of the device `own`. A negative Locate target is counted back from
+ * midnight. */
 fimbrast_applied fimbrast_apply(fimbrast_generator generator, uint8_t device_id, uint8_t own, fimbrast_command command);
 
 /* ---- The transport, given a whole string */
@@ -561,7 +562,7 @@ typedef struct {
     uint8_t stop;
 } fimbrast_run;
 
-/* `obey`: a message's data, read from the front to its end, each command applied as it is read. */
+/* `obey`: a message's data, read from the front to its end, each command applied as it is read, as by `fimbrast_apply`. */
 fimbrast_run fimbrast_obey(fimbrast_generator generator, uint8_t device_id, uint8_t own, const uint8_t *body,
                            size_t body_length);
 

@@ -10,11 +10,11 @@ use core::mem::{offset_of, size_of};
 use crate::mtc::MtcTime;
 
 /// The version of the library that this is made for.
-pub const VERSION: u32 = 400;
+pub const VERSION: u32 = 500;
 
 /// The archive must be of this version: where it is not, the linker misses this call.
 #[used]
-static NEEDED_VERSION: extern "C" fn() -> u32 = fimbrast_version_0_4_0;
+static NEEDED_VERSION: extern "C" fn() -> u32 = fimbrast_version_0_5_0;
 
 pub const NOT_THIS: u8 = 255;
 pub const NONE: u8 = 255;
@@ -457,7 +457,8 @@ pub(crate) const LAYOUT: [Layout; 35] = [
 ];
 
 unsafe extern "C" {
-    /// `apply`: one command of a message for `device_id`, to the generator of the device `own`.
+    /// `apply`: one command of a message for `device_id`, to the generator of the device `own`. A negative Locate target is counted back from
+    /// midnight.
     pub safe fn fimbrast_apply(
         generator: Generator,
         device_id: u8,
@@ -568,7 +569,7 @@ unsafe extern "C" {
         data: *const u8,
         data_length: usize,
     ) -> u8;
-    /// `obey`: a message's data, read from the front to its end, each command applied as it is read.
+    /// `obey`: a message's data, read from the front to its end, each command applied as it is read, as by `fimbrast_apply`.
     pub fn fimbrast_obey(
         generator: Generator,
         device_id: u8,
@@ -624,7 +625,7 @@ unsafe extern "C" {
     /// The version as one number: 10,000 for each whole version, 100 for each minor one, and the patch.
     pub safe fn fimbrast_version() -> u32;
     /// The same under a name that has the version. A program refers to it, so that an archive of another version does not link.
-    pub safe fn fimbrast_version_0_4_0() -> u32;
+    pub safe fn fimbrast_version_0_5_0() -> u32;
     /// `write_commands` opens: F0H, 7FH, the device, 06H.
     pub fn fimbrast_open_commands(out: *mut u8, out_length: usize, device_id: u8) -> Writer;
     /// `write_responses` opens: F0H, 7FH, the device, 07H.
@@ -759,7 +760,7 @@ pub fn mmc_kind(real_time: bool, sub_id1: u8, data: &[u8]) -> u8 {
     unsafe { fimbrast_mmc_kind(real_time, sub_id1, data.as_ptr(), data.len()) }
 }
 
-/// `obey`: a message's data, read from the front to its end, each command applied as it is read.
+/// `obey`: a message's data, read from the front to its end, each command applied as it is read, as by `fimbrast_apply`.
 #[inline]
 pub fn obey(generator: Generator, device_id: u8, own: u8, body: &[u8]) -> Run {
     // SAFETY: each pointer and length are those of a live slice, and what is written is borrowed alone.

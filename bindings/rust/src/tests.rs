@@ -969,6 +969,54 @@ fn strings_obeyed() {
     assert_eq!(fed.last.map(|s| s.raw), Some(hour().add_frames(4)));
 }
 
+/// A negative target, written, read back and obeyed, is counted back from midnight.
+#[test]
+fn negative_targets() {
+    let minus = |time| StandardTimeCode {
+        negative: true,
+        ..code(time, 0)
+    };
+    let located = |target| {
+        let mut out = [0; 14];
+        let commands = [MmcCommand::LocateTarget(target), MmcCommand::Play];
+        assert_eq!(write_commands(&mut out, 0x7F, &commands), Ok(14));
+        let mut g = MtcGenerator::new(LABEL, Direction::Reverse);
+        assert_eq!(obey(&mut g, 0x7F, 5, &out[4..13]).refused, 0);
+        g.time()
+    };
+    let label = |hours, minutes, seconds, frames, rate| MtcTime {
+        hours,
+        minutes,
+        seconds,
+        frames,
+        rate,
+    };
+    for (rate, day) in RATES
+        .into_iter()
+        .zip([2_073_600, 2_160_000, 2_589_408, 2_592_000])
+    {
+        let second = label(0, 0, 1, 0, rate);
+        assert_eq!(located(minus(second)), label(23, 59, 59, 0, rate));
+        assert_eq!(located(code(second, 0)), second);
+        for count in (0..day).step_by(997) {
+            let there = located(minus(MtcTime::from_frame_count(count, rate)));
+            assert_eq!(there, MtcTime::from_frame_count((day - count) % day, rate));
+        }
+    }
+    // Labels are counted: 00:00:59;29 counts 1,799, and the last minute of the day has 1,798 labels.
+    let minute = minus(label(0, 0, 59, 29, TimeCodeType::Fps30Drop));
+    assert_eq!(
+        located(minute),
+        label(23, 58, 59, 29, TimeCodeType::Fps30Drop)
+    );
+    // 00:01:00;00, which drop-frame skips, is moved first. No writer takes it.
+    let skipped = minus(label(0, 1, 0, 0, TimeCodeType::Fps30Drop));
+    let mut g = MtcGenerator::new(LABEL, Direction::Reverse);
+    let applied = apply(&mut g, 5, 5, &MmcCommand::LocateTarget(skipped));
+    assert_eq!(applied, Ok(Outcome::Done));
+    assert_eq!(g.time(), label(23, 58, 59, 28, TimeCodeType::Fps30Drop));
+}
+
 #[test]
 fn parts_outside_are_empty() {
     let bytes = [1, 2, 3];

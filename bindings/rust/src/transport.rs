@@ -1,7 +1,8 @@
 //! The transport: machine control commands applied to a quarter frame generator.
 //!
-//! Locate stops the generator at its target, where a number that drop-frame skips is moved to the next valid one. Play and
-//! Deferred Play set it running forward, Stop and Pause stop it. The other commands change nothing.
+//! Locate stops the generator at its target, where a number that drop-frame skips is moved to the next valid one. A negative
+//! target is then counted back from midnight: minus one second is 23:59:59:00, and minus zero is zero. Play and Deferred Play
+//! set it running forward, Stop and Pause stop it. The other commands change nothing.
 //!
 //! [`apply`] takes one command, and [`obey`] a whole command string.
 

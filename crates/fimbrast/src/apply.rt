@@ -11,7 +11,8 @@ use fast_mtc::generator::FlatGenerator;
 use mmc::MmcCommand;
 use mtc::MtcGenerator;
 
-// `apply`: one command of a message for `device_id`, to the generator of the device `own`.
+// `apply`: one command of a message for `device_id`, to the generator of the device `own`. A negative Locate target is counted back from
+// midnight.
 pub fn fimbrast_apply(
     generator: FlatGenerator,
     device_id: u8,

@@ -35,7 +35,7 @@ impl From<Obeyed> for FlatRun {
     }
 }
 
-// `obey`: a message's data, read from the front to its end, each command applied as it is read.
+// `obey`: a message's data, read from the front to its end, each command applied as it is read, as by `fimbrast_apply`.
 pub fn fimbrast_obey(generator: FlatGenerator, device_id: u8, own: u8, body: &[u8]) -> FlatRun
     ensures { result ≡ flat_run (obey body.now device_id own (generator_of generator)) }
 {

@@ -9,7 +9,8 @@ use fast_mmc::apply::FlatApplied;
 use fast_mmc::string::FlatCommand;
 use fast_mtc::generator::FlatGenerator;
 
-// `apply`: one command of a message for `device_id`, to the generator of the device `own`.
+// `apply`: one command of a message for `device_id`, to the generator of the device `own`. A negative Locate target is counted back from
+// midnight.
 #[unsafe(no_mangle)]
 pub extern "C" fn fimbrast_apply(
     generator: FlatGenerator,

@@ -7,7 +7,7 @@ ghost use Rattle.fimbrast.specs.Obey.{flat_run};
 use fast_mtc::generator::FlatGenerator;
 use fimbrast::obey::FlatRun;
 
-// `obey`: a message's data, read from the front to its end, each command applied as it is read.
+// `obey`: a message's data, read from the front to its end, each command applied as it is read, as by `fimbrast_apply`.
 #[unsafe(no_mangle)]
 pub extern "C" fn fimbrast_obey(
     generator: FlatGenerator,

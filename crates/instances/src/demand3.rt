@@ -1,6 +1,6 @@
 // Demand 3: readers with a past, times at the edges, strings with other commands before the Locate, both directions.
 use crate::stream::{Call, Listener, edge, follows, run_from};
-use crate::strings::{SOURCE, locate, obeyed, other, write};
+use crate::strings::{SOURCE, locate, locate_back, obeyed, other, write};
 use crate::tally::Tally;
 use crate::times::label;
 use mmc::MmcCommand;
@@ -78,14 +78,14 @@ fn some_generator(number: u64) -> MtcGenerator {
         .set_running(number & 1 == 0)
 }
 
-// Forward, by a string of two commands chosen by the number, Locate to T and Play.
-fn forward(listener: &Listener, number: u64, time: MtcTime) -> bool {
+// Forward, by a string of two commands chosen by the number, a Locate that leads to T, and Play.
+fn located(listener: &Listener, number: u64, command: MmcCommand, time: MtcTime) -> bool {
     let mut out = [0xEEu8; 64];
     let device_id = if number & 1 == 0 { 0x7F } else { 5 };
     let commands = [
         other(number, time),
         other(number >> 3, time),
-        locate(time),
+        command,
         MmcCommand::Play,
     ];
     let string = match write(&mut out, device_id, &SOURCE, &commands) {
@@ -95,6 +95,19 @@ fn forward(listener: &Listener, number: u64, time: MtcTime) -> bool {
     let before = some_generator(number);
     let generator = string.map_or(before, |string| obeyed(string, 5, before));
     follows(listener, generator, time, Direction::Forward)
+}
+
+// By a Locate to T.
+fn forward(listener: &Listener, number: u64, time: MtcTime) -> bool {
+    located(listener, number, locate(time), time)
+}
+
+// By a Locate to minus this time: T is as many labels before midnight (document 02, #103).
+#[tactic(auto, using(labels::proofs::Laws::count_below, labels::proofs::Laws::day_small))]
+fn back(listener: &Listener, number: u64, time: MtcTime) -> bool {
+    let count = time.to_frame_count() as i32;
+    let there = label(0, 0, 0, 0, time.rate).add_frames(-count);
+    located(listener, number, locate_back(time), there)
 }
 
 // In reverse, located at T and set running.
@@ -130,4 +143,10 @@ pub(crate) fn long_lists() -> Tally {
 pub(crate) fn edges() -> Tally {
     let fresh = Listener::new();
     Tally::of((0..128).map(|number| forward(&fresh, number, edge(number >> 2))))
+}
+
+// Every edge, as a negative target.
+pub(crate) fn negative() -> Tally {
+    let fresh = Listener::new();
+    Tally::of((0..32).map(|number| back(&fresh, number, edge(number))))
 }

@@ -23,5 +23,6 @@ fn main(rt: HostRuntime) -> io::Result<()> {
         demand3::short_lists()
     )?;
     println!(rt; "demand 3, longer lists: {}", demand3::long_lists())?;
-    println!(rt; "demand 3, edges and commands before: {}", demand3::edges())
+    println!(rt; "demand 3, edges and commands before: {}", demand3::edges())?;
+    println!(rt; "demand 3, negative targets: {}", demand3::negative())
 }

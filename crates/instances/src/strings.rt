@@ -20,6 +20,13 @@ pub(crate) fn locate(time: MtcTime) -> MmcCommand {
     MmcCommand::LocateTarget(time_code(time, FinalByte::Subframes(0)))
 }
 
+// The same, negative.
+pub(crate) fn locate_back(time: MtcTime) -> MmcCommand {
+    let mut code = time_code(time, FinalByte::Subframes(0));
+    code.negative = true;
+    MmcCommand::LocateTarget(code)
+}
+
 // Writes a string of these commands, whose names and data stand in `source`.
 pub(crate) fn write(
     out: &mut [u8],

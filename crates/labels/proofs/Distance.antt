@@ -1,13 +1,13 @@
 -- A signed distance modulo a day: how the code reduces it by its sign, and the laws of `mod_z` for any modulus. Assumes nothing.
-use Prim.Native.Nat.{ℕ, suc, ◌+◌, ◌-◌, ◌*◌, ◌/◌, ◌%◌, ◌≤◌, ◌<◌}
+use Prim.Native.Nat.{ℕ, zero, suc, ◌+◌, ◌-◌, ◌*◌, ◌/◌, ◌%◌, ◌≤◌, ◌<◌}
 use mathlib.Core.Path.{◌≡◌, refl, sym, ap, ap₂, ◌∙◌}
 use mathlib.Core.Bool.{Bool, true, false, cond, true≢false}
-use native.Mathlib.Nat.{mod-lt, add-mod, add_comm, add-mul-mod_self_right, div-add-mod', zero-lt-suc}
+use native.Mathlib.Nat.{mod-lt, mod-eq_of_lt, mod_self, sub-zero, zero-mod, add-mod, add_comm, add-mul-mod_self_right, div-add-mod', zero-lt-suc}
 use native.Mathlib.Omega.{arith}
 use borrow.Author.Tests.{ltb-true, ltb-false, le-ltb}
 use lib.Arith.{digits_mod}
 use lib.Dec.{T, ltb}
-use lib.IntN.{ℤ, pos, negsuc, ◌+ℤ◌, ◌-ℤ◌, sub_ℕ, nat_abs}
+use lib.IntN.{ℤ, pos, negsuc, ◌+ℤ◌, ◌-ℤ◌, sub_ℕ, nat_abs, neg_ℤ}
 use lib.Signed.{mag, lt_z, non_neg}
 use mir.Syntax.{w32}
 use mir.Val.{Fits, SFits, of_z, to_z}
@@ -79,6 +79,15 @@ pub mod_below : (z : ℤ) (d : ℕ) → 0 < d → mod_z z d < d
 unfolding mod_z
 mod_below (pos n) d h = mod-lt n h
 mod_below (negsuc n) d h = omega (arith, mod-lt n h)
+
+-- So many back from 0 are the rest of d.
+pub mod_back : (n d : ℕ) → n < d → mod_z (neg_ℤ (pos n)) d ≡ (d - n) % d
+unfolding mod_z
+mod_back zero d h = zero-mod d ∙ sym (ap (λ (k : ℕ). k % d) (sub-zero d) ∙ mod_self d)
+mod_back (suc n) d h =
+    let back : n % d ≡ n = mod-eq_of_lt (omega (arith, h)) in
+    let rest : (d - suc n) % d ≡ d - suc n = mod-eq_of_lt (omega (arith, h)) in
+    omega (arith, back, rest)
 
 -- A negative number's residue, without a subtraction from d.
 neg_mod_at : (q r e : ℕ) → r ≤ e → suc (q * suc e + r) * e ≡ (q * e + r) * suc e + (e - r)

@@ -19,7 +19,7 @@ use Rattle.labels.proofs.LabelBefore
 use Rattle.labels.proofs.Counts
 use Rattle.labels.proofs.DayCount
 -- A signed distance modulo a day, as code has it that tests its sign: -1 - z where it is negative.
-pub use Rattle.labels.proofs.Distance.{back_fits, back_casts, back_mod, ahead_casts, ahead_mod, passed_mod, mod_pred, mod_below}
+pub use Rattle.labels.proofs.Distance.{back_fits, back_casts, back_mod, ahead_casts, ahead_mod, passed_mod, mod_pred, mod_below, mod_back}
 use Rattle.labels.proofs.CountParts
 use Rattle.labels.proofs.Moves
 use Rattle.labels.proofs.LabelOrder
@@ -207,6 +207,9 @@ pub in_range_valid : (r : TimeCodeType) (h m s f : ℕ) → h ≤ 23 → m ≤ 5
     → (is_drop_frame r ≡ true → (m % 10 ≡ 0) ⊎ (2 ≤ s * 30 + f)) → T (is_valid (label r h m s f))
 in_range_valid = Validity.in_range_valid
 
--- 00:00:00:00 is a label of every rate.
+-- 00:00:00:00 is a label of every rate, that of the count 0.
 pub zero_valid : (r : TimeCodeType) → T (is_valid (label r 0 0 0 0))
 zero_valid = Validity.zero_valid
+
+pub label_zero : (r : TimeCodeType) → label r 0 0 0 0 ≡ label_at 0 r
+label_zero = LabelAfter.label_zero

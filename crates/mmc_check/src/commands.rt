@@ -53,21 +53,29 @@ impl Effect {
         }
     }
 
-    // With the generator that the command left; a target that drop-frame skips was moved.
+    // With the generator that the command left.
     fn say(self, rt: &impl Print, generator: MtcGenerator) {
         match self {
             Effect::Nothing => say!(rt; "The transport is unchanged.\n"),
             Effect::Stops => say!(rt; "Stopped.\n"),
             Effect::Starts => say!(rt; "Running forward.\n"),
-            Effect::Locates(target) => say_located(rt, target.time, generator.time()),
+            Effect::Locates(target) => say_located(rt, target, generator.time()),
         }
     }
 }
 
-fn say_located(rt: &impl Print, target: MtcTime, time: MtcTime) {
+// Where the transport is, and why not at the target's own time: a negative one is counted back, and one that drop-frame skips is moved.
+fn say_located(rt: &impl Print, target: StandardTimeCode, time: MtcTime) {
+    let is_skipped = !target.time.is_valid();
     say!(rt; "Located at {}", Label(time));
-    if !target.is_valid() {
-        say!(rt; ", since drop-frame skips {}", Label(target));
+    if target.negative {
+        say!(rt; ", counted back from midnight");
+        if is_skipped {
+            say!(rt; " by {}", Label(target.time.next_valid()));
+        }
+    }
+    if is_skipped {
+        say!(rt; ", since drop-frame skips {}", Label(target.time));
     }
     say!(rt; ", and stopped.\n");
 }

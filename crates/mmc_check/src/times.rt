@@ -78,7 +78,7 @@ impl Display for Final {
     }
 }
 
-// The five bytes of a time code: the time, the last byte, and the flags that are set.
+// The five bytes of a time code: the time with its sign, the last byte, and the other flags that are set.
 #[derive(Clone, Copy)]
 pub(crate) struct Code(pub(crate) StandardTimeCode);
 
@@ -87,12 +87,12 @@ impl Display for Code {
         let code = self.0;
         write!(
             f,
-            "{}, {}{}{}{}",
+            "{}{}, {}{}{}",
+            flag(code.negative, "-"),
             Time(code.time),
             Final(code.final_byte),
             flag(code.color_frame, ", colour frame"),
             flag(code.blank, ", blank"),
-            flag(code.negative, ", negative"),
         )
     }
 }

@@ -1,55 +1,18 @@
--- What a target resolves to and what a command does, by cases, for the calls' proofs. Assumes nothing.
+-- What a command does, by cases, for the calls' proofs. Assumes nothing.
 use Rattle.std.specs.Prelude.{Option, Some, None}
 use Prim.Native.Nat.{ℕ, ◌≤◌, ◌<◌}
-use mathlib.Core.Path.{◌≡◌, refl, sym}
+use mathlib.Core.Path.{◌≡◌}
 use mathlib.Core.Bool.{Bool, true, false, cond, ◌&&◌}
 use lib.Dec.{T, leb}
 use borrow.Author.Tests.{le-leb, lt-leb}
 use Rattle.mmc.specs.declared.command.MmcCommand.{MmcCommand}
 use Rattle.mmc.specs.declared.command.MmcCommand.TheVariants.{Stop, Play, DeferredPlay, FastForward, Rewind, RecordStrobe, RecordExit, Pause, Reset, Write, LocateField, LocateTarget, Move, Other}
-use Rattle.codes.specs.declared.time_code.StandardTimeCode.{StandardTimeCode}
-use Rattle.labels.specs.St12.{is_skipped, is_valid, LeastAbove}
-use Rattle.labels.specs.Time.{next_valid}
 use Rattle.mtc.specs.Reader.{piece_fits}
 use Rattle.mtc.specs.declared.generator.MtcGenerator.{MtcGenerator}
 use Rattle.labels.specs.declared.time.MtcTime.{MtcTime}
-use Rattle.labels.proofs.Laws.{next_valid_valid, next_valid_least}
-use Rattle.universal.proofs.Tests.{holds_true}
 use Rattle.universal.specs.Message.{is_addressed}
 use Rattle.universal.specs.Refusals.{gives}
 use Rattle.transport.specs.Transport.{resolved, NotMine, unchanged, locate_outcome, acted, applied}
-
--- ---- a target
-
--- A blank target is none.
-pub blank_none : (c : StandardTimeCode) → c.blank ≡ true → resolved c ≡ None
-unfolding resolved
-blank_none c b = rw b
-
--- One still invalid is none.
-pub invalid_none : (c : StandardTimeCode) (t : MtcTime) → c.blank ≡ false → t ≡ next_valid c.time → is_valid t ≡ false
-    → resolved c ≡ None
-unfolding resolved
-invalid_none c t b e v = rw (b, ← e, v)
-
--- Any other is its label, past the skipped ones.
-pub valid_some : (c : StandardTimeCode) (t : MtcTime) → c.blank ≡ false → t ≡ next_valid c.time → is_valid t ≡ true
-    → resolved c ≡ Some t
-unfolding resolved
-valid_some c t b e v = rw (b, ← e, v)
-
--- A valid label that is not blank is itself.
-pub valid_same : (c : StandardTimeCode) → c.blank ≡ false → T (is_valid c.time) → resolved c ≡ Some c.time
-valid_same c b v = valid_some c c.time b (sym (next_valid_valid c.time v)) (holds_true (is_valid c.time) v)
-
--- A skipped label that is not blank, with hours and minutes in range, is the least valid label above it.
-pub skipped_moved : (c : StandardTimeCode) → c.blank ≡ false → T (is_skipped c.time) → c.time.hours ≤ 23 → c.time.minutes ≤ 59
-    → (resolved c ≡ Some (next_valid c.time)) × LeastAbove c.time (next_valid c.time)
-skipped_moved c b k h m =
-    let l : LeastAbove c.time (next_valid c.time) = next_valid_least c.time k h m in
-    (valid_some c (next_valid c.time) b refl (holds_true (is_valid (next_valid c.time)) l.valid), l)
-
--- ---- a command
 
 -- ---- a call
 

@@ -2,8 +2,8 @@
 -- nothing.
 use Rattle.std.specs.Prelude.{Some}
 use Prim.Native.Nat.{ℕ, ◌≤◌}
-use mathlib.Core.Path.{◌≡◌, ap, ◌∙◌}
-use mathlib.Core.Bool.{false}
+use mathlib.Core.Path.{◌≡◌, ap, subst, ◌∙◌}
+use mathlib.Core.Bool.{Bool, true, false}
 use mathlib.Core.List.{List, [], ◌∷◌}
 use lib.Dec.{T}
 use Rattle.mmc.specs.declared.command.MmcCommand.{MmcCommand}
@@ -25,10 +25,10 @@ use Rattle.mtc.proofs.Laws.{stream_law}
 use Rattle.universal.proofs.Tests.{holds_true}
 use Rattle.universal.specs.Message.{is_addressed}
 use Rattle.universal.specs.Refusals.{Answer, gives}
-use Rattle.transport.specs.Transport.{resolved}
-use Rattle.transport.specs.Demand3.{Run, obey_message, obeyed, applied_all, applied_walk, EndsAt, Promised, ending_at, Demand3, Demand3Reverse, Demand3Written}
-use Rattle.transport.proofs.Acting.{valid_same}
-use Rattle.transport.proofs.Obeying.{read_acts, applied_append, resolved_valid, target_played}
+use Rattle.transport.specs.Transport.{before_midnight, by_sign, resolved}
+use Rattle.transport.specs.Demand3.{Run, obey_message, obeyed, applied_all, applied_walk, EndsAt, Promised, ending_at, Demand3, Demand3Reverse, WrittenFor, Demand3Written}
+use Rattle.transport.proofs.Obeying.{read_acts, applied_append, target_played}
+use Rattle.transport.proofs.Targets.{valid_same, resolved_valid}
 
 -- ---- demand 3
 
@@ -73,16 +73,16 @@ demand3_reverse g calls t v = stream_law calls g t Reverse v
 
 -- ---- by what is written
 
--- A target that is valid and not blank is written as it is, and resolves to its time.
-written_resolves : (c : StandardTimeCode) → T (is_valid c.time) → c.blank ≡ false → resolved (zeroed c) ≡ Some c.time
+-- A target that is valid and not blank is written as it is, and resolves by its sign from its time.
+written_resolves : (c : StandardTimeCode) → T (is_valid c.time) → c.blank ≡ false → resolved (zeroed c) ≡ Some (by_sign c.negative c.time)
 written_resolves c v k =
     let w : written_label c ≡ c.time = rw k in
-    valid_same (zeroed c) k (rw w v) ∙ ap Some w
+    valid_same (zeroed c) k (rw w v) ∙ ap (λ (t : MtcTime). Some (by_sign c.negative t)) w
 
 -- A list that is written so ends so when it is read back.
 ends_at : (gs : List (Given Commands)) (a b : List ℕ) (c : StandardTimeCode) (device : ℕ) (out : List ℕ) (n : ℕ)
     → string_answer Commands device (ending_at gs a b c) out ≡ gives n → T (is_valid c.time) → c.blank ≡ false
-    → EndsAt (string_of Commands device (ending_at gs a b c) out n) c.time
+    → EndsAt (string_of Commands device (ending_at gs a b c) out n) (by_sign c.negative c.time)
 ends_at gs a b c device out n h v k =
     record {
       before = meanings Commands 0 (pairs_of Commands gs);
@@ -94,5 +94,14 @@ ends_at gs a b c device out n h v k =
     }
 
 pub demand3_written : Demand3Written
-demand3_written gs a b c device own out n g calls v k h o r =
-    demand3 (ending_at gs a b c) device own out n g calls c.time h o r (ends_at gs a b c device out n h v k)
+demand3_written c v k gs a b device own out n g calls h o r =
+    demand3 (ending_at gs a b c) device own out n g calls (by_sign c.negative c.time) h o r (ends_at gs a b c device out n h v k)
+
+-- Without a sign T is the target's time, as before.
+pub demand3_unsigned : (c : StandardTimeCode) → T (is_valid c.time) → c.blank ≡ false → c.negative ≡ false → WrittenFor c c.time
+demand3_unsigned c v k s = subst (λ (negative : Bool). WrittenFor c (by_sign negative c.time)) s (demand3_written c v k)
+
+-- With a sign T is as many labels before midnight.
+pub demand3_negative : (c : StandardTimeCode) → T (is_valid c.time) → c.blank ≡ false → c.negative ≡ true
+    → WrittenFor c (before_midnight c.time)
+demand3_negative c v k s = subst (λ (negative : Bool). WrittenFor c (by_sign negative c.time)) s (demand3_written c v k)

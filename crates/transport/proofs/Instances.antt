@@ -1,7 +1,7 @@
 -- Document 01's instances that are marked *, all of them, and the reader's after 76 61 H, as one computed table: what the definitions
--- give, beside what the document says. A label stands as hours, minutes, seconds, frames and the rate's two bits; an answer as 0 and
--- its number, or as a refusal's number and values. A buffer begins as bytes EEH, so that a byte that was not written shows. Assumes
--- nothing.
+-- give, beside what the document says. Then targets of document 02, #103, as another. A label stands as hours, minutes, seconds, frames
+-- and the rate's two bits; an answer as 0 and its number, or as a refusal's number and values. A buffer begins as bytes EEH, so that a
+-- byte that was not written shows. Assumes nothing.
 use Rattle.mtc.specs.declared.reader.MtcSequence.{MtcSequence}
 use Rattle.std.specs.Prelude.{Option, Some, None}
 use Prim.Native.Nat.{ℕ, suc}
@@ -11,6 +11,7 @@ use lib.IntN.{pos}
 use Rattle.labels.specs.declared.time.MtcTime.{MtcTime}
 use Rattle.labels.specs.declared.time.TimeCodeType.TheVariants.{Fps30Drop, Fps30, Fps25}
 use Rattle.mtc.specs.declared.generator.Direction.TheVariants.{Forward}
+use Rattle.mtc.specs.declared.generator.MtcGenerator.{MtcGenerator}
 use Rattle.mtc.specs.declared.reader.MtcEvent.{MtcEvent}
 use Rattle.mtc.specs.Generator.{next_byte, after_next_byte, started}
 use Rattle.mtc.specs.QuarterFrame.{pieces}
@@ -32,13 +33,15 @@ use Rattle.mmc.specs.Length.{command_length, length_of}
 use Rattle.mmc.specs.Part.{is_inside, part_of}
 use Rattle.mmc.specs.Split.{prefixes_at, measured, split_at, next}
 use Rattle.mmc.specs.Strings.{Given, given, Walk, walk_from, read_from, commands_read}
-use Rattle.codes.specs.TimeCode.{standard_fits, standard_list}
+use Rattle.codes.specs.TimeCode.{read_standard, read_five, standard_fits, standard_list}
 use Rattle.mmc.specs.Write as W
 use Rattle.mmc.specs.Write.{or_failed, opened_commands, begun, ready, admitted, closed_message, whole_message}
 use Rattle.mmc.specs.Writings.{after_items, string_state, string_answer, string_left}
 use Rattle.universal.specs.Refusals.{Refusal, Answer, gives, refused}
 use Rattle.universal.specs.Message.{opening}
 use Rattle.universal.specs.Overlay.{overlay}
+use Rattle.transport.specs.Demand3.{obey_from, obey}
+use Rattle.transport.specs.Transport.{before_midnight, resolved, unchanged, acted, applied}
 
 -- A row: what is given, and what it should be.
 pub record Row : Type 0 where
@@ -172,3 +175,66 @@ table =
 pub instances : map (λ (r : Row). r.given) table ≡ map (λ (r : Row). r.stated) table
 unfolding table group_bytes pieces events bytes_sent after_calls next_byte after_next_byte nibbles_fit is_sound or_fresh order_of number_of sequence_of after_piece report_of add_frames string_answer string_left string_state after_items opened_commands begun or_failed ready admitted W.writing_after closed_message whole_message command_item locate_target_item locate_field_item standard_item standard_fits standard_list is_valid opening overlay read_from walk_from next_command next split_at prefixes_at measured length_of command_length read_command command_by_name read_locate part_of is_inside
 instances = refl
+
+-- ---- targets (document 02, #103)
+
+-- What a target resolves to; none has no numbers.
+abbrev resolved_numbers : Option MtcTime → List ℕ
+resolved_numbers None = []
+resolved_numbers (Some t) = numbers t
+
+-- The five bytes of a target, and the label that it resolves to.
+pub target_table : List Row
+target_table =
+    -- minus one second is 23:59:59:00 at 24, 25, 30 drop-frame and 30
+    row (0x00 ∷ 0x00 ∷ 0x01 ∷ 0x40 ∷ 0x00 ∷ []) (23 ∷ 59 ∷ 59 ∷ 0 ∷ 0 ∷ [])
+    ∷ row (0x20 ∷ 0x00 ∷ 0x01 ∷ 0x40 ∷ 0x00 ∷ []) (23 ∷ 59 ∷ 59 ∷ 0 ∷ 1 ∷ [])
+    ∷ row (0x40 ∷ 0x00 ∷ 0x01 ∷ 0x40 ∷ 0x00 ∷ []) (23 ∷ 59 ∷ 59 ∷ 0 ∷ 2 ∷ [])
+    ∷ row (0x60 ∷ 0x00 ∷ 0x01 ∷ 0x40 ∷ 0x00 ∷ []) (23 ∷ 59 ∷ 59 ∷ 0 ∷ 3 ∷ [])
+    -- without the sign it is 00:00:01:00
+    ∷ row (0x20 ∷ 0x00 ∷ 0x01 ∷ 0x00 ∷ 0x00 ∷ []) (0 ∷ 0 ∷ 1 ∷ 0 ∷ 1 ∷ [])
+    -- the sign counts also beside a status, with the colour frame mark, and whatever the subframes are
+    ∷ row (0x20 ∷ 0x00 ∷ 0x01 ∷ 0x60 ∷ 0x08 ∷ []) (23 ∷ 59 ∷ 59 ∷ 0 ∷ 1 ∷ [])
+    ∷ row (0x20 ∷ 0x40 ∷ 0x01 ∷ 0x40 ∷ 0x63 ∷ []) (23 ∷ 59 ∷ 59 ∷ 0 ∷ 1 ∷ [])
+    -- minus zero is zero
+    ∷ row (0x00 ∷ 0x00 ∷ 0x00 ∷ 0x40 ∷ 0x00 ∷ []) (0 ∷ 0 ∷ 0 ∷ 0 ∷ 0 ∷ [])
+    ∷ row (0x20 ∷ 0x00 ∷ 0x00 ∷ 0x40 ∷ 0x00 ∷ []) (0 ∷ 0 ∷ 0 ∷ 0 ∷ 1 ∷ [])
+    ∷ row (0x40 ∷ 0x00 ∷ 0x00 ∷ 0x40 ∷ 0x00 ∷ []) (0 ∷ 0 ∷ 0 ∷ 0 ∷ 2 ∷ [])
+    ∷ row (0x60 ∷ 0x00 ∷ 0x00 ∷ 0x40 ∷ 0x00 ∷ []) (0 ∷ 0 ∷ 0 ∷ 0 ∷ 3 ∷ [])
+    -- minus one frame is the day's last label
+    ∷ row (0x20 ∷ 0x00 ∷ 0x00 ∷ 0x41 ∷ 0x00 ∷ []) (23 ∷ 59 ∷ 59 ∷ 24 ∷ 1 ∷ [])
+    ∷ row (0x40 ∷ 0x00 ∷ 0x00 ∷ 0x41 ∷ 0x00 ∷ []) (23 ∷ 59 ∷ 59 ∷ 29 ∷ 2 ∷ [])
+    -- minus the day's last label is the first frame
+    ∷ row (0x37 ∷ 0x3B ∷ 0x3B ∷ 0x58 ∷ 0x00 ∷ []) (0 ∷ 0 ∷ 0 ∷ 1 ∷ 1 ∷ [])
+    ∷ row (0x57 ∷ 0x3B ∷ 0x3B ∷ 0x5D ∷ 0x00 ∷ []) (0 ∷ 0 ∷ 0 ∷ 1 ∷ 2 ∷ [])
+    -- labels are counted: 00:00:59;29 counts 1,799, and the day's last minute has 1,798 labels
+    ∷ row (0x40 ∷ 0x00 ∷ 0x3B ∷ 0x5D ∷ 0x00 ∷ []) (23 ∷ 58 ∷ 59 ∷ 29 ∷ 2 ∷ [])
+    -- 00:01:00;00 and ;01 are skipped, and go where ;02 goes
+    ∷ row (0x40 ∷ 0x01 ∷ 0x00 ∷ 0x42 ∷ 0x00 ∷ []) (23 ∷ 58 ∷ 59 ∷ 28 ∷ 2 ∷ [])
+    ∷ row (0x40 ∷ 0x01 ∷ 0x00 ∷ 0x40 ∷ 0x00 ∷ []) (23 ∷ 58 ∷ 59 ∷ 28 ∷ 2 ∷ [])
+    ∷ row (0x40 ∷ 0x01 ∷ 0x00 ∷ 0x41 ∷ 0x00 ∷ []) (23 ∷ 58 ∷ 59 ∷ 28 ∷ 2 ∷ [])
+    ∷ row (0x40 ∷ 0x0A ∷ 0x00 ∷ 0x40 ∷ 0x00 ∷ []) (23 ∷ 50 ∷ 0 ∷ 0 ∷ 2 ∷ [])
+    -- without the sign a skipped label moves as before
+    ∷ row (0x40 ∷ 0x01 ∷ 0x00 ∷ 0x00 ∷ 0x00 ∷ []) (0 ∷ 1 ∷ 0 ∷ 2 ∷ 2 ∷ [])
+    -- blank and negative, and negative and invalid, are none
+    ∷ row (0x20 ∷ 0x00 ∷ 0x41 ∷ 0x40 ∷ 0x00 ∷ []) []
+    ∷ row (0x38 ∷ 0x00 ∷ 0x00 ∷ 0x40 ∷ 0x00 ∷ []) []
+    ∷ row (0x20 ∷ 0x00 ∷ 0x01 ∷ 0x59 ∷ 0x00 ∷ []) []
+    ∷ []
+
+pub target_instances : map (λ (r : Row). resolved_numbers (resolved (read_five r.given))) target_table ≡ map (λ (r : Row). r.stated) target_table
+unfolding target_table read_standard resolved before_midnight add_frames is_valid
+target_instances = refl
+
+-- Blank and negative is 7.
+pub blank_negative_refused : (g : MtcGenerator)
+    → applied g 127 5 (LocateTarget (read_five (0x20 ∷ 0x00 ∷ 0x41 ∷ 0x40 ∷ 0x00 ∷ []))) ≡ unchanged g 7
+unfolding applied acted resolved read_standard
+blank_negative_refused g = refl
+
+-- A string on the wire, whatever the generator was: Locate minus one second at 25 and Play send 23:59:59:00.
+pub negative_sent : (g : MtcGenerator)
+    → bytes_sent 8 (obey (0x44 ∷ 0x06 ∷ 0x01 ∷ 0x20 ∷ 0x00 ∷ 0x01 ∷ 0x40 ∷ 0x00 ∷ 0x02 ∷ []) 127 5 g).generator
+    ≡ pieces (label Fps25 23 59 59 0)
+unfolding obey_from read_standard applied acted resolved before_midnight add_frames is_valid pieces bytes_sent next_byte after_next_byte next_command next split_at prefixes_at measured length_of command_length read_command command_by_name read_locate part_of is_inside
+negative_sent g = refl

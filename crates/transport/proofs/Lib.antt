@@ -4,3 +4,4 @@ pub mod Instances
 pub mod Laws
 mod Obeying
 mod Running
+mod Targets

@@ -5,7 +5,7 @@ use mathlib.Core.Path.{◌≡◌, refl, sym, ap, ◌∙◌}
 use mathlib.Core.Bool.{Bool, true, false, cond, ◌&&◌}
 use mathlib.Core.List.{List, [], ◌∷◌, ◌++◌, append-nil}
 use native.Mathlib.Omega.{arith}
-use lib.Dec.{T, leb}
+use lib.Dec.{leb}
 use lib.ListN.{length}
 use Rattle.mmc.specs.declared.command.MmcCommand.{MmcCommand}
 use Rattle.mmc.specs.declared.command.MmcCommand.TheVariants.{Stop, Play, DeferredPlay, FastForward, Rewind, RecordStrobe, RecordExit, Pause, Reset, Write, LocateField, LocateTarget, Move, Other}
@@ -14,9 +14,7 @@ use Rattle.codes.specs.declared.time_code.StandardTimeCode.{StandardTimeCode}
 use Rattle.mmc.specs.Command.{next_command}
 use Rattle.mmc.specs.Strings.{Walk, before, walk, walk_from, walk_means, on_to, next_of, reads_of, commands_read}
 use Rattle.mmc.proofs.StringLaws.{walk_none, walk_more, read_from_lem, read_joined, read_after, meanings_none}
-use Rattle.labels.specs.St12.{is_valid}
 use Rattle.mtc.specs.Stream.{run_from}
-use Rattle.labels.specs.Time.{next_valid}
 use Rattle.mtc.specs.declared.generator.Direction.TheVariants.{Forward}
 use Rattle.mtc.specs.declared.generator.MtcGenerator.{MtcGenerator}
 use Rattle.labels.specs.declared.time.MtcTime.{MtcTime}
@@ -138,16 +136,6 @@ pub answers_each : (device own : ℕ) (g : MtcGenerator) (xs : List MmcCommand) 
 unfolding answers_to
 answers_each device own g [] = refl
 answers_each device own g (x ∷ xs) = ap suc (answers_each device own (applied g device own x).generator xs)
-
--- What a target resolves to is valid.
-pub resolved_valid : (c : StandardTimeCode) (t : MtcTime) → resolved c ≡ Some t → T (is_valid t)
-unfolding resolved
-resolved_valid c t = go c.blank (is_valid (next_valid c.time)) refl
-  where
-    go : (b v : Bool) → is_valid (next_valid c.time) ≡ v → cond b None (cond v (Some (next_valid c.time)) None) ≡ Some t → T (is_valid t)
-    go true v e h = let z : ◌≡◌ {A = ℕ} 0 1 = cc in absurd (omega arith)
-    go false true e h = let s : is_valid t ≡ true = cc in rw s tt
-    go false false e h = let z : ◌≡◌ {A = ℕ} 0 1 = cc in absurd (omega arith)
 
 -- Locate to a target that resolves to T, and then Play: the generator as it is located at T and set running forward.
 pub target_played : (device own : ℕ) (g : MtcGenerator) (c : StandardTimeCode) (t : MtcTime) → device ≤ 127 → own ≤ 127

@@ -4,7 +4,7 @@
 -- the writer, `message_from` and `next_command` with those of the reading, `applied` with that of the transport, `bytes_sent`,
 -- `after_calls` and `events` with those of generator and reader. Assumes nothing.
 use Rattle.std.specs.Prelude.{ℕ, zero, suc, ◌≤◌, ◌≡◌, false, List, [], ◌∷◌, ◌++◌, T, Option, Some, None}
-use Rattle.transport.specs.Transport.{Reply, Outcome, resolved, applied}
+use Rattle.transport.specs.Transport.{Reply, Outcome, by_sign, resolved, applied}
 use Rattle.mmc.specs.declared.command.MmcCommand.{MmcCommand}
 use Rattle.mmc.specs.declared.command.MmcCommand.TheVariants.{LocateTarget, Play}
 use Rattle.mmc.specs.declared.length.Kind.TheVariants.{Commands}
@@ -130,14 +130,17 @@ Demand3Reverse =
 abbrev pub ending_at : List (Given Commands) → List ℕ → List ℕ → StandardTimeCode → List (Given Commands)
 ending_at gs a b c = gs ++ (given Commands a (LocateTarget c) ∷ given Commands b Play ∷ [])
 
--- Demand 3 by what is written: T is the target's time, valid and not blank. The sign, which the transport does not read, may be either.
+-- A list that is written with Locate to a target and Play at its end keeps the promise for a label.
+abbrev pub WrittenFor : StandardTimeCode → MtcTime → Type 0
+WrittenFor c t =
+    (gs : List (Given Commands)) (a b : List ℕ) (device own : ℕ) (out : List ℕ) (n : ℕ) (g : MtcGenerator) (calls : List Call)
+    → string_answer Commands device (ending_at gs a b c) out ≡ gives n → own ≤ 127 → T (is_addressed device own)
+    → Promised (string_of Commands device (ending_at gs a b c) out n) device own g calls t
+
+-- Demand 3 by what is written: the target's time is valid and not blank. T is this time; where the target is negative, T lies as many labels
+-- before midnight (document 02, #103).
 abbrev pub Demand3Written : Type 0
-Demand3Written =
-    (gs : List (Given Commands)) (a b : List ℕ) (c : StandardTimeCode) (device own : ℕ) (out : List ℕ) (n : ℕ) (g : MtcGenerator)
-    (calls : List Call)
-    → T (is_valid c.time) → c.blank ≡ false → string_answer Commands device (ending_at gs a b c) out ≡ gives n → own ≤ 127
-    → T (is_addressed device own)
-    → Promised (string_of Commands device (ending_at gs a b c) out n) device own g calls c.time
+Demand3Written = (c : StandardTimeCode) → T (is_valid c.time) → c.blank ≡ false → WrittenFor c (by_sign c.negative c.time)
 
 -- ---- what acts, and what holds nothing up
 

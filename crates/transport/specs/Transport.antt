@@ -1,6 +1,6 @@
--- What the transport does, on every input (document 01, "Transport", refusals 5 and 7): what a Locate target resolves to, what each
--- command does to a generator, and what one call answers. Assumes nothing.
-use Rattle.std.specs.Prelude.{ℕ, true, false, cond, ◌&&◌, leb, Option, Some, None}
+-- What the transport does, on every input (document 01, "Transport", refusals 5 and 7; the sign of a target, document 02, #103): what a
+-- Locate target resolves to, what each command does to a generator, and what one call answers. Assumes nothing.
+use Rattle.std.specs.Prelude.{ℕ, zero, suc, pos, neg_ℤ, Bool, true, false, cond, ◌&&◌, leb, Option, Some, None, option_map}
 use Rattle.transport.specs.declared.transport.Applied.{Applied}
 -- What became of a command that was not refused: done, or it is for another device.
 pub use Rattle.transport.specs.declared.transport.Reply.{Reply}
@@ -9,24 +9,44 @@ use Rattle.mmc.specs.declared.command.MmcCommand.{MmcCommand}
 use Rattle.mmc.specs.declared.command.MmcCommand.TheVariants.{Stop, Play, DeferredPlay, FastForward, Rewind, RecordStrobe, RecordExit, Pause, Reset, Write, LocateField, LocateTarget, Move, Other}
 use Rattle.codes.specs.declared.time_code.StandardTimeCode.{StandardTimeCode}
 use Rattle.mtc.specs.Generator.{with_running, with_direction, located}
-use Rattle.labels.specs.St12.{is_valid}
-use Rattle.labels.specs.Time.{next_valid}
+use Rattle.labels.specs.St12.{label, is_valid, label_before}
+use Rattle.labels.specs.Time.{next_valid, frame_count, add_frames}
 use Rattle.mtc.specs.declared.generator.Direction.TheVariants.{Forward}
 use Rattle.mtc.specs.declared.generator.MtcGenerator.{MtcGenerator}
 use Rattle.labels.specs.declared.time.MtcTime.{MtcTime}
+use Rattle.labels.specs.declared.time.TimeCodeType.{TimeCodeType}
 use Rattle.universal.specs.Message.{is_addressed}
 use Rattle.universal.specs.Refusals.{Answer, gives, refused, refusal, answer_of}
 
 -- ---- a Locate target
 
+-- The day's first label.
+abbrev pub midnight : TimeCodeType → MtcTime
+midnight r = label r 0 0 0 0
+
+-- A label's count taken backwards from midnight; minus zero is zero.
+unfoldable pub before_midnight : MtcTime → MtcTime
+before_midnight t = add_frames (midnight t.rate) (neg_ℤ (pos (frame_count t)))
+
+-- Where a target with a valid label goes, by its sign.
+abbrev pub by_sign : Bool → MtcTime → MtcTime
+by_sign negative t = cond negative (before_midnight t) t
+
 -- A valid label, or none.
 abbrev pub if_valid : MtcTime → Option MtcTime
 if_valid t = cond (is_valid t) (Some t) None
 
--- What a target resolves to: a skipped label is moved by `next_valid`; a blank target, and one still invalid, is none. Subframes and
--- sign are unread.
+-- What a target resolves to: a skipped label is first moved by `next_valid`; a blank target, and one still invalid, is none; then a
+-- negative one goes before midnight. Subframes are unread.
 unfoldable pub resolved : StandardTimeCode → Option MtcTime
-resolved c = cond c.blank None (if_valid (next_valid c.time))
+resolved c = cond c.blank None (option_map (by_sign c.negative) (if_valid (next_valid c.time)))
+
+-- ---- what "before midnight" means, by ST 12-1
+
+-- So many labels back, one by one.
+unfoldable pub labels_back : ℕ → MtcTime → MtcTime
+labels_back zero t = t
+labels_back (suc n) t = label_before (labels_back n t)
 
 -- ---- what a call answers
 

@@ -2,7 +2,7 @@
 // one by one, and a refused one leaves the generator as it was.
 ghost use Rattle.std.specs.Prelude.{◌≡◌};
 ghost use Rattle.universal.specs.Refusals.{refusal_of, refused};
-ghost use Rattle.transport.specs.Transport.{resolved, applied_of, finished, acted, applied};
+ghost use Rattle.transport.specs.Transport.{before_midnight, resolved, applied_of, finished, acted, applied};
 
 use mmc::{MmcCommand, StandardTimeCode};
 use mtc::{Direction, MtcGenerator, MtcTime};
@@ -22,8 +22,17 @@ pub struct Applied {
     pub answer: Result<Reply, SysexError>,
 }
 
-// The label that a Locate target resolves to: a skipped one is moved by `next_valid`. A blank target, and one still invalid, is none;
-// subframes and sign are unread.
+// A label's count taken backwards from midnight (document 02, #103); minus zero is zero.
+#[tactic(auto, using(labels::proofs::Laws::count_below))]
+fn before_midnight(time: MtcTime) -> MtcTime
+    ensures { result ≡ before_midnight time }
+{
+    let rate = time.rate;
+    MtcTime::from_frame_count(rate.day() - time.to_frame_count(), rate)
+}
+
+// The label that a Locate target resolves to: a skipped one is first moved by `next_valid`. A blank target, and one still invalid, is
+// none; then a negative one goes before midnight. Subframes are unread.
 #[tactic(auto, unfolding(crate::specs::Transport::resolved))]
 fn resolve(code: StandardTimeCode) -> Option<MtcTime>
     ensures { result ≡ resolved code }
@@ -35,6 +44,9 @@ fn resolve(code: StandardTimeCode) -> Option<MtcTime>
     let moved = label.next_valid();
     if !moved.is_valid() {
         return None;
+    }
+    if code.negative {
+        return Some(before_midnight(moved));
     }
     Some(moved)
 }
