@@ -49,6 +49,17 @@ fn hour() -> MtcTime {
     MtcTime::new(1, 0, 0, 0, TimeCodeType::Fps25).unwrap()
 }
 
+/// A label of these numbers, valid or not.
+fn label(hours: u8, minutes: u8, seconds: u8, frames: u8, rate: TimeCodeType) -> MtcTime {
+    MtcTime {
+        hours,
+        minutes,
+        seconds,
+        frames,
+        rate,
+    }
+}
+
 /// A command message in its split parts.
 fn parts(sub_id1: u8, data: &[u8]) -> Universal<'_> {
     Universal {
@@ -984,13 +995,6 @@ fn negative_targets() {
         assert_eq!(obey(&mut g, 0x7F, 5, &out[4..13]).refused, 0);
         g.time()
     };
-    let label = |hours, minutes, seconds, frames, rate| MtcTime {
-        hours,
-        minutes,
-        seconds,
-        frames,
-        rate,
-    };
     for (rate, day) in RATES
         .into_iter()
         .zip([2_073_600, 2_160_000, 2_589_408, 2_592_000])
@@ -1030,13 +1034,6 @@ fn parts_outside_are_empty() {
 
 /// Codes of good and bad labels, with subframes of every range, each mark and a status.
 fn targets() -> Vec<StandardTimeCode> {
-    let label = |hours, minutes, seconds, frames, rate| MtcTime {
-        hours,
-        minutes,
-        seconds,
-        frames,
-        rate,
-    };
     let mut codes = Vec::new();
     for rate in RATES {
         for (minutes, seconds, frames) in

@@ -28,7 +28,7 @@ use Rattle.universal.specs.Refusals.{Answer, gives}
 use Rattle.transport.specs.Transport.{before_midnight, by_sign, resolved}
 use Rattle.transport.specs.Demand3.{Run, obey_message, obeyed, applied_all, applied_walk, EndsAt, Promised, ending_at, Demand3, Demand3Reverse, WrittenFor, Demand3Written}
 use Rattle.transport.proofs.Obeying.{read_acts, applied_append, target_played}
-use Rattle.transport.proofs.Targets.{valid_same, resolved_valid}
+use Rattle.transport.proofs.Targets.{valid_by_sign, resolved_valid}
 
 -- ---- demand 3
 
@@ -77,7 +77,7 @@ demand3_reverse g calls t v = stream_law calls g t Reverse v
 written_resolves : (c : StandardTimeCode) → T (is_valid c.time) → c.blank ≡ false → resolved (zeroed c) ≡ Some (by_sign c.negative c.time)
 written_resolves c v k =
     let w : written_label c ≡ c.time = rw k in
-    valid_same (zeroed c) k (rw w v) ∙ ap (λ (t : MtcTime). Some (by_sign c.negative t)) w
+    valid_by_sign (zeroed c) k (rw w v) ∙ ap (λ (t : MtcTime). Some (by_sign c.negative t)) w
 
 -- A list that is written so ends so when it is read back.
 ends_at : (gs : List (Given Commands)) (a b : List ℕ) (c : StandardTimeCode) (device : ℕ) (out : List ℕ) (n : ℕ)

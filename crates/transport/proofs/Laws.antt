@@ -12,7 +12,7 @@ pub use Rattle.transport.proofs.Acting.{device_above, own_above, not_mine_lem, m
 pub use Rattle.transport.proofs.Acting.{applied_fits}
 -- A target: none where blank or still invalid, else by its sign from its label, a skipped one moved to the least valid label above it;
 -- always valid. Without a sign it is what it was; the last byte is unread.
-pub use Rattle.transport.proofs.Targets.{blank_none, invalid_none, valid_some, valid_same, skipped_moved, resolved_valid, unsigned_as_before, last_byte_unread}
+pub use Rattle.transport.proofs.Targets.{blank_none, invalid_none, valid_some, valid_by_sign, skipped_moved, resolved_valid, unsigned_as_before, last_byte_unread}
 -- Before midnight (document 02, #103): as many labels back from midnight as the label counts, by ST 12-1, so that it is midnight when moved
 -- ahead by that count, and the two counts make up a day; minus zero is zero; a valid label of the same rate.
 pub use Rattle.transport.proofs.Targets.{counted_back, ahead_to_midnight, counts_make_a_day, before_midnight_by_count, minus_zero, before_midnight_valid, before_midnight_rate}

@@ -41,8 +41,8 @@ unfolding resolved
 valid_some c t negative b n e v = rw (b, n, ← e, v)
 
 -- A valid label that is not blank: by its sign from itself.
-pub valid_same : (c : StandardTimeCode) → c.blank ≡ false → T (is_valid c.time) → resolved c ≡ Some (by_sign c.negative c.time)
-valid_same c b v = valid_some c c.time c.negative b refl (sym (next_valid_valid c.time v)) (holds_true (is_valid c.time) v)
+pub valid_by_sign : (c : StandardTimeCode) → c.blank ≡ false → T (is_valid c.time) → resolved c ≡ Some (by_sign c.negative c.time)
+valid_by_sign c b v = valid_some c c.time c.negative b refl (sym (next_valid_valid c.time v)) (holds_true (is_valid c.time) v)
 
 -- A skipped label that is not blank, with hours and minutes in range: by its sign from the least valid label above it.
 pub skipped_moved : (c : StandardTimeCode) → c.blank ≡ false → T (is_skipped c.time) → c.time.hours ≤ 23 → c.time.minutes ≤ 59
