@@ -14,11 +14,12 @@ use Rattle.mmc.specs.Names.{NamesRead}
 use Rattle.mmc.specs.declared.command.MmcCommand.{MmcCommand}
 use Rattle.mmc.specs.declared.command.MmcCommand.TheVariants.{Other}
 use Rattle.mmc.specs.declared.length.Kind.{Kind}
-use Rattle.mmc.specs.declared.length.Kind.TheVariants.{Commands}
+use Rattle.mmc.specs.declared.length.Kind.TheVariants.{Commands, Fields}
 use Rattle.mmc.specs.declared.length.Length.{Length}
 use Rattle.mmc.specs.declared.length.Length.TheVariants.{Fixed, Count}
 use Rattle.mmc.specs.declared.part.Part.{Part}
 use Rattle.mmc.specs.Command.{command_by_name, read_command, command_of_case, next_command}
+use Rattle.mmc.specs.Field.{read_field, field_of_case, next_field}
 use Rattle.mmc.specs.Length.{length_of, command_length, within}
 use Rattle.mmc.specs.Part.{part, part_of, is_inside}
 use Rattle.mmc.specs.Rp013 as R
@@ -26,6 +27,7 @@ use Rattle.mmc.specs.Split.{ItemPlace, Next, measured, split_at, next, next_as, 
 use Rattle.mmc.specs.Strings.{Walk, before, walk_from, reads_of, item_at, walk, next_of, read_from, item_places, FoundThere}
 use Rattle.universal.specs.Refusals.{Refusal, Answer, gives, refused, refusal, refusal_of}
 use Rattle.universal.specs.declared.error.SysexError.{SysexError}
+use Rattle.universal.proofs.Tests.{and_all}
 -- A Locate, a Move and a name by their bytes, as the parts that they stand at.
 pub use Rattle.mmc.proofs.Reading.CommandTests.{locate_short, locate_no_register, locate_register, locate_unknown, locate_cut, locate_to_time, move_short, move_no_destination, move_no_source, move_both, long_name, by_byte, unknown_byte, unknown_name}
 -- A byte of a range, below it, and from its end on.
@@ -34,7 +36,7 @@ use Rattle.mmc.proofs.Reading.ItemsFound
 use Rattle.mmc.proofs.Reading.NextPlace
 use Rattle.mmc.proofs.Reading.PrefixedNames
 use Rattle.mmc.proofs.Reading.SplitTests.{no_zero, fixed_data, no_count, counted_data, too_few, enough, next_end, next_cut, next_item, read_found, read_refused}
-use Rattle.mmc.proofs.StringLaws.{read_goes_on}
+use Rattle.mmc.proofs.StringLaws.{found_inside, read_goes_on}
 use Rattle.mmc.proofs.Reading.Walks
 
 -- ---- parts, lengths and names
@@ -79,6 +81,12 @@ pub command_of_parts : (body : List ℕ) (place : ℕ)
     → next_command body place ≡ next_as (parts_as (λ (n d : List ℕ). command_of_case (read_command n d)) body) (next Commands body place)
 unfolding next_command
 command_of_parts body place = refl
+
+-- The next field, likewise.
+pub field_of_parts : (body : List ℕ) (place : ℕ)
+    → next_field body place ≡ next_as (parts_as (λ (n d : List ℕ). field_of_case (read_field n d)) body) (next Fields body place)
+unfolding next_field
+field_of_parts body place = refl
 
 module _ (body : List ℕ) (place at : ℕ) (k : Result ItemPlace SysexError)
     (e : next_item_of (record { answer = k; place = at }) ≡ next Commands body place) where
@@ -196,6 +204,20 @@ next_goes_on = NextPlace.moves
 pub next_found : (kind : Kind) (body : List ℕ) (place : ℕ) (l : ItemPlace) → (next kind body place).answer ≡ gives l
     → FoundThere kind body place l (next kind body place).place
 next_found = ItemsFound.there
+
+-- Its name and data are parts inside the string.
+pub found_parts : (kind : Kind) (body : List ℕ) (place : ℕ) (l : ItemPlace) → (next kind body place).answer ≡ gives l
+    → (is_inside body l.name ≡ true) × (is_inside body l.«data» ≡ true)
+unfolding is_inside
+found_parts kind body place l e =
+    let f = found_inside kind body place l e in
+    let name_first : l.name.start ≤ length body = omega (arith, f.name_end) in
+    let name_last : l.name.len ≤ length body - l.name.start = omega (arith, f.name_end) in
+    let data_first : l.«data».start ≤ length body = omega (arith, f.data_end, f.end) in
+    let data_last : l.«data».len ≤ length body - l.«data».start = omega (arith, f.data_end, f.end) in (
+      and_all _ _ (le-leb l.name.start (length body) name_first) (le-leb l.name.len (length body - l.name.start) name_last),
+      and_all _ _ (le-leb l.«data».start (length body) data_first) (le-leb l.«data».len (length body - l.«data».start) data_last),
+    )
 
 -- At the end and past it a read is refused by 9, which changes nothing; before it by nothing but 2.
 pub next_at_end : (kind : Kind) (body : List ℕ) (place : ℕ) → length body ≤ place

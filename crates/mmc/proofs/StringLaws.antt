@@ -452,6 +452,12 @@ pub read_from_lem : (kind : Kind) (body : List ℕ) (place : ℕ)
 unfolding read_from
 read_from_lem kind body place = refl
 
+-- A walk goes by the bytes of what is found, one item after another.
+pub walk_lem : (kind : Kind) (body : List ℕ) (place : ℕ)
+    → walk kind body place ≡ walk_from (λ (p : ℕ). next_as (item_at body) (next kind body p)) (reads_of body) place
+unfolding walk
+walk_lem kind body place = refl
+
 -- A read that gives an item goes on past its place, and inside the string.
 pub read_goes_on : (kind : Kind) (body : List ℕ) (place : ℕ) (x : Meaning kind) → (next_of kind body place).answer ≡ gives x
     → (place < (next_of kind body place).place) × ((next_of kind body place).place ≤ length body)
