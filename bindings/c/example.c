@@ -1,6 +1,7 @@
 /*
  * A desk's round in little: Locate 01:00:00:00 at 25 and Play are written, read back and obeyed by a generator, whose bytes a
- * reader gets. Then fields of a response are looked up by an index. It must print example.out. Build it where libfimbrast.a is found:
+ * reader gets. Then fields of a response are looked up by an index, and a track is disarmed. It must print example.out. Build it where
+ * libfimbrast.a is found:
  *
  *     gcc -std=c11 -Wall -Wextra -Wpedantic -O2 example.c -L ../../target/staticlib -lfimbrast
  */
@@ -76,6 +77,34 @@ static void look_up(void)
     }
 }
 
+/* Takes a track from those that a field 4FH has, and writes them again. An answer that is not 0 is looked at before its set is used. */
+static void disarm(void)
+{
+    const uint8_t fields[] = {FIMBRAST_TRACK_RECORD_READY, 0x04, 0x64, 0x00, 0x00, 0x01};
+    uint8_t out[FIMBRAST_TRACK_BYTES];
+
+    const fimbrast_next_field_answer next = fimbrast_next_field(fields, sizeof fields, 0);
+    const fimbrast_track_set_answer read = fimbrast_field_tracks(fields, sizeof fields, next.field);
+    if (next.refusal != 0 || read.answer != 0) {
+        printf("no tracks: answers %u and %u\n", (unsigned)next.refusal, (unsigned)read.answer);
+        return;
+    }
+    const fimbrast_lowest_track lowest = fimbrast_track_set_lowest_armed(read.set);
+    printf("tracks: %u armed, time code %s, refusal %u of the lowest, track %u\n",
+           (unsigned)fimbrast_track_set_armed_count(read.set),
+           fimbrast_track_set_has_position(read.set, FIMBRAST_POSITION_TIME_CODE) ? "on" : "off", (unsigned)lowest.refusal,
+           (unsigned)lowest.track);
+    printf("track 59: refusal %u\n", (unsigned)fimbrast_track_set_arm(read.set, 59).answer);
+
+    const fimbrast_track_set_answer less = fimbrast_track_set_disarm(read.set, 17);
+    const fimbrast_written written = fimbrast_track_set_write(less.set, out, sizeof out);
+    printf("without track 17: answers %u and %u,", (unsigned)less.answer, (unsigned)written.refusal);
+    for (size_t i = 0; written.refusal == 0 && i < written.length; i++) {
+        printf(" %02X", (unsigned)out[i]);
+    }
+    putchar('\n');
+}
+
 int main(void)
 {
     uint8_t out[16];
@@ -129,5 +158,6 @@ int main(void)
         }
     }
     look_up();
+    disarm();
     return 0;
 }

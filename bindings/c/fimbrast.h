@@ -29,8 +29,8 @@
 extern "C" {
 #endif
 
-#define FIMBRAST_VERSION 500
-#define FIMBRAST_VERSION_STRING "0.5.0"
+#define FIMBRAST_VERSION 600
+#define FIMBRAST_VERSION_STRING "0.6.0"
 
 /* The refusals by their numbers. 0 is none; with 4 the needed length is given. A later version may have more. */
 enum {
@@ -45,9 +45,10 @@ enum {
     FIMBRAST_REFUSED_END = 9,                /* the reading place is at or past the end */
     FIMBRAST_REFUSED_ITEM_LIMIT = 10,        /* 256 items were already accepted in this writing */
     FIMBRAST_REFUSED_NO_FIELD = 11,          /* an index has no field under this name */
+    FIMBRAST_REFUSED_TRACK = 12,             /* more than nine bytes of tracks, a track outside 1 to 58, or no armed track to be the lowest */
 };
 
-/* An answer that is no refusal: the message is of another kind, or it is for another device. */
+/* An answer that is no refusal: the message is of another kind, or for another device, or the field has no set of tracks. */
 #define FIMBRAST_NOT_THIS 255
 /* No piece, or no direction. */
 #define FIMBRAST_NONE 255
@@ -59,7 +60,7 @@ enum {
 /* The version as one number: 10,000 for each whole version, 100 for each minor one, and the patch. */
 uint32_t fimbrast_version(void);
 /* The same under a name that has the version. A program refers to it, so that an archive of another version does not link. */
-uint32_t fimbrast_version_0_5_0(void);
+uint32_t fimbrast_version_0_6_0(void);
 
 /* The archive must be of this version: where it is not, the linker misses this call. `retain` keeps it where the linker drops unused sections. */
 #if defined(__has_attribute)
@@ -67,7 +68,7 @@ uint32_t fimbrast_version_0_5_0(void);
 __attribute__((retain))
 #endif
 #endif
-__attribute__((used)) static uint32_t (*const fimbrast_needed_version)(void) = fimbrast_version_0_5_0;
+__attribute__((used)) static uint32_t (*const fimbrast_needed_version)(void) = fimbrast_version_0_6_0;
 
 /* ---- Labels, and the quarter frames of a label */
 
@@ -501,6 +502,67 @@ uint8_t fimbrast_field_index_build(fimbrast_field_index *field_index, const uint
  * for a name without a field, or above 7FH. A name with prefixes is another name; a short time code has one of its own, 20H above its
  * field's. Where the refusal is 0, `fimbrast_next_field` at this place of that string reads the field. */
 fimbrast_field_place fimbrast_field_index_place(const fimbrast_field_index *field_index, uint8_t name);
+
+/* ---- Sets of tracks: which tracks of a recorder are ready to record */
+
+/* The name of the field that has a set of tracks, 4FH, and the most data bytes of a set. */
+#define FIMBRAST_TRACK_RECORD_READY 79
+#define FIMBRAST_TRACK_BYTES 9
+/* The positions below the tracks. Track n, 1 to 58, is position n + 4. */
+#define FIMBRAST_POSITION_VIDEO 0
+#define FIMBRAST_POSITION_RESERVED 1
+#define FIMBRAST_POSITION_TIME_CODE 2
+#define FIMBRAST_POSITION_AUX_A 3
+#define FIMBRAST_POSITION_AUX_B 4
+
+/* A set of tracks: position p of the bitmap is bit p. Position 0 is video, 1 reserved, 2 time code, 3 and 4 auxiliaries, and n + 4 track n,
+ * 1 to 58. Bit 63 is no position: every call takes it as clear, and none gives a set with it. A record of 0 is an empty set. */
+typedef struct {
+    uint64_t positions;
+} fimbrast_track_set;
+
+/* Answer 0 and a set; or a refusal. Beside a refusal, a call that arms or disarms gives the set that it got, without bit 63, and any other
+ * call an empty set. 255 says that the field has no set, and stands beside an empty one. */
+typedef struct {
+    uint8_t answer;
+    fimbrast_track_set set;
+} fimbrast_track_set_answer;
+
+/* Whether a track is armed, with refusal 0; or refusal 12, and no. */
+typedef struct {
+    uint8_t refusal;
+    bool armed;
+} fimbrast_track_armed;
+
+/* A track, with refusal 0; or refusal 12, and track 0. */
+typedef struct {
+    uint8_t refusal;
+    uint8_t track;
+} fimbrast_lowest_track;
+
+/* `TrackSet::new`: an empty set. */
+fimbrast_track_set fimbrast_track_set_new(void);
+/* `TrackSet::read`: the set of data bytes as field 4FH has them. Missing bytes are zeros, and bit 7 of each is ignored. More than nine
+ * are 12. */
+fimbrast_track_set_answer fimbrast_track_set_read(const uint8_t *data, size_t data_length);
+/* `TrackSet::arm`: the set with one more track; 12, and the same set, for a track outside 1 to 58. */
+fimbrast_track_set_answer fimbrast_track_set_arm(fimbrast_track_set set, uint8_t track);
+/* `TrackSet::disarm`: the set without a track, likewise. */
+fimbrast_track_set_answer fimbrast_track_set_disarm(fimbrast_track_set set, uint8_t track);
+/* `TrackSet::is_armed`: whether a track is armed; 12 for one outside 1 to 58. */
+fimbrast_track_armed fimbrast_track_set_is_armed(fimbrast_track_set set, uint8_t track);
+/* `TrackSet::armed_count`: how many tracks are armed. */
+uint32_t fimbrast_track_set_armed_count(fimbrast_track_set set);
+/* `TrackSet::lowest_armed`: the lowest armed track; 12 where none is armed. */
+fimbrast_lowest_track fimbrast_track_set_lowest_armed(fimbrast_track_set set);
+/* `TrackSet::has_position`: whether a position of the bitmap is set, as 2 for time code. From 63 on there is none. */
+bool fimbrast_track_set_has_position(fimbrast_track_set set, uint8_t position);
+/* `TrackSet::write`: the data bytes at the start of the buffer, without the zero bytes at their end, and how many they are: none of an empty
+ * set, and at most nine. A buffer that is too short is 4 with the needed length, and stays as found. */
+fimbrast_written fimbrast_track_set_write(fimbrast_track_set set, uint8_t *out, size_t out_length);
+/* `InfoField::tracks`: the set of a field that is named by the one byte 4FH, as it was read from these bytes; 255 for any other field. The
+ * field itself stays another field. 12 for more than nine data bytes, 6 for a name or data that are no part of the bytes. */
+fimbrast_track_set_answer fimbrast_field_tracks(const uint8_t *source, size_t source_length, fimbrast_field field);
 
 /* ---- Writing a string: opened, given its items one at a time, and closed, with one buffer throughout, left alone between the calls */
 

@@ -187,5 +187,20 @@ int main(void)
     SIZE(eight_bytes);
     PLACE(eight_bytes, bytes);
     END;
+    SIZE(track_set);
+    PLACE(track_set, positions);
+    END;
+    SIZE(track_set_answer);
+    PLACE(track_set_answer, answer);
+    PLACE(track_set_answer, set);
+    END;
+    SIZE(track_armed);
+    PLACE(track_armed, refusal);
+    PLACE(track_armed, armed);
+    END;
+    SIZE(lowest_track);
+    PLACE(lowest_track, refusal);
+    PLACE(lowest_track, track);
+    END;
     return 0;
 }

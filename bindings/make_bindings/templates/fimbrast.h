@@ -35,7 +35,7 @@ extern "C" {
 /* The refusals by their numbers. 0 is none; with 4 the needed length is given. A later version may have more. */
 @refusals
 
-/* An answer that is no refusal: the message is of another kind, or it is for another device. */
+/* An answer that is no refusal: the message is of another kind, or for another device, or the field has no set of tracks. */
 #define FIMBRAST_NOT_THIS 255
 /* No piece, or no direction. */
 #define FIMBRAST_NONE 255
@@ -105,6 +105,20 @@ enum {
 @module string
 
 @module index
+
+@heading track_set
+
+/* The name of the field that has a set of tracks, 4FH, and the most data bytes of a set. */
+#define FIMBRAST_TRACK_RECORD_READY 79
+#define FIMBRAST_TRACK_BYTES 9
+/* The positions below the tracks. Track n, 1 to 58, is position n + 4. */
+#define FIMBRAST_POSITION_VIDEO 0
+#define FIMBRAST_POSITION_RESERVED 1
+#define FIMBRAST_POSITION_TIME_CODE 2
+#define FIMBRAST_POSITION_AUX_A 3
+#define FIMBRAST_POSITION_AUX_B 4
+
+@module track_set
 
 @module write
 

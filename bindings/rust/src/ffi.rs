@@ -10,11 +10,11 @@ use core::mem::{offset_of, size_of};
 use crate::mtc::MtcTime;
 
 /// The version of the library that this is made for.
-pub const VERSION: u32 = 500;
+pub const VERSION: u32 = 600;
 
 /// The archive must be of this version: where it is not, the linker misses this call.
 #[used]
-static NEEDED_VERSION: extern "C" fn() -> u32 = fimbrast_version_0_5_0;
+static NEEDED_VERSION: extern "C" fn() -> u32 = fimbrast_version_0_6_0;
 
 pub const NOT_THIS: u8 = 255;
 pub const NONE: u8 = 255;
@@ -39,6 +39,13 @@ pub const OTHER_COMMAND: u8 = 13;
 pub const TIME_CODE: u8 = 0;
 pub const SHORT: u8 = 1;
 pub const OTHER_FIELD: u8 = 2;
+pub const TRACK_RECORD_READY: u8 = 79;
+pub const TRACK_BYTES: u8 = 9;
+pub const POSITION_VIDEO: u8 = 0;
+pub const POSITION_RESERVED: u8 = 1;
+pub const POSITION_TIME_CODE: u8 = 2;
+pub const POSITION_AUX_A: u8 = 3;
+pub const POSITION_AUX_B: u8 = 4;
 
 /// 1: a byte above 7FH in a written name or data.
 pub const REFUSED_DATA_BYTE: u8 = 1;
@@ -62,8 +69,10 @@ pub const REFUSED_END: u8 = 9;
 pub const REFUSED_ITEM_LIMIT: u8 = 10;
 /// 11: an index has no field under this name.
 pub const REFUSED_NO_FIELD: u8 = 11;
+/// 12: more than nine bytes of tracks, a track outside 1 to 58, or no armed track to be the lowest.
+pub const REFUSED_TRACK: u8 = 12;
 /// The number of every refusal.
-pub const REFUSALS: [u8; 11] = [1, 2, 3, 4, 5, 6, 7, 8, 9, 10, 11];
+pub const REFUSALS: [u8; 12] = [1, 2, 3, 4, 5, 6, 7, 8, 9, 10, 11, 12];
 
 /// A label. Rates: 0 is 24, 1 is 25, 2 is 30 drop-frame, 3 is 30 frames per second. Only the two low bits of a rate are read.
 #[derive(Debug, Clone, Copy, PartialEq, Eq, Default)]
@@ -407,6 +416,39 @@ pub struct EightBytes {
     pub bytes: [u8; 8],
 }
 
+/// A set of tracks: position p of the bitmap is bit p. Position 0 is video, 1 reserved, 2 time code, 3 and 4 auxiliaries, and n + 4 track n,
+/// 1 to 58. Bit 63 is no position: every call takes it as clear, and none gives a set with it. A record of 0 is an empty set.
+#[derive(Debug, Clone, Copy, PartialEq, Eq, Default)]
+#[repr(C)]
+pub struct TrackSet {
+    pub positions: u64,
+}
+
+/// Answer 0 and a set; or a refusal. Beside a refusal, a call that arms or disarms gives the set that it got, without bit 63, and any other
+/// call an empty set. 255 says that the field has no set, and stands beside an empty one.
+#[derive(Debug, Clone, Copy, PartialEq, Eq, Default)]
+#[repr(C)]
+pub struct TrackSetAnswer {
+    pub answer: u8,
+    pub set: TrackSet,
+}
+
+/// Whether a track is armed, with refusal 0; or refusal 12, and no.
+#[derive(Debug, Clone, Copy, PartialEq, Eq, Default)]
+#[repr(C)]
+pub struct TrackArmed {
+    pub refusal: u8,
+    pub armed: bool,
+}
+
+/// A track, with refusal 0; or refusal 12, and track 0.
+#[derive(Debug, Clone, Copy, PartialEq, Eq, Default)]
+#[repr(C)]
+pub struct LowestTrack {
+    pub refusal: u8,
+    pub track: u8,
+}
+
 /// A writer as one number: the position in the lowest four bytes, the items accepted in the next two, and in the byte above them the
 /// first refusal, which it repeats. A number that is no refusal's is taken as 10.
 pub type Writer = u64;
@@ -418,7 +460,7 @@ pub(crate) type Layout = (&'static str, usize, &'static [(&'static str, usize)])
 /// Where the fields lie, to be held against `layout.out`.
 #[cfg(test)]
 #[rustfmt::skip]
-pub(crate) const LAYOUT: [Layout; 35] = [
+pub(crate) const LAYOUT: [Layout; 39] = [
     ("time", size_of::<Time>(), &[("hours", offset_of!(Time, hours)), ("minutes", offset_of!(Time, minutes)), ("seconds", offset_of!(Time, seconds)), ("frames", offset_of!(Time, frames)), ("rate", offset_of!(Time, rate))]),
     ("generator", size_of::<Generator>(), &[("time", offset_of!(Generator, time)), ("direction", offset_of!(Generator, direction)), ("last", offset_of!(Generator, last)), ("running", offset_of!(Generator, running))]),
     ("code", size_of::<Code>(), &[("time", offset_of!(Code, time)), ("color_frame", offset_of!(Code, color_frame)), ("blank", offset_of!(Code, blank)), ("negative", offset_of!(Code, negative)), ("status", offset_of!(Code, status)), ("last", offset_of!(Code, last))]),
@@ -454,6 +496,10 @@ pub(crate) const LAYOUT: [Layout; 35] = [
     ("next_field_answer", size_of::<NextField>(), &[("refusal", offset_of!(NextField, refusal)), ("field", offset_of!(NextField, field)), ("place", offset_of!(NextField, place))]),
     ("quarter_frame", size_of::<QuarterFrame>(), &[("piece", offset_of!(QuarterFrame, piece)), ("value", offset_of!(QuarterFrame, value))]),
     ("eight_bytes", size_of::<EightBytes>(), &[("bytes", offset_of!(EightBytes, bytes))]),
+    ("track_set", size_of::<TrackSet>(), &[("positions", offset_of!(TrackSet, positions))]),
+    ("track_set_answer", size_of::<TrackSetAnswer>(), &[("answer", offset_of!(TrackSetAnswer, answer)), ("set", offset_of!(TrackSetAnswer, set))]),
+    ("track_armed", size_of::<TrackArmed>(), &[("refusal", offset_of!(TrackArmed, refusal)), ("armed", offset_of!(TrackArmed, armed))]),
+    ("lowest_track", size_of::<LowestTrack>(), &[("refusal", offset_of!(LowestTrack, refusal)), ("track", offset_of!(LowestTrack, track))]),
 ];
 
 unsafe extern "C" {
@@ -622,10 +668,37 @@ unsafe extern "C" {
     pub safe fn fimbrast_quarter_frame_byte(frame: QuarterFrame) -> u8;
     /// `QuarterFrame::pieces`: the data bytes of pieces 0 to 7.
     pub safe fn fimbrast_pieces(time: MtcTime) -> EightBytes;
+    /// `TrackSet::new`: an empty set.
+    pub safe fn fimbrast_track_set_new() -> TrackSet;
+    /// `TrackSet::read`: the set of data bytes as field 4FH has them. Missing bytes are zeros, and bit 7 of each is ignored. More than nine
+    /// are 12.
+    pub fn fimbrast_track_set_read(data: *const u8, data_length: usize) -> TrackSetAnswer;
+    /// `TrackSet::arm`: the set with one more track; 12, and the same set, for a track outside 1 to 58.
+    pub safe fn fimbrast_track_set_arm(set: TrackSet, track: u8) -> TrackSetAnswer;
+    /// `TrackSet::disarm`: the set without a track, likewise.
+    pub safe fn fimbrast_track_set_disarm(set: TrackSet, track: u8) -> TrackSetAnswer;
+    /// `TrackSet::is_armed`: whether a track is armed; 12 for one outside 1 to 58.
+    pub safe fn fimbrast_track_set_is_armed(set: TrackSet, track: u8) -> TrackArmed;
+    /// `TrackSet::armed_count`: how many tracks are armed.
+    pub safe fn fimbrast_track_set_armed_count(set: TrackSet) -> u32;
+    /// `TrackSet::lowest_armed`: the lowest armed track; 12 where none is armed.
+    pub safe fn fimbrast_track_set_lowest_armed(set: TrackSet) -> LowestTrack;
+    /// `TrackSet::has_position`: whether a position of the bitmap is set, as 2 for time code. From 63 on there is none.
+    pub safe fn fimbrast_track_set_has_position(set: TrackSet, position: u8) -> bool;
+    /// `TrackSet::write`: the data bytes at the start of the buffer, without the zero bytes at their end, and how many they are: none of an empty
+    /// set, and at most nine. A buffer that is too short is 4 with the needed length, and stays as found.
+    pub fn fimbrast_track_set_write(set: TrackSet, out: *mut u8, out_length: usize) -> Written;
+    /// `InfoField::tracks`: the set of a field that is named by the one byte 4FH, as it was read from these bytes; 255 for any other field. The
+    /// field itself stays another field. 12 for more than nine data bytes, 6 for a name or data that are no part of the bytes.
+    pub fn fimbrast_field_tracks(
+        source: *const u8,
+        source_length: usize,
+        field: Field,
+    ) -> TrackSetAnswer;
     /// The version as one number: 10,000 for each whole version, 100 for each minor one, and the patch.
     pub safe fn fimbrast_version() -> u32;
     /// The same under a name that has the version. A program refers to it, so that an archive of another version does not link.
-    pub safe fn fimbrast_version_0_5_0() -> u32;
+    pub safe fn fimbrast_version_0_6_0() -> u32;
     /// `write_commands` opens: F0H, 7FH, the device, 06H.
     pub fn fimbrast_open_commands(out: *mut u8, out_length: usize, device_id: u8) -> Writer;
     /// `write_responses` opens: F0H, 7FH, the device, 07H.
@@ -786,6 +859,30 @@ pub fn next_word(body: &[u8], place: usize) -> NextWord {
 pub fn next_field(body: &[u8], place: usize) -> NextField {
     // SAFETY: each pointer and length are those of a live slice, and what is written is borrowed alone.
     unsafe { fimbrast_next_field(body.as_ptr(), body.len(), place) }
+}
+
+/// `TrackSet::read`: the set of data bytes as field 4FH has them. Missing bytes are zeros, and bit 7 of each is ignored. More than nine
+/// are 12.
+#[inline]
+pub fn track_set_read(data: &[u8]) -> TrackSetAnswer {
+    // SAFETY: each pointer and length are those of a live slice, and what is written is borrowed alone.
+    unsafe { fimbrast_track_set_read(data.as_ptr(), data.len()) }
+}
+
+/// `TrackSet::write`: the data bytes at the start of the buffer, without the zero bytes at their end, and how many they are: none of an empty
+/// set, and at most nine. A buffer that is too short is 4 with the needed length, and stays as found.
+#[inline]
+pub fn track_set_write(set: TrackSet, out: &mut [u8]) -> Written {
+    // SAFETY: each pointer and length are those of a live slice, and what is written is borrowed alone.
+    unsafe { fimbrast_track_set_write(set, out.as_mut_ptr(), out.len()) }
+}
+
+/// `InfoField::tracks`: the set of a field that is named by the one byte 4FH, as it was read from these bytes; 255 for any other field. The
+/// field itself stays another field. 12 for more than nine data bytes, 6 for a name or data that are no part of the bytes.
+#[inline]
+pub fn field_tracks(source: &[u8], field: Field) -> TrackSetAnswer {
+    // SAFETY: each pointer and length are those of a live slice, and what is written is borrowed alone.
+    unsafe { fimbrast_field_tracks(source.as_ptr(), source.len(), field) }
 }
 
 /// `write_commands` opens: F0H, 7FH, the device, 06H.

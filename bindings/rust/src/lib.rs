@@ -9,6 +9,7 @@
 //! - [`mmc`]: time code fields, commands and information fields, read and written.
 //! - [`universal`]: the refusals and the message writer.
 //! - [`transport`]: commands applied to a generator.
+//! - [`tracks`]: which tracks of a recorder are ready to record.
 //!
 //! # From a string to the reader
 //!
@@ -50,6 +51,7 @@ mod words;
 
 pub mod mmc;
 pub mod mtc;
+pub mod tracks;
 pub mod transport;
 pub mod universal;
 

@@ -14,6 +14,7 @@ use core::fmt;
 
 use crate::ffi;
 use crate::mtc::MtcTime;
+use crate::tracks::TrackSet;
 use crate::universal::{written, SysexError, Universal};
 use crate::words;
 
@@ -571,6 +572,26 @@ impl<'a> InfoField<'a> {
         }
     }
 
+    /// The set of a field that is named by the one byte 4FH, Track Record Ready; `None` for any other field. More than nine data bytes are
+    /// [`SysexError::Track`].
+    ///
+    /// ```
+    /// use fimbrast::mmc::InfoFields;
+    ///
+    /// let field = InfoFields::new(&[0x4F, 0x02, 0x20, 0x01]).next().unwrap()?;
+    /// let tracks = field.tracks().unwrap()?;
+    /// assert!(tracks.armed().eq([1, 3]));
+    /// # Ok::<(), fimbrast::universal::SysexError>(())
+    /// ```
+    pub fn tracks(&self) -> Option<Result<TrackSet, SysexError>> {
+        let Self::Other { name, data } = *self else {
+            return None;
+        };
+        let joined = Joined::new(name, data);
+        let view = ffi::field_tracks(&joined.bytes, joined.field());
+        (view.answer != ffi::NOT_THIS).then(|| TrackSet::answered(view))
+    }
+
     fn put(&self, writer: ffi::Writer, out: &mut [u8]) -> ffi::Writer {
         let none = ffi::Field::default();
         match *self {
@@ -594,16 +615,7 @@ impl<'a> InfoField<'a> {
             }
             Self::Other { name, data } => {
                 let joined = Joined::new(name, data);
-                let item = ffi::Field {
-                    kind: ffi::OTHER_FIELD,
-                    name: ffi::Part::whole(joined.name),
-                    data: ffi::Part {
-                        start: joined.name,
-                        length: joined.data,
-                    },
-                    ..none
-                };
-                ffi::put_field(writer, out, &joined.bytes, item)
+                ffi::put_field(writer, out, &joined.bytes, joined.field())
             }
         }
     }
@@ -614,8 +626,9 @@ const NAME: usize = 4;
 /// The bytes of data that are handed on.
 const DATA: usize = 128;
 
-/// A name and, from there on, data that lie apart, brought into one source, with both lengths. A name of 4 or more bytes is refused
-/// whatever they are, and so is data of 128 or more: bytes past these decide nothing and are left behind.
+/// A name and, from there on, data that lie apart, brought into one source, with both lengths. A writing refuses a name
+/// of 4 or more bytes whatever they are, and data of 128 or more, and a set of tracks needs a name of one byte and at most nine of data: bytes
+/// past these decide nothing and are left behind.
 struct Joined {
     bytes: [u8; NAME + DATA],
     name: usize,
@@ -628,6 +641,19 @@ impl Joined {
         let name = fill(&mut bytes, name, NAME);
         let data = fill(&mut bytes[name..], data, DATA);
         Self { bytes, name, data }
+    }
+
+    /// Another field, of these parts.
+    fn field(&self) -> ffi::Field {
+        ffi::Field {
+            kind: ffi::OTHER_FIELD,
+            name: ffi::Part::whole(self.name),
+            data: ffi::Part {
+                start: self.name,
+                length: self.data,
+            },
+            ..ffi::Field::default()
+        }
     }
 }
 

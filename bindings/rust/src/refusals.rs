@@ -33,6 +33,8 @@ pub enum SysexError {
     ItemLimit,
     /// 11: an index has no field under this name.
     NoField,
+    /// 12: more than nine bytes of tracks, a track outside 1 to 58, or no armed track to be the lowest.
+    Track,
     /// A number that this version of the crate has no name for.
     Unknown(u8),
 }
@@ -59,6 +61,7 @@ impl SysexError {
             Self::End => ffi::REFUSED_END,
             Self::ItemLimit => ffi::REFUSED_ITEM_LIMIT,
             Self::NoField => ffi::REFUSED_NO_FIELD,
+            Self::Track => ffi::REFUSED_TRACK,
             Self::Unknown(number) => number,
         }
     }
@@ -80,6 +83,7 @@ impl SysexError {
             ffi::REFUSED_END => Self::End,
             ffi::REFUSED_ITEM_LIMIT => Self::ItemLimit,
             ffi::REFUSED_NO_FIELD => Self::NoField,
+            ffi::REFUSED_TRACK => Self::Track,
             number => Self::Unknown(number),
         }
     }
@@ -104,6 +108,9 @@ impl fmt::Display for SysexError {
             Self::End => f.write_str("the reading place is at or past the end"),
             Self::ItemLimit => f.write_str("256 items were already accepted in this writing"),
             Self::NoField => f.write_str("an index has no field under this name"),
+            Self::Track => {
+                f.write_str("more than nine bytes of tracks, a track outside 1 to 58, or no armed track to be the lowest")
+            }
             Self::Unknown(number) => {
                 write!(f, "refusal {number}, which this crate has no name for")
             }

@@ -11,6 +11,7 @@ use std::vec::Vec;
 use crate::ffi;
 use crate::mmc::*;
 use crate::mtc::*;
+use crate::tracks::*;
 use crate::transport::*;
 use crate::universal::*;
 use crate::words;
@@ -726,6 +727,178 @@ fn fields_are_looked_up() {
     );
     assert_eq!(index.build(&[]), Ok(()));
     assert_eq!(index, InfoFieldIndex::new());
+}
+
+/// The data bytes that a set is written as.
+fn track_bytes(set: TrackSet) -> Vec<u8> {
+    let mut out = [0xAA; TrackSet::MAX_BYTES];
+    let length = set.write(&mut out).unwrap();
+    assert!(out[length..].iter().all(|&byte| byte == 0xAA));
+    out[..length].to_vec()
+}
+
+#[test]
+fn track_sets() {
+    // No data is an empty set, and writes none.
+    let empty = TrackSet::new();
+    assert_eq!(
+        (empty, TrackSet::default()),
+        (TrackSet::read(&[]).unwrap(), empty)
+    );
+    assert_eq!(
+        (empty.armed_count(), empty.lowest_armed()),
+        (0, Err(SysexError::Track))
+    );
+    assert_eq!((track_bytes(empty), empty.armed().next()), (vec![], None));
+    assert_eq!(TrackSet::read(&[0; 9]), Ok(empty));
+    assert_eq!(empty.write(&mut []), Ok(0));
+
+    // Each track is bit (n + 4) modulo 7 of byte (n + 4) divided by 7, and no other.
+    for track in 1..=58u8 {
+        let mut bytes = vec![0; usize::from((track + 4) / 7) + 1];
+        *bytes.last_mut().unwrap() = 1 << ((track + 4) % 7);
+        let set = TrackSet::read(&bytes).unwrap();
+        assert!(
+            set.armed().eq([track]) && set.has_position(track + 4),
+            "{track}"
+        );
+        assert_eq!((set.armed_count(), set.lowest_armed()), (1, Ok(track)));
+        assert!(
+            (1..=58).all(|n| set.is_armed(n) == Ok(n == track)),
+            "{track}"
+        );
+        let mut armed = TrackSet::new();
+        assert_eq!(armed.arm(track), Ok(()));
+        assert_eq!((armed, track_bytes(armed)), (set, bytes));
+        assert_eq!(armed.disarm(track), Ok(()));
+        assert_eq!(armed, empty);
+    }
+
+    // All, with bit 7 of each byte ignored; the lower five are no tracks, and are kept.
+    let mut all = TrackSet::read(&[0xFF; 9]).unwrap();
+    assert!(all.armed().eq(1..=58) && all.armed().len() == 58);
+    assert_eq!(track_bytes(all), [0x7F; 9]);
+    assert!((0..63).all(|p| all.has_position(p)) && (63..=255).all(|p| !all.has_position(p)));
+    for track in 1..=58 {
+        assert_eq!(all.disarm(track), Ok(()));
+    }
+    assert_eq!((track_bytes(all), all.armed_count()), (vec![0x1F], 0));
+    let lower = [
+        TrackSet::VIDEO,
+        TrackSet::RESERVED,
+        TrackSet::TIME_CODE,
+        TrackSet::AUX_A,
+        TrackSet::AUX_B,
+    ];
+    assert!(lower.iter().all(|&p| all.has_position(p)));
+
+    // A refused call changes nothing; more than nine bytes are refused, also zeros.
+    let before = TrackSet::read(&[0x64, 0, 0, 1]).unwrap();
+    let mut set = before;
+    for track in [0, 59, 60, 255] {
+        assert_eq!(set.arm(track), Err(SysexError::Track));
+        assert_eq!(set.disarm(track), Err(SysexError::Track));
+        assert_eq!(set.is_armed(track), Err(SysexError::Track));
+    }
+    assert_eq!(set, before);
+    assert_eq!(TrackSet::read(&[0; 10]), Err(SysexError::Track));
+
+    // Zero bytes in the middle are written; a short buffer stays as found.
+    assert_eq!(track_bytes(set), [0x64, 0, 0, 1]);
+    let mut short = [0xAA; 3];
+    assert_eq!(
+        set.write(&mut short),
+        Err(SysexError::BufferTooSmall { needed: 4 })
+    );
+    assert_eq!(short, [0xAA; 3]);
+
+    // Bit 63 of a record is no position, and no call gives a set that has it.
+    let high = ffi::TrackSet {
+        positions: 1 << 63 | 32,
+    };
+    let armed = ffi::fimbrast_track_set_arm(high, 2);
+    assert_eq!((armed.answer, armed.set.positions), (0, 96));
+    let refused = ffi::fimbrast_track_set_arm(high, 59);
+    assert_eq!((refused.answer, refused.set.positions), (12, 32));
+    assert_eq!(ffi::fimbrast_track_set_armed_count(high), 1);
+    assert_eq!(
+        format!("{:?}", TrackSet::read(&[0x64]).unwrap()),
+        "TrackSet { positions: 0x64 }"
+    );
+}
+
+#[test]
+fn fields_show_their_tracks() {
+    let field = |name, data| InfoField::Other { name, data };
+    let tracks = |name, data| {
+        field(name, data)
+            .tracks()
+            .map(|view| view.map(|set| set.armed().collect::<Vec<_>>()))
+    };
+    assert_eq!(
+        tracks(&[TRACK_RECORD_READY], &[0x64, 0, 0, 1]),
+        Some(Ok(vec![1, 2, 17]))
+    );
+    assert_eq!(tracks(&[0x4F], &[]), Some(Ok(vec![])));
+    assert_eq!(tracks(&[0x4F], &[0; 10]), Some(Err(SysexError::Track)));
+    assert_eq!(tracks(&[0x4F], &[0; 200]), Some(Err(SysexError::Track)));
+    for name in [
+        &[0, 0x4F][..],
+        &[0, 0, 0x4F],
+        &[0x4F, 0x4F],
+        &[0x4E],
+        &[0xCF],
+        &[],
+    ] {
+        assert_eq!(tracks(name, &[0x20]), None, "{name:02X?}");
+    }
+    assert_eq!(one_field(&[0x08, 0x21, 0, 0, 0, 0]).unwrap().tracks(), None);
+    assert_eq!(one_field(&[0x2F, 0x05, 0]).unwrap().tracks(), None);
+
+    // In a Write's data, after a field of its own; the field itself stays as it is read.
+    let mut fields = InfoFields::new(&[0x08, 0x21, 0, 0, 0, 0, 0x4F, 2, 0x20, 0x01]);
+    assert_eq!(fields.next().unwrap().unwrap().tracks(), None);
+    let ready = fields.next().unwrap().unwrap();
+    assert_eq!(ready, field(&[0x4F], &[0x20, 0x01]));
+    assert!(ready.tracks().unwrap().unwrap().armed().eq([1, 3]));
+
+    // A whole Write, written and read back: the field shows the set that was armed.
+    let mut set = TrackSet::read(&[0x04]).unwrap();
+    for track in [17, 1, 2] {
+        assert_eq!(set.arm(track), Ok(()));
+    }
+    let bytes = track_bytes(set);
+    let mut list = [0; 16];
+    let length = write_info_fields(&mut list, &[field(&[TRACK_RECORD_READY], &bytes)]).unwrap();
+    let mut out = [0; 32];
+    let write = MmcCommand::Write(InfoFields::new(&list[..length]));
+    let length = write_commands(&mut out, 1, &[write]).unwrap();
+    assert_eq!(
+        out[..length],
+        [0xF0, 0x7F, 1, 6, 0x40, 6, 0x4F, 4, 0x64, 0, 0, 1, 0xF7]
+    );
+    let Some(Ok(MmcCommand::Write(mut fields))) = commands(&out[4..length - 1]).next() else {
+        panic!("no Write");
+    };
+    assert_eq!(fields.next().unwrap().unwrap().tracks(), Some(Ok(set)));
+
+    // By the record, as C asks: 255 for another field, 6 for data that are no part of the bytes.
+    let mut record = ffi::next_field(&[0x4F, 1, 0x20], 0).field;
+    assert_eq!(
+        ffi::field_tracks(&[0x4F, 1, 0x20], record).set.positions,
+        32
+    );
+    record.data.length = 2;
+    let outside = ffi::field_tracks(&[0x4F, 1, 0x20], record);
+    assert_eq!((outside.answer, outside.set.positions), (6, 0));
+    record.data.length = 1;
+    record.name.start = 3;
+    assert_eq!(ffi::field_tracks(&[0x4F, 1, 0x20], record).answer, 6);
+    record.name.start = 0;
+    assert_eq!(
+        ffi::field_tracks(&[0x4E, 1, 0x20], record).answer,
+        ffi::NOT_THIS
+    );
 }
 
 #[test]

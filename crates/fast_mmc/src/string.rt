@@ -189,6 +189,8 @@ pub fn flat_command_answer(answer: Result<MmcCommand, SysexError>, place: usize)
 impl From<FlatField> for InfoField {
     ghost from_gives = { λ f r. r ≡ field_of f };
 
+    // Two exported calls have it: as a call of its own it would cost a writing of three fields 48 instructions.
+    #[inline(always)]
     #[tactic(auto, unfolding(crate::specs::String::field_of))]
     fn from(f: FlatField) -> InfoField {
         match f.kind {

@@ -11,5 +11,6 @@ pub mod obey;
 pub mod reader;
 pub mod string;
 pub mod time;
+pub mod track_set;
 pub mod version;
 pub mod write;

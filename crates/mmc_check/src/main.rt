@@ -9,6 +9,7 @@ mod input;
 mod message;
 mod names;
 mod options;
+mod ready;
 mod refusals;
 mod say;
 mod stream;

@@ -1,4 +1,4 @@
-// The names that the Machine Control practice gives to commands and time code fields (RP-013), known to the library or not.
+// The names that the Machine Control practice gives to commands and fields (RP-013), known to the library or not.
 use crate::say::Byte;
 use std::fmt;
 use std::fmt::Display;
@@ -47,8 +47,8 @@ pub(crate) fn command_name(name: u8) -> &'static str {
     }
 }
 
-// A time code field in brackets; nothing for another field.
-fn time_field(name: u8) -> &'static str {
+// A field's name in brackets; nothing for one that has none here.
+fn field_name(name: u8) -> &'static str {
     match name {
         0x01 => " (Selected Time Code)",
         0x02 => " (Selected Master Code)",
@@ -65,6 +65,7 @@ fn time_field(name: u8) -> &'static str {
         0x0D => " (GP5)",
         0x0E => " (GP6)",
         0x0F => " (GP7)",
+        0x4F => " (Track Record Ready)",
         _ => "",
     }
 }
@@ -75,6 +76,6 @@ pub(crate) struct FieldName(pub(crate) u8);
 
 impl Display for FieldName {
     fn fmt<W: fmt::Write>(&self, f: &mut fmt::Formatter<W>) -> fmt::Result {
-        write!(f, "field {}{}", Byte(self.0), time_field(self.0))
+        write!(f, "field {}{}", Byte(self.0), field_name(self.0))
     }
 }

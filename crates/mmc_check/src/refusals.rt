@@ -16,6 +16,7 @@ fn words(error: SysexError) -> &'static str {
         SysexError::End => "the string has ended",
         SysexError::ItemLimit => "more than 256 items",
         SysexError::NoField => "no field under this name",
+        SysexError::Track => "more than nine bytes of tracks",
     }
 }
 

@@ -28,6 +28,8 @@ pub enum SysexError {
     ItemLimit,
     // 11: an index has no field under this name.
     NoField,
+    // 12: more than nine bytes of tracks, a track outside 1 to 58, or no armed track to be the lowest.
+    Track,
 }
 
 // Numbers and back are functions, and no `From`: refusal 4 has two numbers, and every number has a refusal.
@@ -48,6 +50,7 @@ impl SysexError {
             SysexError::End => 9,
             SysexError::ItemLimit => 10,
             SysexError::NoField => 11,
+            SysexError::Track => 12,
         }
     }
 
@@ -90,6 +93,7 @@ impl SysexError {
     {
         match number {
             11 => SysexError::NoField,
+            12 => SysexError::Track,
             _ => SysexError::ItemLimit,
         }
     }

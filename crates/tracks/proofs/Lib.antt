@@ -1,0 +1,7 @@
+mod Numbers
+mod Armed
+mod Bytes
+mod EndZeros
+pub mod Instances
+pub mod Laws
+mod Positions

@@ -1,0 +1,2 @@
+pub mod Rp013Tracks
+pub mod Tracks
