@@ -1,14 +1,15 @@
 //! The calls that are measured. None is inlined, and each does one operation of the crate `lib`. The published Rust and the
-//! Rust crate have the same names and signatures, so this file is built once over each.
+//! Rust crate have the same names and signatures but for what a byte is answered, so this file is built once over each.
 
 use std::hint::black_box;
 
 use super::lib::mmc::{write_commands, write_responses, InfoField, MmcCommand, MmcMessage};
-use super::lib::mtc::{FullMessage, MtcEvent, MtcGenerator, MtcReader, MtcTime, TimeCodeType};
+use super::lib::mtc::{FullMessage, MtcGenerator, MtcReader, MtcTime, TimeCodeType};
 use super::lib::universal::{SysexError, Universal};
+use super::{event_in, Received};
 
 #[inline(never)]
-pub fn receive(reader: &mut MtcReader, byte: u8) -> MtcEvent {
+pub fn receive(reader: &mut MtcReader, byte: u8) -> Received {
     reader.receive(byte)
 }
 
@@ -89,8 +90,8 @@ pub fn read(message: &Universal<'_>) -> usize {
 pub fn receive_all(reader: &mut MtcReader, bytes: &[u8]) -> usize {
     let mut reports = 0;
     for byte in bytes {
-        let event = reader.receive(*byte);
-        reports += usize::from(event.sequence.is_some());
+        let event = event_in(reader.receive(*byte));
+        reports += usize::from(event.is_some_and(|event| event.sequence.is_some()));
     }
     reports
 }

@@ -7,7 +7,7 @@ use super::lib::mmc::{
 };
 use super::lib::mtc::{Direction, FullMessage, MtcGenerator, MtcReader, MtcTime, TimeCodeType};
 use super::lib::universal::Universal;
-use super::{boundary, Lookup};
+use super::{boundary, event_in, Lookup};
 use crate::case::Case;
 use crate::inputs::{
     self, BODIES, BODY, DROP_FRAME, FPS_24, FPS_25, GP0, LAST_NAME, LIST, LOCATE_PLAY, OTHER,
@@ -97,8 +97,10 @@ fn receive(name: &'static str, bytes: Vec<u8>) -> Case {
     let mut reader = MtcReader::new();
     Case::new(name, move |turn| {
         let byte = black_box(bytes[turn % ROUND]);
-        let event = black_box(boundary::receive(black_box(&mut reader), byte));
-        u64::from(event.piece) + event.sequence.map_or(0, |s| number(s.current))
+        let event = event_in(black_box(boundary::receive(black_box(&mut reader), byte)));
+        event.map_or(0, |e| {
+            u64::from(e.piece) + e.sequence.map_or(0, |s| number(s.current))
+        })
     })
 }
 

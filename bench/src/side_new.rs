@@ -10,6 +10,17 @@ pub mod cases;
 pub use boundary_index::{build_index, look_up, Lookup};
 pub use boundary_list::receive_list;
 
+use lib::mtc::MtcEvent;
+use lib::universal::SysexError;
+
+/// What a byte is answered: its event, or a refusal.
+pub type Received = Result<MtcEvent, SysexError>;
+
+/// The event in it.
+pub fn event_in(received: Received) -> Option<MtcEvent> {
+    received.ok()
+}
+
 mod boundary_list {
     use super::lib::mtc::MtcReader;
 

@@ -12,6 +12,16 @@ pub use boundary::receive_all as receive_list;
 
 pub use boundary_index::{build_index, look_up, Lookup};
 
+use lib::mtc::MtcEvent;
+
+/// What a byte is answered: its event.
+pub type Received = MtcEvent;
+
+/// The event in it.
+pub fn event_in(received: Received) -> Option<MtcEvent> {
+    Some(received)
+}
+
 mod boundary_index {
     use std::hint::black_box;
 

@@ -157,6 +157,18 @@ int main(void)
             printf("%s\n", sequence.discontinuity ? " discontinuity" : "");
         }
     }
+    /* A status byte among the quarter frames is refused, and leaves the reader as it was. */
+    const fimbrast_event slipped = fimbrast_receive(&reader, 0xF6);
+    printf("F6H: refused by %u, %s\n", (unsigned)FIMBRAST_EVENT_REFUSAL(slipped), fimbrast_is_locked(reader) ? "still locked" : "not locked");
+    printf("its report %u, its piece %u\n", (unsigned)FIMBRAST_EVENT_REPORT(slipped), (unsigned)FIMBRAST_EVENT_PIECE(slipped));
+    const uint8_t mixed[] = {0x06, 0xF8, 0x11, 0x24, 0xC0};
+    printf("of five bytes %zu are refused\n", fimbrast_feed(&reader, mixed, sizeof mixed).refused);
+    (void)fimbrast_receive(&reader, 0x33);
+    const fimbrast_event heard = fimbrast_receive(&reader, 0x45);
+    printf("45H: piece %u, boundary %u, report %u, refused by %u\n", (unsigned)FIMBRAST_EVENT_PIECE(heard), (unsigned)FIMBRAST_EVENT_BOUNDARY(heard),
+           (unsigned)FIMBRAST_EVENT_REPORT(heard), (unsigned)FIMBRAST_EVENT_REFUSAL(heard));
+    printf("F6H is no quarter frame: %u\n", (unsigned)fimbrast_quarter_frame_read(0xF6).refusal);
+
     look_up();
     disarm();
     return 0;

@@ -29,8 +29,8 @@
 extern "C" {
 #endif
 
-#define FIMBRAST_VERSION 600
-#define FIMBRAST_VERSION_STRING "0.6.0"
+#define FIMBRAST_VERSION 700
+#define FIMBRAST_VERSION_STRING "0.7.0"
 
 /* The refusals by their numbers. 0 is none; with 4 the needed length is given. A later version may have more. */
 enum {
@@ -46,6 +46,7 @@ enum {
     FIMBRAST_REFUSED_ITEM_LIMIT = 10,        /* 256 items were already accepted in this writing */
     FIMBRAST_REFUSED_NO_FIELD = 11,          /* an index has no field under this name */
     FIMBRAST_REFUSED_TRACK = 12,             /* more than nine bytes of tracks, a track outside 1 to 58, or no armed track to be the lowest */
+    FIMBRAST_REFUSED_STATUS_BYTE = 13,       /* a quarter frame's byte of 80H or more, which is a status byte */
 };
 
 /* An answer that is no refusal: the message is of another kind, or for another device, or the field has no set of tracks. */
@@ -60,7 +61,7 @@ enum {
 /* The version as one number: 10,000 for each whole version, 100 for each minor one, and the patch. */
 uint32_t fimbrast_version(void);
 /* The same under a name that has the version. A program refers to it, so that an archive of another version does not link. */
-uint32_t fimbrast_version_0_6_0(void);
+uint32_t fimbrast_version_0_7_0(void);
 
 /* The archive must be of this version: where it is not, the linker misses this call. `retain` keeps it where the linker drops unused sections. */
 #if defined(__has_attribute)
@@ -68,7 +69,7 @@ uint32_t fimbrast_version_0_6_0(void);
 __attribute__((retain))
 #endif
 #endif
-__attribute__((used)) static uint32_t (*const fimbrast_needed_version)(void) = fimbrast_version_0_6_0;
+__attribute__((used)) static uint32_t (*const fimbrast_needed_version)(void) = fimbrast_version_0_7_0;
 
 /* ---- Labels, and the quarter frames of a label */
 
@@ -86,6 +87,12 @@ typedef struct {
     uint8_t piece;
     uint8_t value;
 } fimbrast_quarter_frame;
+
+/* What a byte is read as: refusal 0 and a quarter frame, or a refusal and zeros. */
+typedef struct {
+    uint8_t refusal;
+    fimbrast_quarter_frame frame;
+} fimbrast_read_frame;
 
 /* The data bytes of pieces 0 to 7. */
 typedef struct {
@@ -106,8 +113,8 @@ uint32_t fimbrast_to_frame_count(const fimbrast_time *time);
 fimbrast_time fimbrast_from_frame_count(uint32_t count, uint8_t rate);
 /* `MtcTime::add_frames`: the label so many frames later, or earlier, round midnight. */
 fimbrast_time fimbrast_add_frames(fimbrast_time time, int32_t delta);
-/* `QuarterFrame::from_byte`: the piece and value of a data byte. */
-fimbrast_quarter_frame fimbrast_quarter_frame_read(uint8_t byte);
+/* `QuarterFrame::from_byte`: the piece and value of a data byte, or refusal 13 and zeros for a byte of 80H or more. */
+fimbrast_read_frame fimbrast_quarter_frame_read(uint8_t byte);
 /* `QuarterFrame::to_byte`: the data byte of a piece and value. */
 uint8_t fimbrast_quarter_frame_byte(fimbrast_quarter_frame frame);
 /* `QuarterFrame::pieces`: the data bytes of pieces 0 to 7. */
@@ -154,8 +161,8 @@ typedef struct {
     uint32_t words[15];
 } fimbrast_reader;
 
-/* What a data byte gives, as one number, which comes back in a register: the piece in the lowest byte, the boundary in bit 8, and from
- * bit 9 on the report of the sequence that it ends. */
+/* What a byte gives, as one number, which comes back in a register: the piece in the lowest byte, the boundary in bit 8, and from bit 9
+ * on the report of the sequence that it ends. The highest byte is the refusal, 0 for none; a refused byte gives nothing else. */
 typedef uint64_t fimbrast_event;
 
 /* A time, where `present` is true. Where it is false the time is all zeros in an answer, and is not read in an argument. */
@@ -199,7 +206,7 @@ typedef struct {
 
 /* `MtcReader::new`: not locked, and stopped. */
 fimbrast_reader fimbrast_reader_new(void);
-/* `MtcReader::receive`: takes one data byte. */
+/* `MtcReader::receive`: takes one byte. One of 80H or more is refused by 13, in the number's highest byte, and leaves the reader as it was. */
 fimbrast_event fimbrast_receive(fimbrast_reader *reader, uint8_t byte);
 /* `MtcReader::full_message`, with the message's time: the reader is then stopped at it. */
 void fimbrast_reader_full_message(fimbrast_reader *reader, fimbrast_time time);
@@ -217,22 +224,24 @@ fimbrast_reader_fields fimbrast_reader_parts(fimbrast_reader reader);
  * number's lowest bit is 0. */
 fimbrast_maybe_sequence fimbrast_report_parts(fimbrast_reader reader, fimbrast_report report);
 
-/* The parts of an event's number. */
+/* The parts of an event's number. Of a refused byte the refusal is 13 and all else 0: ask for the refusal before the piece. */
 #define FIMBRAST_EVENT_PIECE(event) ((uint8_t)((event) & 0xFF))
 #define FIMBRAST_EVENT_BOUNDARY(event) (((event) & 0x100) != 0)
-#define FIMBRAST_EVENT_REPORT(event) ((event) >> 9)
+#define FIMBRAST_EVENT_REPORT(event) (((event) & 0xFFFFFFFFFFFFFF) >> 9)
+#define FIMBRAST_EVENT_REFUSAL(event) ((uint8_t)((event) >> 56))
 
-/* ---- A list of quarter frames given to a reader */
+/* ---- A list of bytes given to a reader */
 
-/* Of a list of data bytes: how many sequences it reported, how many of those with a discontinuity, and the last report, whose labels
- * stand in the reader. */
+/* Of a list of bytes: how many sequences it reported, how many of those with a discontinuity, the last report, whose labels stand in the
+ * reader, and how many bytes were refused. */
 typedef struct {
     size_t reports;
     size_t discontinuities;
     fimbrast_report last;
+    size_t refused;
 } fimbrast_fed;
 
-/* `MtcReader::receive` for each of the bytes, which must not overlap the reader. */
+/* `MtcReader::receive` for each of the bytes, which must not overlap the reader. A refused byte is counted, and the others are received. */
 fimbrast_fed fimbrast_feed(fimbrast_reader *reader, const uint8_t *bytes, size_t bytes_length);
 
 /* ---- Universal messages, full messages, user bits, and machine control messages, by their split parts */

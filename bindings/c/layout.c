@@ -79,6 +79,7 @@ int main(void)
     PLACE(fed, reports);
     PLACE(fed, discontinuities);
     PLACE(fed, last);
+    PLACE(fed, refused);
     END;
     SIZE(reader);
     PLACE(reader, words);
@@ -183,6 +184,10 @@ int main(void)
     SIZE(quarter_frame);
     PLACE(quarter_frame, piece);
     PLACE(quarter_frame, value);
+    END;
+    SIZE(read_frame);
+    PLACE(read_frame, refusal);
+    PLACE(read_frame, frame);
     END;
     SIZE(eight_bytes);
     PLACE(eight_bytes, bytes);

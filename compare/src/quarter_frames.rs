@@ -1,8 +1,12 @@
-//! Quarter frames: every byte, every piece and value, the pieces of labels.
+//! Quarter frames: every byte, every piece and value, the pieces of labels. Bytes of 80H or more are refused by the library alone.
 
 use crate::plain::label;
 use crate::report::{Group, Report};
 use crate::rng::Rng;
+use crate::side_new;
+
+/// The refusal of a byte of 80H or more.
+pub const STATUS_BYTE: u8 = 13;
 
 /// The group that needs no seed.
 pub fn all(report: &mut Report) {
@@ -16,15 +20,23 @@ pub fn random(report: &mut Report, seed: u64) {
 
 fn every(g: &mut Group) {
     for byte in 0..=255 {
-        g.check_hex(both!(quarter::from_byte(byte)), || {
-            format!("from_byte({byte:02X})")
-        });
+        from_byte(g, byte);
         for value in 0..=255 {
             g.check_hex(both!(quarter::to_byte(byte, value)), || {
                 format!("to_byte of piece {byte} value {value}")
             });
         }
     }
+}
+
+/// The published Rust reads a byte of 80H or more without bit 7; the library refuses it by 13.
+fn from_byte(g: &mut Group, byte: u8) {
+    let text = || format!("from_byte({byte:02X})");
+    if byte < 0x80 {
+        return g.check_hex(both!(quarter::from_byte(byte)), text);
+    }
+    let refusal = side_new::quarter_frame(byte).err();
+    g.check((Some(STATUS_BYTE), refusal), text);
 }
 
 fn pieces(g: &mut Group, seed: u64) {

@@ -1,7 +1,9 @@
 //! The reader: every byte in every state that short lists of calls reach, and long lists. The whole
-//! record is compared after each call.
+//! record is compared after each call. A byte of 80H or more goes to the library alone, which must refuse it by 13 and keep its
+//! record.
 
 use crate::plain::{hex, label, Time};
+use crate::quarter_frames::STATUS_BYTE;
 use crate::report::{Group, Report};
 use crate::rng::Rng;
 use crate::side_new::calls::reader::Reader as NewReader;
@@ -46,6 +48,10 @@ impl Pair {
 
     /// Makes the call on both and compares answer, record and what can be asked.
     fn step(&mut self, g: &mut Group, call: Call, past: impl FnOnce() -> String) -> Event {
+        if let Call::Byte(byte @ 0x80..) = call {
+            self.refuse(g, byte, past);
+            return [0; 15];
+        }
         let before = self.old;
         let events = self.make(call);
         collect(&self.old, &mut self.streams.0);
@@ -60,6 +66,14 @@ impl Pair {
             )
         });
         events.0
+    }
+
+    /// Gives the library a byte that the published Rust is not given: both have the record of before.
+    fn refuse(&mut self, g: &mut Group, byte: u8, past: impl FnOnce() -> String) {
+        let before = self.new;
+        let refusal = crate::side_new::received(&mut self.new, byte).err();
+        let answers = ((Some(STATUS_BYTE), before), (refusal, self.new));
+        g.check(answers, || format!("{byte:02X}, refused, after {}", past()));
     }
 
     fn make(&mut self, call: Call) -> (Event, Event) {
@@ -95,14 +109,15 @@ pub fn random(report: &mut Report, seed: u64) {
     report.group("reader: feed against a loop of receive", |g| feed(g, seed));
 }
 
-/// Calls that reach the near states: every piece with two values, bit 7, two full messages.
+/// Calls that reach the near states: every piece with two values, four bytes more, two full messages. No status byte leads to
+/// another state.
 fn alphabet() -> Vec<Call> {
     let mut out = Vec::new();
     for piece in 0..8u8 {
         out.push(Call::Byte(piece << 4));
         out.push(Call::Byte(piece << 4 | 0x0F));
     }
-    for byte in [0x61, 0x76, 0x80, 0x91, 0xE2, 0xF6] {
+    for byte in [0x11, 0x61, 0x62, 0x76] {
         out.push(Call::Byte(byte));
     }
     out.push(Call::Full([1, 0, 0, 0, 1]));
@@ -206,6 +221,7 @@ struct Counts {
     discontinuities: u64,
     turns: u64,
     full: u64,
+    refused: u64,
 }
 
 /// A stream that goes on, jumps, turns, stumbles and is interrupted; the next call in it.
@@ -213,6 +229,8 @@ struct Stream {
     rng: Rng,
     source: crate::side_old::calls::generator::Generator,
     last: u8,
+    /// The data byte that a status byte came before.
+    held: Option<u8>,
 }
 
 impl Stream {
@@ -223,10 +241,14 @@ impl Stream {
             rng,
             source,
             last: 0,
+            held: None,
         }
     }
 
     fn next(&mut self) -> Call {
+        if let Some(byte) = self.held.take() {
+            return Call::Byte(byte);
+        }
         match self.rng.below(400) {
             0 => return Call::Full(self.rng.any_label()),
             1..=3 => generator::set_direction(&mut self.source, self.rng.bool()),
@@ -238,8 +260,11 @@ impl Stream {
             _ => {}
         }
         self.last = generator::next_byte(&mut self.source)[1];
-        let bit7 = self.rng.one_in(16) as u8;
-        Call::Byte(self.last | bit7 << 7)
+        if self.rng.one_in(16) {
+            self.held = Some(self.last);
+            return Call::Byte(self.rng.byte() | 0x80);
+        }
+        Call::Byte(self.last)
     }
 }
 
@@ -264,20 +289,27 @@ fn long_lists(g: &mut Group, seed: u64) {
             counts.discontinuities += event[14] as u64;
             counts.turns += (before.is_some() && before != pair.old.direction()) as u64;
             counts.full += matches!(call, Call::Full(_)) as u64;
+            counts.refused += matches!(call, Call::Byte(0x80..)) as u64;
         }
     }
     g.tally("reports", counts.reports);
     g.tally("discontinuities", counts.discontinuities);
     g.tally("turns", counts.turns);
     g.tally("full messages", counts.full);
+    g.tally("refused", counts.refused);
 }
 
-/// What a list of bytes left: the reports, the discontinuities, the last report.
-type Fed = (u64, u64, Option<[u8; 12]>);
+/// What a list of bytes left: the reports, the discontinuities, the last report, the refused bytes.
+type Fed = (u64, u64, Option<[u8; 12]>, u64);
 
+/// The published Rust gets the bytes below 80H alone.
 fn fed_by_loop(r: &mut OldReader, bytes: &[u8]) -> Fed {
-    let mut out = (0, 0, None);
+    let mut out = (0, 0, None, 0);
     for &byte in bytes {
+        if byte >= 0x80 {
+            out.3 += 1;
+            continue;
+        }
         let event = crate::side_old::calls::reader::receive(r, byte);
         if event[2] == 1 {
             out.0 += 1;

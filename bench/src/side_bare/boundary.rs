@@ -23,7 +23,7 @@ use fimbrast::ffi::{COMMANDS, REFUSED_END, RESPONSES};
 
 /// The lowest byte of `next_word`'s number at the end.
 const END: u8 = 128 + REFUSED_END;
-/// An event's number from here on has a report.
+/// An event's number from here on has a report, or is a refusal, which no measured byte gets.
 pub const REPORT: u64 = 512;
 
 #[inline(never)]

@@ -58,10 +58,11 @@ __attribute__((used)) static uint32_t (*const fimbrast_needed_version)(void) = @
 
 @module reader
 
-/* The parts of an event's number. */
+/* The parts of an event's number. Of a refused byte the refusal is 13 and all else 0: ask for the refusal before the piece. */
 #define FIMBRAST_EVENT_PIECE(event) ((uint8_t)((event) & 0xFF))
 #define FIMBRAST_EVENT_BOUNDARY(event) (((event) & 0x100) != 0)
-#define FIMBRAST_EVENT_REPORT(event) ((event) >> 9)
+#define FIMBRAST_EVENT_REPORT(event) (((event) & 0xFFFFFFFFFFFFFF) >> 9)
+#define FIMBRAST_EVENT_REFUSAL(event) ((uint8_t)((event) >> 56))
 
 @module feed
 

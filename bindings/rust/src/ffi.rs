@@ -10,11 +10,11 @@ use core::mem::{offset_of, size_of};
 use crate::mtc::MtcTime;
 
 /// The version of the library that this is made for.
-pub const VERSION: u32 = 600;
+pub const VERSION: u32 = 700;
 
 /// The archive must be of this version: where it is not, the linker misses this call.
 #[used]
-static NEEDED_VERSION: extern "C" fn() -> u32 = fimbrast_version_0_6_0;
+static NEEDED_VERSION: extern "C" fn() -> u32 = fimbrast_version_0_7_0;
 
 pub const NOT_THIS: u8 = 255;
 pub const NONE: u8 = 255;
@@ -71,8 +71,10 @@ pub const REFUSED_ITEM_LIMIT: u8 = 10;
 pub const REFUSED_NO_FIELD: u8 = 11;
 /// 12: more than nine bytes of tracks, a track outside 1 to 58, or no armed track to be the lowest.
 pub const REFUSED_TRACK: u8 = 12;
+/// 13: a quarter frame's byte of 80H or more, which is a status byte.
+pub const REFUSED_STATUS_BYTE: u8 = 13;
 /// The number of every refusal.
-pub const REFUSALS: [u8; 12] = [1, 2, 3, 4, 5, 6, 7, 8, 9, 10, 11, 12];
+pub const REFUSALS: [u8; 13] = [1, 2, 3, 4, 5, 6, 7, 8, 9, 10, 11, 12, 13];
 
 /// A label. Rates: 0 is 24, 1 is 25, 2 is 30 drop-frame, 3 is 30 frames per second. Only the two low bits of a rate are read.
 #[derive(Debug, Clone, Copy, PartialEq, Eq, Default)]
@@ -190,14 +192,15 @@ pub struct ShortCodeBytes {
 /// `fimbrast_report_parts` takes both together.
 pub type Report = u64;
 
-/// Of a list of data bytes: how many sequences it reported, how many of those with a discontinuity, and the last report, whose labels
-/// stand in the reader.
+/// Of a list of bytes: how many sequences it reported, how many of those with a discontinuity, the last report, whose labels stand in the
+/// reader, and how many bytes were refused.
 #[derive(Debug, Clone, Copy, PartialEq, Eq, Default)]
 #[repr(C)]
 pub struct Fed {
     pub reports: usize,
     pub discontinuities: usize,
     pub last: Report,
+    pub refused: usize,
 }
 
 /// A reader in fifteen words: eight nibbles, the order, the first piece, the lock, and a mark and a word each for the previous and the
@@ -305,8 +308,8 @@ pub struct Run {
     pub stop: u8,
 }
 
-/// What a data byte gives, as one number, which comes back in a register: the piece in the lowest byte, the boundary in bit 8, and from
-/// bit 9 on the report of the sequence that it ends.
+/// What a byte gives, as one number, which comes back in a register: the piece in the lowest byte, the boundary in bit 8, and from bit 9
+/// on the report of the sequence that it ends. The highest byte is the refusal, 0 for none; a refused byte gives nothing else.
 pub type Event = u64;
 
 /// A time, where `present` is true. Where it is false the time is all zeros in an answer, and is not read in an argument.
@@ -409,6 +412,14 @@ pub struct QuarterFrame {
     pub value: u8,
 }
 
+/// What a byte is read as: refusal 0 and a quarter frame, or a refusal and zeros.
+#[derive(Debug, Clone, Copy, PartialEq, Eq, Default)]
+#[repr(C)]
+pub struct ReadFrame {
+    pub refusal: u8,
+    pub frame: QuarterFrame,
+}
+
 /// The data bytes of pieces 0 to 7.
 #[derive(Debug, Clone, Copy, PartialEq, Eq, Default)]
 #[repr(C)]
@@ -460,7 +471,7 @@ pub(crate) type Layout = (&'static str, usize, &'static [(&'static str, usize)])
 /// Where the fields lie, to be held against `layout.out`.
 #[cfg(test)]
 #[rustfmt::skip]
-pub(crate) const LAYOUT: [Layout; 39] = [
+pub(crate) const LAYOUT: [Layout; 40] = [
     ("time", size_of::<Time>(), &[("hours", offset_of!(Time, hours)), ("minutes", offset_of!(Time, minutes)), ("seconds", offset_of!(Time, seconds)), ("frames", offset_of!(Time, frames)), ("rate", offset_of!(Time, rate))]),
     ("generator", size_of::<Generator>(), &[("time", offset_of!(Generator, time)), ("direction", offset_of!(Generator, direction)), ("last", offset_of!(Generator, last)), ("running", offset_of!(Generator, running))]),
     ("code", size_of::<Code>(), &[("time", offset_of!(Code, time)), ("color_frame", offset_of!(Code, color_frame)), ("blank", offset_of!(Code, blank)), ("negative", offset_of!(Code, negative)), ("status", offset_of!(Code, status)), ("last", offset_of!(Code, last))]),
@@ -473,7 +484,7 @@ pub(crate) const LAYOUT: [Layout; 39] = [
     ("two_bytes", size_of::<TwoBytes>(), &[("bytes", offset_of!(TwoBytes, bytes))]),
     ("short_code", size_of::<ShortCode>(), &[("frames", offset_of!(ShortCode, frames)), ("negative", offset_of!(ShortCode, negative)), ("status", offset_of!(ShortCode, status)), ("last", offset_of!(ShortCode, last))]),
     ("short_code_bytes", size_of::<ShortCodeBytes>(), &[("refusal", offset_of!(ShortCodeBytes, refusal)), ("code", offset_of!(ShortCodeBytes, code))]),
-    ("fed", size_of::<Fed>(), &[("reports", offset_of!(Fed, reports)), ("discontinuities", offset_of!(Fed, discontinuities)), ("last", offset_of!(Fed, last))]),
+    ("fed", size_of::<Fed>(), &[("reports", offset_of!(Fed, reports)), ("discontinuities", offset_of!(Fed, discontinuities)), ("last", offset_of!(Fed, last)), ("refused", offset_of!(Fed, refused))]),
     ("reader", size_of::<Reader>(), &[("words", offset_of!(Reader, words))]),
     ("next", size_of::<Next>(), &[("refusal", offset_of!(Next, refusal)), ("byte", offset_of!(Next, byte))]),
     ("field_index", size_of::<FieldIndex>(), &[("cells", offset_of!(FieldIndex, cells))]),
@@ -495,6 +506,7 @@ pub(crate) const LAYOUT: [Layout; 39] = [
     ("field", size_of::<Field>(), &[("kind", offset_of!(Field, kind)), ("field", offset_of!(Field, field)), ("code", offset_of!(Field, code)), ("short_code", offset_of!(Field, short_code)), ("name", offset_of!(Field, name)), ("data", offset_of!(Field, data))]),
     ("next_field_answer", size_of::<NextField>(), &[("refusal", offset_of!(NextField, refusal)), ("field", offset_of!(NextField, field)), ("place", offset_of!(NextField, place))]),
     ("quarter_frame", size_of::<QuarterFrame>(), &[("piece", offset_of!(QuarterFrame, piece)), ("value", offset_of!(QuarterFrame, value))]),
+    ("read_frame", size_of::<ReadFrame>(), &[("refusal", offset_of!(ReadFrame, refusal)), ("frame", offset_of!(ReadFrame, frame))]),
     ("eight_bytes", size_of::<EightBytes>(), &[("bytes", offset_of!(EightBytes, bytes))]),
     ("track_set", size_of::<TrackSet>(), &[("positions", offset_of!(TrackSet, positions))]),
     ("track_set_answer", size_of::<TrackSetAnswer>(), &[("answer", offset_of!(TrackSetAnswer, answer)), ("set", offset_of!(TrackSetAnswer, set))]),
@@ -535,7 +547,7 @@ unsafe extern "C" {
     pub safe fn fimbrast_to_subframes_form(code: Code) -> Code;
     /// `StandardTimeCode::to_status_form`: subframes become a status with this video field, marked as no time code.
     pub safe fn fimbrast_to_status_form(code: Code, video_field1: bool) -> Code;
-    /// `MtcReader::receive` for each of the bytes, which must not overlap the reader.
+    /// `MtcReader::receive` for each of the bytes, which must not overlap the reader. A refused byte is counted, and the others are received.
     pub fn fimbrast_feed(reader: &mut Reader, bytes: *const u8, bytes_length: usize) -> Fed;
     /// `MtcGenerator::new`, forward: a running generator, whose first sequence encodes the time.
     pub safe fn fimbrast_generator_forward(time: Time) -> Generator;
@@ -625,7 +637,7 @@ unsafe extern "C" {
     ) -> Run;
     /// `MtcReader::new`: not locked, and stopped.
     pub safe fn fimbrast_reader_new() -> Reader;
-    /// `MtcReader::receive`: takes one data byte.
+    /// `MtcReader::receive`: takes one byte. One of 80H or more is refused by 13, in the number's highest byte, and leaves the reader as it was.
     pub safe fn fimbrast_receive(reader: &mut Reader, byte: u8) -> Event;
     /// `MtcReader::full_message`, with the message's time: the reader is then stopped at it.
     pub safe fn fimbrast_reader_full_message(reader: &mut Reader, time: Time);
@@ -662,8 +674,8 @@ unsafe extern "C" {
     pub safe fn fimbrast_from_frame_count(count: u32, rate: u8) -> MtcTime;
     /// `MtcTime::add_frames`: the label so many frames later, or earlier, round midnight.
     pub safe fn fimbrast_add_frames(time: MtcTime, delta: i32) -> MtcTime;
-    /// `QuarterFrame::from_byte`: the piece and value of a data byte.
-    pub safe fn fimbrast_quarter_frame_read(byte: u8) -> QuarterFrame;
+    /// `QuarterFrame::from_byte`: the piece and value of a data byte, or refusal 13 and zeros for a byte of 80H or more.
+    pub safe fn fimbrast_quarter_frame_read(byte: u8) -> ReadFrame;
     /// `QuarterFrame::to_byte`: the data byte of a piece and value.
     pub safe fn fimbrast_quarter_frame_byte(frame: QuarterFrame) -> u8;
     /// `QuarterFrame::pieces`: the data bytes of pieces 0 to 7.
@@ -698,7 +710,7 @@ unsafe extern "C" {
     /// The version as one number: 10,000 for each whole version, 100 for each minor one, and the patch.
     pub safe fn fimbrast_version() -> u32;
     /// The same under a name that has the version. A program refers to it, so that an archive of another version does not link.
-    pub safe fn fimbrast_version_0_6_0() -> u32;
+    pub safe fn fimbrast_version_0_7_0() -> u32;
     /// `write_commands` opens: F0H, 7FH, the device, 06H.
     pub fn fimbrast_open_commands(out: *mut u8, out_length: usize, device_id: u8) -> Writer;
     /// `write_responses` opens: F0H, 7FH, the device, 07H.
@@ -760,7 +772,7 @@ unsafe extern "C" {
     ) -> Written;
 }
 
-/// `MtcReader::receive` for each of the bytes, which must not overlap the reader.
+/// `MtcReader::receive` for each of the bytes, which must not overlap the reader. A refused byte is counted, and the others are received.
 #[inline]
 pub fn feed(reader: &mut Reader, bytes: &[u8]) -> Fed {
     // SAFETY: each pointer and length are those of a live slice, and what is written is borrowed alone.

@@ -1,7 +1,8 @@
 //! MIDI Time Code and MIDI Machine Control for a cue desk.
 //!
 //! A safe interface over the proved library `libfimbrast.a`. Names and signatures are those of the Rust crate that the
-//! library was translated from, so that a desk changes its imports and little else. What a call decides, it asks the library.
+//! library was translated from, but for the two calls that read a quarter frame, so that a desk changes its imports and
+//! little else. What a call decides, it asks the library.
 //! What turns Rust's types into the library's numbers and back is plain Rust, which is tested and compared; the README says what
 //! and by which test.
 //!
@@ -27,12 +28,13 @@
 //! let mut reports = 0;
 //! for _ in 0..24 {
 //!     let byte = generator.next_byte().unwrap();
-//!     if let Some(sequence) = reader.receive(byte).sequence {
+//!     if let Some(sequence) = reader.receive(byte)?.sequence {
 //!         assert_eq!(sequence.raw.frames, 2 * reports);
 //!         reports += 1;
 //!     }
 //! }
 //! assert_eq!(reports, 3);
+//! # Ok::<(), fimbrast::universal::SysexError>(())
 //! ```
 #![no_std]
 #![warn(missing_docs)]

@@ -194,13 +194,21 @@ pub struct QuarterFrame {
 }
 
 impl QuarterFrame {
-    /// The piece and value of a data byte; bit 7 is ignored.
-    pub fn from_byte(byte: u8) -> Self {
-        let q = ffi::fimbrast_quarter_frame_read(byte);
-        Self {
-            piece: q.piece,
-            value: q.value,
-        }
+    /// The piece and value of a data byte, or [`SysexError::StatusByte`] for a byte of 80H or more.
+    ///
+    /// ```
+    /// use fimbrast::mtc::QuarterFrame;
+    /// use fimbrast::universal::SysexError;
+    ///
+    /// assert_eq!(QuarterFrame::from_byte(0x76), Ok(QuarterFrame { piece: 7, value: 6 }));
+    /// assert_eq!(QuarterFrame::from_byte(0xF6), Err(SysexError::StatusByte));
+    /// ```
+    pub fn from_byte(byte: u8) -> Result<Self, SysexError> {
+        let ffi::ReadFrame { refusal, frame } = ffi::fimbrast_quarter_frame_read(byte);
+        SysexError::check(refusal).map(|()| Self {
+            piece: frame.piece,
+            value: frame.value,
+        })
     }
 
     /// The data byte `0nnn dddd`.
@@ -448,21 +456,29 @@ pub struct MtcEvent {
 impl MtcEvent {
     /// In an event's number, above the piece.
     const BOUNDARY: u64 = 1 << 8;
-    /// An event's number from here on has a report.
+    /// An event's number from here on has a report, or is a refusal.
     const REPORT: u64 = 1 << 9;
 
-    /// One byte in eight has a report; the others do not wait for it.
+    /// The number of a refusal in an event's, 0 for none.
+    const fn refusal(event: u64) -> u8 {
+        (event >> 56) as u8
+    }
+
+    /// One byte in eight has a report, and hardly one is refused; the others do not wait for it.
     #[inline(never)]
-    const fn reporting(event: u64, left: &ffi::Reader) -> Self {
-        Self {
-            piece: event as u8,
-            boundary: event & Self::BOUNDARY != 0,
-            sequence: Some(MtcSequence::of(event / Self::REPORT, left)),
+    const fn reporting(event: u64, left: &ffi::Reader) -> Result<Self, SysexError> {
+        match Self::refusal(event) {
+            0 => Ok(Self {
+                piece: event as u8,
+                boundary: event & Self::BOUNDARY != 0,
+                sequence: Some(MtcSequence::of(event / Self::REPORT, left)),
+            }),
+            number => Err(SysexError::of(number, 0)),
         }
     }
 }
 
-/// What a list of data bytes gives.
+/// What a list of bytes gives.
 #[derive(Debug, Clone, Copy, PartialEq, Eq, Hash)]
 pub struct Fed {
     /// How many sequences were reported.
@@ -471,23 +487,27 @@ pub struct Fed {
     pub discontinuities: usize,
     /// The last report.
     pub last: Option<MtcSequence>,
+    /// How many bytes were refused, as they are 80H or more.
+    pub refused: usize,
 }
 
 /// The Quarter Frame reader. 60 bytes.
 ///
 /// ```
 /// use fimbrast::mtc::{Direction, MtcReader, MtcTime, TimeCodeType};
+/// use fimbrast::universal::SysexError;
 ///
 /// let mut reader = MtcReader::new();
 /// for byte in [0x00, 0x11, 0x24, 0x33, 0x45, 0x52, 0x61] {
-///     assert_eq!(reader.receive(byte).sequence, None);
+///     assert_eq!(reader.receive(byte)?.sequence, None);
 /// }
-/// let report = reader.receive(0x76).sequence.unwrap();
+/// assert_eq!(reader.receive(0xF6), Err(SysexError::StatusByte));
+/// let report = reader.receive(0x76)?.sequence.unwrap();
 /// assert_eq!(report.raw, MtcTime::new(1, 37, 52, 16, TimeCodeType::Fps30)?);
 /// assert_eq!(report.current, MtcTime::new(1, 37, 52, 18, TimeCodeType::Fps30)?);
 /// assert_eq!(report.direction, Direction::Forward);
 /// assert!(reader.is_locked() && reader.is_running());
-/// # Ok::<(), fimbrast::universal::SysexError>(())
+/// # Ok::<(), SysexError>(())
 /// ```
 #[derive(Clone, Copy)]
 pub struct MtcReader {
@@ -511,21 +531,22 @@ impl MtcReader {
     }
 
     /// Takes one Quarter Frame data byte. A piece out of order drops the partial sequence and the lock; two adjacent pieces
-    /// the other way turn the direction. A sequence starts at the first piece of the direction.
+    /// the other way turn the direction. A sequence starts at the first piece of the direction. A byte of 80H or more is
+    /// [`SysexError::StatusByte`], and changes nothing.
     #[inline]
-    pub fn receive(&mut self, byte: u8) -> MtcEvent {
+    pub fn receive(&mut self, byte: u8) -> Result<MtcEvent, SysexError> {
         let event = ffi::fimbrast_receive(&mut self.record, byte);
         if event >= MtcEvent::REPORT {
             return MtcEvent::reporting(event, &self.record);
         }
-        MtcEvent {
+        Ok(MtcEvent {
             piece: event as u8,
             boundary: event & MtcEvent::BOUNDARY != 0,
             sequence: None,
-        }
+        })
     }
 
-    /// Takes a list of data bytes, each as [`MtcReader::receive`] does.
+    /// Takes a list of bytes, each as [`MtcReader::receive`] does. Refused ones are counted, and the others are received.
     ///
     /// ```
     /// use fimbrast::mtc::MtcReader;
@@ -534,6 +555,7 @@ impl MtcReader {
     /// let fed = reader.feed(&[0x00, 0x11, 0x24, 0x33, 0x45, 0x52, 0x61, 0x76]);
     /// assert_eq!((fed.reports, fed.discontinuities), (1, 0));
     /// assert_eq!(fed.last.map(|s| s.current), reader.time());
+    /// assert_eq!(reader.feed(&[0x02, 0xF8, 0x11]).refused, 1);
     /// ```
     pub fn feed(&mut self, bytes: &[u8]) -> Fed {
         let fed = ffi::feed(&mut self.record, bytes);
@@ -544,6 +566,7 @@ impl MtcReader {
                 0 => None,
                 report => Some(MtcSequence::of(report, &self.record)),
             },
+            refused: fed.refused,
         }
     }
 

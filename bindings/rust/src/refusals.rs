@@ -35,6 +35,8 @@ pub enum SysexError {
     NoField,
     /// 12: more than nine bytes of tracks, a track outside 1 to 58, or no armed track to be the lowest.
     Track,
+    /// 13: a quarter frame's byte of 80H or more, which is a status byte.
+    StatusByte,
     /// A number that this version of the crate has no name for.
     Unknown(u8),
 }
@@ -62,6 +64,7 @@ impl SysexError {
             Self::ItemLimit => ffi::REFUSED_ITEM_LIMIT,
             Self::NoField => ffi::REFUSED_NO_FIELD,
             Self::Track => ffi::REFUSED_TRACK,
+            Self::StatusByte => ffi::REFUSED_STATUS_BYTE,
             Self::Unknown(number) => number,
         }
     }
@@ -84,6 +87,7 @@ impl SysexError {
             ffi::REFUSED_ITEM_LIMIT => Self::ItemLimit,
             ffi::REFUSED_NO_FIELD => Self::NoField,
             ffi::REFUSED_TRACK => Self::Track,
+            ffi::REFUSED_STATUS_BYTE => Self::StatusByte,
             number => Self::Unknown(number),
         }
     }
@@ -110,6 +114,9 @@ impl fmt::Display for SysexError {
             Self::NoField => f.write_str("an index has no field under this name"),
             Self::Track => {
                 f.write_str("more than nine bytes of tracks, a track outside 1 to 58, or no armed track to be the lowest")
+            }
+            Self::StatusByte => {
+                f.write_str("a quarter frame's byte of 80H or more, which is a status byte")
             }
             Self::Unknown(number) => {
                 write!(f, "refusal {number}, which this crate has no name for")

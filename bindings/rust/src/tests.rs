@@ -212,10 +212,11 @@ fn drop_frame_counts() {
 #[test]
 fn quarter_frames() {
     for byte in 0..=127 {
-        let q = QuarterFrame::from_byte(byte);
+        let q = QuarterFrame::from_byte(byte).unwrap();
         assert_eq!((q.piece, q.value), (byte >> 4, byte & 15));
-        assert_eq!(QuarterFrame::from_byte(byte | 0x80), q);
         assert_eq!(q.to_byte(), byte);
+        let status = QuarterFrame::from_byte(byte | 0x80);
+        assert_eq!(status, Err(SysexError::StatusByte));
     }
     assert_eq!(QuarterFrame::pieces(&LABEL), PIECES);
 }
@@ -267,7 +268,7 @@ fn reader() {
     let mut last = None;
     for byte in PIECES {
         assert_ne!(fed, r);
-        let event = r.receive(byte);
+        let event = r.receive(byte).unwrap();
         assert_eq!(event.piece, byte >> 4);
         assert_eq!(event.boundary, matches!(event.piece, 0 | 4));
         last = event.sequence;
@@ -281,8 +282,8 @@ fn reader() {
     };
     assert_eq!(last, Some(report));
     assert_eq!(
-        (all.reports, all.discontinuities, all.last),
-        (1, 0, Some(report))
+        (all.reports, all.discontinuities, all.last, all.refused),
+        (1, 0, Some(report), 0)
     );
     assert!(r.is_locked() && r.is_running());
     assert_eq!(
@@ -322,6 +323,74 @@ fn reader() {
     assert_eq!(reverse.direction, Direction::Reverse);
 }
 
+/// Status bytes among the quarter frames are refused, and change nothing (document 02, #105).
+#[test]
+fn status_bytes() {
+    let refused = Err(SysexError::StatusByte);
+    let mut r = MtcReader::new();
+    for byte in 0x80..=0xFF {
+        assert_eq!(r.receive(byte), refused);
+    }
+    assert_eq!((r, r.is_running()), (MtcReader::new(), false));
+    r.full_message(&FullMessage {
+        device_id: 0x7F,
+        time: hour(),
+    });
+    assert_eq!((r.receive(0xF1), r.is_running()), (refused, false));
+
+    // F6H after seven good pieces, and the eighth still reports.
+    for &byte in &PIECES[..7] {
+        assert_eq!(r.receive(byte).unwrap().sequence, None);
+    }
+    let (before, words) = (r, format!("{r:?}"));
+    assert_eq!(r.receive(0xF6), refused);
+    assert_eq!((r, format!("{r:?}")), (before, words));
+    assert_eq!(r.receive(0x76).unwrap().sequence.unwrap().raw, LABEL);
+
+    // Among the bytes of a list they are counted, and the others are received as if they were alone.
+    let mixed: std::vec::Vec<u8> = PIECES.iter().flat_map(|&b| [0xF8, b, b | 0x80]).collect();
+    let (mut alone, mut among) = (MtcReader::new(), MtcReader::new());
+    let (whole, fed) = (alone.feed(&PIECES), among.feed(&mixed));
+    assert_eq!((fed.refused, whole.refused), (16, 0));
+    assert_eq!(Fed { refused: 0, ..fed }, whole);
+    assert_eq!((among, hash(among)), (alone, hash(alone)));
+    assert_eq!(among.feed(&[0xC0; 5]).refused, 5);
+    assert_eq!(among, alone);
+
+    // Between 76H and 61H one leaves the first report of a forward stream at its sixteenth byte.
+    let mut late = MtcReader::new();
+    late.feed(&[0x76, 0xC0, 0x61]);
+    let mut g = MtcGenerator::new(LABEL, Direction::Forward);
+    let reports = (1..=24).filter(|_| {
+        let event = late.receive(g.next_byte().unwrap()).unwrap();
+        event.sequence.is_some()
+    });
+    assert_eq!(reports.collect::<std::vec::Vec<_>>(), [16, 24]);
+
+    // One between the last seven neither keeps the first byte from its report nor makes it.
+    let first = |bytes: &[u8]| {
+        let mut r = MtcReader::new();
+        r.feed(bytes);
+        r.receive(0x00).unwrap().sequence.is_some()
+    };
+    assert!(first(&[0x76, 0x61, 0x52, 0xC0, 0x45, 0x33, 0x24, 0x11]));
+    assert!(!first(&[0x76, 0x61, 0x52, 0x45, 0x33, 0x24, 0x91]));
+}
+
+/// The library leaves every word of a reader, whatever words they are, at a status byte.
+#[test]
+fn status_bytes_leave_the_words() {
+    for word in [0, 7, 42, 0x80, u32::MAX] {
+        let mut record = ffi::Reader { words: [word; 15] };
+        for byte in 0x80..=0xFF {
+            assert_eq!(ffi::fimbrast_receive(&mut record, byte), 13 << 56);
+        }
+        let status: std::vec::Vec<u8> = (0x80..=0xFF).collect();
+        assert_eq!(ffi::feed(&mut record, &status).refused, 128);
+        assert_eq!(record.words, [word; 15]);
+    }
+}
+
 #[test]
 fn reports_are_the_librarys() {
     for (direction, rate) in [Direction::Forward, Direction::Reverse]
@@ -337,7 +406,7 @@ fn reports_are_the_librarys() {
                 g.locate(time.add_frames(turn));
             }
             let byte = g.next_byte().unwrap();
-            let sequence = r.receive(byte).sequence;
+            let sequence = r.receive(byte).unwrap().sequence;
             let event = ffi::fimbrast_receive(&mut record, byte);
             let report = ffi::fimbrast_report_parts(record, event >> 9);
             assert_eq!(sequence.is_some(), report.present);

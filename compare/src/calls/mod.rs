@@ -10,7 +10,7 @@ pub mod reader;
 pub mod write;
 
 use super::lib;
-use super::refusal;
+use super::{quarter_frame, received, refusal};
 
 use crate::plain::Written;
 use lib::universal::SysexError;

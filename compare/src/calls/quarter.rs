@@ -2,11 +2,12 @@
 
 use super::label::time;
 use super::lib::mtc::QuarterFrame;
+use super::quarter_frame;
 use crate::plain::Time;
 
-/// `from_byte`: piece and value.
+/// `from_byte` of a data byte: piece and value.
 pub fn from_byte(byte: u8) -> [u8; 2] {
-    let q = QuarterFrame::from_byte(byte);
+    let q = quarter_frame(byte).expect("a data byte");
     [q.piece, q.value]
 }
 

@@ -2,6 +2,7 @@
 
 use super::label::{bytes, time};
 use super::lib::mtc::{Direction, FullMessage, MtcEvent, MtcReader, MtcSequence};
+use super::received;
 use crate::plain::Time;
 
 /// The record of this side.
@@ -15,9 +16,9 @@ pub fn new() -> Reader {
     MtcReader::new()
 }
 
-/// `receive`.
+/// `receive` of a data byte.
 pub fn receive(r: &mut Reader, byte: u8) -> Event {
-    event(&r.receive(byte))
+    event(&received(r, byte).expect("a data byte"))
 }
 
 /// `full_message`, with a message for any device.

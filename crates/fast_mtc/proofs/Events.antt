@@ -1,7 +1,7 @@
 -- Events and reports as numbers: as the code makes them, what is read off them, and that nothing of a report is lost. Assumes nothing.
 use Rattle.std.specs.Prelude.{Option, Some, None}
-use Prim.Native.Nat.{ℕ, zero, suc, ◌+◌, ◌*◌, ◌/◌, ◌%◌, ◌≤◌}
-use mathlib.Core.Bool.{Bool, true, false}
+use Prim.Native.Nat.{ℕ, zero, suc, ◌+◌, ◌*◌, ◌/◌, ◌%◌, ◌≤◌, ◌<◌}
+use mathlib.Core.Bool.{Bool, true, false, cond}
 use mathlib.Core.List.{[], ◌∷◌}
 use mathlib.Core.Path.{◌≡◌, refl}
 use native.Mathlib.Omega.{arith}
@@ -9,11 +9,15 @@ use borrow.Author.Tests.{ne_eqb}
 use lib.Dec.{lit≤}
 use lib.ListN.{get_or}
 use Rattle.fast_mtc.specs.Generator.{direction_at, flat_direction, is_set}
-use Rattle.fast_mtc.specs.Reader.{bit_of, flat_report, flat_event, report_in}
+use Rattle.fast_mtc.specs.Reader.{bit_of, flat_report, flat_event, flat_byte_answer, report_in}
+use Rattle.fast_mtc.specs.Refusal.{refusal_in}
+use Rattle.universal.specs.Refusals.{Refusal, gives, refused, refusal}
+use Rattle.mtc.specs.QuarterFrame.{piece_of, value_of, is_heard}
 use Rattle.mtc.proofs.Laws.{report_labels}
-use Rattle.mtc.specs.Reader.{event_with, ReportLabels, after_byte, event_of, or_fresh}
+use Rattle.mtc.specs.Reader.{event_with, ReportLabels, after_heard, event_heard, event_of, report_of, or_fresh}
 use Rattle.mtc.specs.declared.generator.Direction.{Direction}
 use Rattle.mtc.specs.declared.generator.Direction.TheVariants.{Forward, Reverse}
+use Rattle.mtc.specs.declared.reader.MtcEvent.{MtcEvent}
 use Rattle.mtc.specs.declared.reader.MtcReader.{MtcReader}
 use Rattle.mtc.specs.declared.reader.MtcSequence.{MtcSequence}
 use Rattle.fast_mtc.proofs.FlatBack.{direction_back}
@@ -54,6 +58,41 @@ quiet_table =
 pub event_report : (p : ℕ) (s : Option MtcSequence) → p ≤ 255 → flat_event (event_with p s) / 512 ≡ flat_report s
 unfolding flat_event
 event_report p s h = let b : bit_of (event_with p s).boundary ≤ 1 = bit_small (event_with p s).boundary in omega (arith, h, b)
+
+-- Every event of a piece is below the numbers of refused bytes.
+report_small : (s : Option MtcSequence) → flat_report s ≤ 7
+unfolding flat_report
+report_small None = lit≤ tt
+report_small (Some s) = let r : flat_report (Some s) ≤ 7 = (report_is s _ _ refl refl).1 in r
+
+pub event_small : (p : ℕ) (s : Option MtcSequence) → p ≤ 255 → flat_event (event_with p s) < 0x100000000000000
+unfolding flat_event
+event_small p s h =
+    let b : bit_of (event_with p s).boundary ≤ 1 = bit_small (event_with p s).boundary in
+    let r : flat_report s ≤ 7 = report_small s in
+    omega (arith, h, b, r)
+
+-- The number of a byte that gives an event is the event's, and that of a refused one is the refusal's, a byte of 256 to the seventh.
+pub given_number : (e : MtcEvent) → flat_byte_answer (gives e) ≡ flat_event e
+unfolding flat_byte_answer
+given_number e = refl
+
+pub refused_number : (r : Refusal) → flat_byte_answer (refused r) ≡ r.number * 0x100000000000000
+unfolding flat_byte_answer
+refused_number r = refl
+
+-- So the highest byte of any byte's number is its refusal, 0 where it has none.
+pub highest_byte : (r : MtcReader) (b : ℕ) → flat_byte_answer (event_of r b) / 0x100000000000000 ≡ refusal_in (event_of r b)
+unfolding flat_byte_answer refusal_in
+highest_byte r b = go (is_heard b)
+  where
+    go : (t : Bool) → flat_byte_answer (cond t (gives (event_heard r b)) (refused (refusal 13))) / 0x100000000000000
+        ≡ refusal_in (cond t (gives (event_heard r b)) (refused (refusal 13)))
+    go true =
+        let l : flat_event (event_heard r b) < 0x100000000000000
+        = event_small (piece_of b) (report_of (or_fresh r) (piece_of b) (value_of b)) (omega arith) in
+        omega (arith, l)
+    go false = refl
 
 -- No report is 0; any other is not.
 pub none_reported : flat_report None ≡ 0
@@ -107,8 +146,8 @@ report_back (Some s) before left h =
     rw (one_in d b hd hb, direction_in d b hd hb, jump_in d b hd hb, direction_back s.direction, bit_back s.discontinuity, h.0, h.1)
 
 -- So every report is read back from its number and the reader that it left.
-pub reported_back : (r : MtcReader) (b : ℕ) → report_in (after_byte r b) (flat_report (event_of r b).sequence) ≡ (event_of r b).sequence
-reported_back r b = report_back (event_of r b).sequence (or_fresh r) (after_byte r b) (report_labels r b)
+pub reported_back : (r : MtcReader) (b : ℕ) → report_in (after_heard r b) (flat_report (event_heard r b).sequence) ≡ (event_heard r b).sequence
+reported_back r b = report_back (event_heard r b).sequence (or_fresh r) (after_heard r b) (report_labels r b)
 
 -- A later event without a report keeps the last one.
 pub kept_back : (s : MtcSequence) (before left : MtcReader) → ReportLabels None before left

@@ -1,4 +1,5 @@
--- A data byte by the words: what the stores of each way through `receive` leave is the plain reader's. Assumes nothing.
+-- A byte by the words: what the stores of each way through `hear` leave is the plain reader's; and what `receive` makes of any byte.
+-- Assumes nothing.
 use Rattle.std.specs.Prelude.{Option, Some, None}
 use Prim.Native.Nat.{ℕ, zero, suc, ◌+◌, ◌-◌, ◌%◌, ◌≤◌, ◌<◌}
 use mathlib.Core.Bool.{Bool, true, false, cond, ◌&&◌}
@@ -8,15 +9,16 @@ use native.Mathlib.Omega.{arith}
 use borrow.Author.Tests.{eq-eqb, ne_eqb}
 use lib.Dec.{eqb}
 use lib.ListN.{length, get_or, set}
-use Rattle.mtc.proofs.Laws.{Sound, sound_by, piece_stands}
+use Rattle.mtc.proofs.Laws.{Sound, sound_by, piece_stands, below_heard, status_unheard, heard_byte, refused_byte}
 use Rattle.mtc.specs.Generator.{first, after, final}
 use Rattle.mtc.specs.QuarterFrame.{piece_of, value_of}
-use Rattle.mtc.specs.Reader.{Standing, control, ordered, order_after, starts, number_after, stored, completed, reader_by_number, event_with, sequence_of}
+use Rattle.mtc.specs.Reader.{Standing, control, ordered, order_after, starts, number_after, stored, completed, reader_by_number, event_with, sequence_of, after_byte, event_of}
 use Rattle.mtc.specs.declared.generator.Direction.{Direction}
 use Rattle.mtc.specs.declared.generator.Direction.TheVariants.{Forward, Reverse}
 use Rattle.mtc.specs.declared.reader.MtcReader.{MtcReader}
+use Rattle.universal.specs.Refusals.{refused, refusal}
 use Rattle.fast_mtc.specs.Clauses.{Received, PassedPiece, SequenceEnded, InSequence, order_in}
-use Rattle.fast_mtc.specs.Reader.{way_in, last_in, count_in, first_in, nibbles_in, reader_in, flat_event}
+use Rattle.fast_mtc.specs.Reader.{way_in, last_in, count_in, first_in, nibbles_in, reader_in, flat_event, flat_byte_answer}
 use Rattle.fast_mtc.proofs.Orders.{standing_in, standing, stands_inside, order_inside, inside_small, order_count_small, order_first_small, last_fits}
 use Rattle.fast_mtc.proofs.SpelledLists.{spelled, by_words, piece_cases}
 
@@ -214,3 +216,20 @@ module _ (d : Direction) (ws : List ℕ) (b p : ℕ) (e : length ws ≡ 15) (ep 
   pub next_ends : (x : ℕ) (left : List ℕ) → p ≡ final d → SequenceEnded (final d) (next_words d ws b p) x left → Received ws b x left
   next_ends x left h q =
       is_last ws b e d order_is x left (sym ep ∙ h) (subst (λ (n : ℕ). SequenceEnded (final d) (next_words d ws b n) x left) ep q)
+
+-- ---- any byte
+
+-- One of 80H or more is refused, and leaves the reader.
+pub refused_by_words : (ws : List ℕ) (b x : ℕ) → 0x7F < b → x ≡ flat_byte_answer (refused (refusal 13))
+    → (x ≡ flat_byte_answer (event_of (reader_in ws) b)) × (reader_in ws ≡ after_byte (reader_in ws) b)
+refused_by_words ws b x h e =
+    let q = refused_byte (reader_in ws) b (status_unheard b (omega arith)) in
+    (e ∙ ap flat_byte_answer (sym q.0), sym q.1)
+
+-- Any other is heard.
+pub heard_by_words : (ws left : List ℕ) (b x : ℕ) → b ≤ 0x7F → Received ws b x left
+    → (x ≡ flat_byte_answer (event_of (reader_in ws) b)) × (reader_in left ≡ after_byte (reader_in ws) b)
+unfolding flat_byte_answer
+heard_by_words ws left b x h q =
+    let e = heard_byte (reader_in ws) b (below_heard b (omega (arith, h))) in
+    (q.event ∙ ap flat_byte_answer (sym e.0), q.reader ∙ sym e.1)

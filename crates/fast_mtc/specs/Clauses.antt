@@ -5,7 +5,7 @@ use Rattle.labels.specs.St12.{label, frames_per_second}
 use Rattle.labels.specs.Time.{bits_of, type_of}
 use Rattle.labels.specs.declared.time.MtcTime.{MtcTime}
 use Rattle.mtc.specs.Generator.{opposite}
-use Rattle.mtc.specs.Reader.{ordered, starts, number_after, reader_by_number, event_with, sequence_of_label, sequence_of, completed, after_byte, event_of}
+use Rattle.mtc.specs.Reader.{ordered, starts, number_after, reader_by_number, event_with, sequence_of_label, sequence_of, completed, after_heard, event_heard}
 use Rattle.mtc.specs.declared.generator.Direction.{Direction}
 use Rattle.mtc.specs.declared.generator.Direction.TheVariants.{Forward, Reverse}
 use Rattle.mtc.specs.declared.generator.MtcGenerator.{MtcGenerator}
@@ -63,10 +63,10 @@ passing d k p = cond (eqb (turning d k) p) (Some (opposite d)) (Some d)
 
 -- ---- a data byte
 
--- What a data byte gives, and the reader that it leaves, in words.
+-- What a byte that is heard gives, and the reader that it leaves, in words.
 pub record Received (before : List ℕ) (byte e : ℕ) (left : List ℕ) : Type 0 where
-  pub event : e ≡ flat_event (event_of (reader_in before) byte)
-  pub reader : reader_in left ≡ after_byte (reader_in before) byte
+  pub event : e ≡ flat_event (event_heard (reader_in before) byte)
+  pub reader : reader_in left ≡ after_heard (reader_in before) byte
 
 -- What a piece that is not the next one gives, in the direction that it leaves.
 pub record PassedPiece (direction : Option Direction) (before : List ℕ) (piece value e : ℕ) (left : List ℕ) : Type 0 where

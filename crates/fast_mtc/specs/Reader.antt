@@ -15,6 +15,7 @@ use Rattle.mtc.specs.declared.reader.MtcReader.{MtcReader}
 use Rattle.mtc.specs.declared.reader.MtcSequence.{MtcSequence}
 use Rattle.labels.specs.declared.time.MtcTime.{MtcTime}
 use Rattle.labels.specs.declared.time.TimeCodeType.{TimeCodeType}
+use Rattle.universal.specs.Refusals.{Answer, gives, refused}
 
 unfoldable pub flat_way : Option Direction → ℕ
 flat_way None = 255
@@ -126,6 +127,11 @@ flat_report (Some s) = 1 + flat_direction s.direction * 2 + bit_of s.discontinui
 -- An event: the piece in the lowest byte, the boundary in the bit above it, and from there on the report.
 unfoldable pub flat_event : MtcEvent → ℕ
 flat_event e = e.piece + bit_of e.boundary * 256 + flat_report e.sequence * 512
+
+-- What a byte is answered, as one number: an event's, or a refusal's number in the highest byte alone.
+unfoldable pub flat_byte_answer : Answer MtcEvent → ℕ
+flat_byte_answer (gives e) = flat_event e
+flat_byte_answer (refused r) = r.number * 0x100000000000000
 
 -- A label, or all zeros.
 abbrev pub label_or : Option MtcTime → MtcTime

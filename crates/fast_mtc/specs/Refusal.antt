@@ -1,4 +1,4 @@
--- Refusals as numbers: 0 is none, 1 to 10 are document 01's, 11 and 12 are document 02's. Assumes nothing.
+-- Refusals as numbers: 0 is none, 1 to 10 are document 01's, 11 to 13 are document 02's. Assumes nothing.
 use Rattle.std.specs.Prelude.{ℕ}
 use Rattle.universal.specs.Refusals.{Answer, gives, refused}
 

@@ -1,10 +1,12 @@
 -- Labels and quarter frames as flat records, and back. Assumes nothing.
 use Rattle.std.specs.Prelude.{ℕ, ◌+◌, ◌/◌, ◌%◌, List, get_or}
 use Rattle.fast_mtc.specs.declared.time.FlatFrame.{FlatFrame}
+use Rattle.fast_mtc.specs.declared.time.FlatReadFrame.{FlatReadFrame}
 use Rattle.fast_mtc.specs.declared.time.FlatTime.{FlatTime}
 use Rattle.labels.specs.Time.{bits_of, type_of}
 use Rattle.mtc.specs.declared.quarter_frame.QuarterFrame.{QuarterFrame}
 use Rattle.labels.specs.declared.time.MtcTime.{MtcTime}
+use Rattle.universal.specs.Refusals.{Answer, gives, refused}
 
 -- The label: of the rate only the two low bits are read.
 unfoldable pub time_of : FlatTime → MtcTime
@@ -20,6 +22,11 @@ frame_of q = record { piece = q.piece; value = q.value }
 
 unfoldable pub flat_frame : QuarterFrame → FlatFrame
 flat_frame q = record { piece = q.piece; value = q.value }
+
+-- What a byte is read as, or a refusal and zeros.
+unfoldable pub flat_read_frame : Answer QuarterFrame → FlatReadFrame
+flat_read_frame (gives q) = record { refusal = 0; frame = flat_frame q }
+flat_read_frame (refused r) = record { refusal = r.number; frame = record { piece = 0; value = 0 } }
 
 -- The label in the five bytes from a place on.
 unfoldable pub time_at : List ℕ → ℕ → MtcTime

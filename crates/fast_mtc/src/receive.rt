@@ -1,18 +1,20 @@
-// A data byte received by the words. The order tells at once whether a piece is the next one of a sequence.
+// A byte received by the words: one of 80H or more is refused before all else. The order tells at once whether a piece is the next one of
+// a sequence.
 ghost use Rattle.std.specs.Prelude.{◌≡◌, ◌+◌, ◌≤◌, ◌<◌, get_or, Some, None};
 ghost use Rattle.mtc.specs.QuarterFrame.{piece_of, value_of};
 ghost use Rattle.mtc.specs.Reader.{after_byte, event_of};
 ghost use Rattle.mtc.specs.Generator.{after, opposite};
 ghost use Rattle.mtc.specs.declared.generator.Direction.{Direction};
 ghost use Rattle.mtc.specs.declared.generator.Direction.TheVariants.{Forward, Reverse};
-ghost use Rattle.fast_mtc.specs.Reader.{reader_in, flat_event};
+ghost use Rattle.fast_mtc.specs.Reader.{reader_in, flat_byte_answer};
 ghost use Rattle.fast_mtc.specs.Clauses.{Received, FirstKept, PassedPiece, InSequence, OutOfSequence, order_in, order_out, order_begun, turning, passing};
 
-use crate::report::{complete, quiet};
+use crate::report::{complete, quiet, refused};
 use crate::words::{
     BEGUN_AT_0, BEGUN_AT_7, FIRST, LOCKED, ORDER, STOPPED_FORWARD, STOPPED_REVERSE,
 };
 use mtc::Direction;
+use universal::SysexError;
 
 // The order is one of the words that C keeps, so it is a number and no enum.
 
@@ -89,13 +91,25 @@ fn turning(way: Direction, order: u32) -> u32
 // The words, the piece and the byte go on as they are: a struct of a `&mut` array and two numbers is no plainer. Their bounds stay
 // clauses: the words are an array that C keeps, and the piece is a plain number in `mtc` too.
 
-// `MtcReader::receive` on the words. As a call it takes an instruction more for each byte of a running
-// stream, and some eight more in a list.
+// `MtcReader::receive` on the words, which a refused byte leaves as they are. As a call it takes an instruction more for each byte of a
+// running stream, and some eight more in a list.
 #[inline(always)]
 pub fn receive(r: &mut [u32; 15], byte: u8) -> u64
-    ensures { (result ≡ flat_event (event_of (reader_in r.old) byte)) × (reader_in r.new ≡ after_byte (reader_in r.old) byte) }
+    ensures { (result ≡ flat_byte_answer (event_of (reader_in r.old) byte)) × (reader_in r.new ≡ after_byte (reader_in r.old) byte) × (0x80 ≤ byte → r.new ≡ r.old) }
 {
-    let p = byte as u32 / 16 % 8;
+    if byte > 0x7F {
+        return refused(SysexError::StatusByte);
+    }
+    hear(r, byte as u32)
+}
+
+// A byte that is heard. From here on it has the 32 bits in which it is stored: in eight each use would widen it anew, an instruction for
+// each byte.
+#[inline(always)]
+fn hear(r: &mut [u32; 15], byte: u32) -> u64
+    ensures { Received r.old byte result r.new }
+{
+    let p = byte / 16 % 8;
     let order = r[ORDER];
     if order >= OUT_FORWARD {
         return outside(r, byte);
@@ -111,11 +125,11 @@ pub fn receive(r: &mut [u32; 15], byte: u8) -> u64
 
 // The next piece of a sequence.
 #[tactic(auto, using(crate::proofs::ReceivedPieces::next_on, crate::proofs::ReceivedPieces::next_going, crate::proofs::ReceivedPieces::next_ends))]
-fn next<W: Way>(r: &mut [u32; 15], p: u32, byte: u8) -> u64
+fn next<W: Way>(r: &mut [u32; 15], p: u32, byte: u32) -> u64
     requires { (p ≡ piece_of byte) × (get_or r.old 8 0 ≡ order_in W.WAY p) }
     ensures { Received r.old byte result r.new }
 {
-    r[p as usize] = byte as u32;
+    r[p as usize] = byte;
     r[ORDER] = order_in(W::WAY, W::WAY.after(p as u8) as u32);
     if p == W::WAY.last() as u32 {
         return complete(r, W::WAY);
@@ -127,7 +141,7 @@ fn next<W: Way>(r: &mut [u32; 15], p: u32, byte: u8) -> u64
 
 // In a direction only its first piece begins a sequence.
 #[tactic(auto, using(crate::proofs::PassedPieces::way_passed, crate::proofs::PassedPieces::way_begun))]
-fn go<W: Way>(r: &mut [u32; 15], p: u32, byte: u8) -> u64
+fn go<W: Way>(r: &mut [u32; 15], p: u32, byte: u32) -> u64
     requires { (p ≤ 7) × FirstKept r.old }
     ensures { PassedPiece (Some W.WAY) r.old p (value_of byte) result r.new }
 {
@@ -136,13 +150,13 @@ fn go<W: Way>(r: &mut [u32; 15], p: u32, byte: u8) -> u64
         r[ORDER] = order_out(W::WAY, next);
         return quiet(p);
     }
-    r[p as usize] = byte as u32;
+    r[p as usize] = byte;
     r[ORDER] = order_in(W::WAY, next);
     quiet(p)
 }
 
 // The other direction than before.
-fn turn<W: Way>(r: &mut [u32; 15], p: u32, byte: u8) -> u64
+fn turn<W: Way>(r: &mut [u32; 15], p: u32, byte: u32) -> u64
     requires { (p ≤ 7) × FirstKept r.old }
     ensures { PassedPiece (Some (opposite W.WAY)) r.old p (value_of byte) result r.new }
 {
@@ -154,17 +168,17 @@ fn turn<W: Way>(r: &mut [u32; 15], p: u32, byte: u8) -> u64
 
 // Without a direction the first piece of either does.
 #[tactic(auto, using(crate::proofs::PassedPieces::none_begun_0, crate::proofs::PassedPieces::none_begun_7, crate::proofs::PassedPieces::none_passed))]
-fn go_nowhere(r: &mut [u32; 15], p: u32, byte: u8) -> u64
+fn go_nowhere(r: &mut [u32; 15], p: u32, byte: u32) -> u64
     requires { (p ≤ 7) × FirstKept r.old }
     ensures { PassedPiece None r.old p (value_of byte) result r.new }
 {
     if p == 0 {
-        r[0] = byte as u32;
+        r[0] = byte;
         r[ORDER] = BEGUN_AT_0;
         return quiet(0);
     }
     if p == 7 {
-        r[7] = byte as u32;
+        r[7] = byte;
         r[ORDER] = BEGUN_AT_7;
         return quiet(7);
     }
@@ -173,7 +187,7 @@ fn go_nowhere(r: &mut [u32; 15], p: u32, byte: u8) -> u64
 }
 
 // A piece that does not follow the last one, after an order of a direction.
-fn pass<W: Way>(r: &mut [u32; 15], order: u32, p: u32, byte: u8) -> u64
+fn pass<W: Way>(r: &mut [u32; 15], order: u32, p: u32, byte: u32) -> u64
     requires { (order < 32) × ((p ≤ 7) × FirstKept r.old) }
     ensures { PassedPiece (passing W.WAY order p) r.old p (value_of byte) result r.new }
 {
@@ -184,7 +198,7 @@ fn pass<W: Way>(r: &mut [u32; 15], order: u32, p: u32, byte: u8) -> u64
 }
 
 // A piece that breaks a sequence off.
-fn dropped(r: &mut [u32; 15], byte: u8) -> u64
+fn dropped(r: &mut [u32; 15], byte: u32) -> u64
     requires { (get_or r.old 8 0 < 16) × ((get_or r.old 8 0 ≡ piece_of byte → ⊥) × (get_or r.old 8 0 ≡ piece_of byte + 8 → ⊥)) }
     ensures { Received r.old byte result r.new }
 {
@@ -195,11 +209,11 @@ fn dropped(r: &mut [u32; 15], byte: u8) -> u64
 }
 
 #[tactic(auto, using(crate::proofs::PassedPieces::kept_inside))]
-fn broken<W: Way>(r: &mut [u32; 15], byte: u8) -> u64
+fn broken<W: Way>(r: &mut [u32; 15], byte: u32) -> u64
     requires { InSequence W.WAY (get_or r.old 8 0) × (get_or r.old 8 0 ≡ order_in W.WAY (piece_of byte) → ⊥) }
     ensures { Received r.old byte result r.new }
 {
-    let p = byte as u32 / 16 % 8;
+    let p = byte / 16 % 8;
     let order = r[ORDER];
     r[FIRST] = W::WAY.first() as u32;
     r[LOCKED] = 0;
@@ -207,7 +221,7 @@ fn broken<W: Way>(r: &mut [u32; 15], byte: u8) -> u64
 }
 
 // A piece in no sequence.
-fn outside(r: &mut [u32; 15], byte: u8) -> u64
+fn outside(r: &mut [u32; 15], byte: u32) -> u64
     requires { 16 ≤ get_or r.old 8 0 }
     ensures { Received r.old byte result r.new }
 {
@@ -226,11 +240,11 @@ fn outside(r: &mut [u32; 15], byte: u8) -> u64
 
 // In a direction.
 #[tactic(auto, using(crate::proofs::PassedPieces::kept_outside))]
-fn directed<W: Way>(r: &mut [u32; 15], byte: u8) -> u64
+fn directed<W: Way>(r: &mut [u32; 15], byte: u32) -> u64
     requires { OutOfSequence W.WAY (get_or r.old 8 0) }
     ensures { Received r.old byte result r.new }
 {
-    let p = byte as u32 / 16 % 8;
+    let p = byte / 16 % 8;
     let order = r[ORDER];
     if order == order_out(W::WAY, p) {
         return go::<W>(r, p, byte);
@@ -241,11 +255,11 @@ fn directed<W: Way>(r: &mut [u32; 15], byte: u8) -> u64
 
 // The first piece of all, or after a full message.
 #[tactic(auto, using(crate::proofs::PassedPieces::kept_none))]
-fn after_none(r: &mut [u32; 15], byte: u8) -> u64
+fn after_none(r: &mut [u32; 15], byte: u32) -> u64
     requires { 42 ≤ get_or r.old 8 0 }
     ensures { Received r.old byte result r.new }
 {
-    let p = byte as u32 / 16 % 8;
+    let p = byte / 16 % 8;
     let order = r[ORDER];
     if order == STOPPED_FORWARD {
         return go::<Forward>(r, p, byte);
@@ -258,11 +272,11 @@ fn after_none(r: &mut [u32; 15], byte: u8) -> u64
 
 // The second piece gives the direction, where it comes right after the first either way.
 #[tactic(auto, using(crate::proofs::PassedPieces::kept_undirected))]
-fn undirected(r: &mut [u32; 15], byte: u8) -> u64
+fn undirected(r: &mut [u32; 15], byte: u32) -> u64
     requires { (32 ≤ get_or r.old 8 0) × (get_or r.old 8 0 < 42) }
     ensures { Received r.old byte result r.new }
 {
-    let p = byte as u32 / 16 % 8;
+    let p = byte / 16 % 8;
     let order = r[ORDER];
     if order == BEGUN_AT_0 {
         return begun::<Forward>(r, byte);
@@ -281,14 +295,14 @@ fn undirected(r: &mut [u32; 15], byte: u8) -> u64
 }
 
 // After the first piece of a direction alone, the second one goes on in it.
-fn begun<W: Way>(r: &mut [u32; 15], byte: u8) -> u64
+fn begun<W: Way>(r: &mut [u32; 15], byte: u32) -> u64
     requires { get_or r.old 8 0 ≡ order_begun W.WAY }
     ensures { Received r.old byte result r.new }
 {
-    let p = byte as u32 / 16 % 8;
+    let p = byte / 16 % 8;
     let first = W::WAY.first();
     if p == W::WAY.after(first) as u32 {
-        r[p as usize] = byte as u32;
+        r[p as usize] = byte;
         r[ORDER] = order_in(W::WAY, W::WAY.after(p as u8) as u32);
         return quiet(p);
     }

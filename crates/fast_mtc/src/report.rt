@@ -1,10 +1,11 @@
 // The end of a sequence, events and reports: an event is one number, and a report's labels stay in the reader's words.
 ghost use Rattle.std.specs.Prelude.{◌≡◌, true, ◌+◌, ◌*◌, ◌≤◌, Some, None};
+ghost use Rattle.universal.specs.Refusals.{refused, refusal_of};
 ghost use Rattle.labels.specs.Time.{add_frames};
 ghost use Rattle.mtc.specs.Generator.{final};
 ghost use Rattle.mtc.specs.Reader.{raw_of, offset, jumps, sequence_of, event_with};
 ghost use Rattle.fast_mtc.specs.Time.{flat_time};
-ghost use Rattle.fast_mtc.specs.Reader.{nibbles_in, reader_in, flat_report, flat_event, label_or, report_in, flat_maybe_sequence};
+ghost use Rattle.fast_mtc.specs.Reader.{nibbles_in, reader_in, flat_report, flat_event, flat_byte_answer, label_or, report_in, flat_maybe_sequence};
 ghost use Rattle.fast_mtc.specs.Clauses.{SequenceEnded, SteadyLabel, steady};
 
 use crate::generator::flat_direction;
@@ -14,6 +15,7 @@ use crate::words::{
     LOCKED, PREVIOUS, PREVIOUS_MARK, TIME, TIME_MARK, label_word, previous, rate_mark, time,
 };
 use mtc::{Direction, MtcEvent, MtcSequence, MtcTime, event};
+use universal::SysexError;
 
 // The records here are for C, which has no Option and no Result: a flag or a refusal stands beside the value.
 
@@ -65,6 +67,17 @@ pub(crate) fn quiet(p: u32) -> u64
     ensures { result ≡ flat_event (event_with p None) }
 {
     QUIET[p as usize]
+}
+
+// The lowest number of a refused byte; every event is below it.
+pub const REFUSED: u64 = 0x100_0000_0000_0000;
+
+// What a refused byte is answered: the refusal's number in the highest byte.
+#[tactic(auto, unfolding(crate::specs::Reader::flat_byte_answer))]
+pub(crate) fn refused(error: SysexError) -> u64
+    ensures { result ≡ flat_byte_answer (refused (refusal_of error)) }
+{
+    error.number() as u64 * REFUSED
 }
 
 // The report of a number and of the reader that it left.

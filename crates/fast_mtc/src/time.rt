@@ -2,7 +2,7 @@
 ghost use Rattle.universal.specs.Refusals.{answer_of};
 ghost use Rattle.std.specs.Prelude.{◌≡◌, ◌≤◌};
 ghost use Rattle.fast_mtc.specs.Refusal.{refusal_in};
-ghost use Rattle.fast_mtc.specs.Time.{time_of, time_at, time_numbered, flat_time, no_time, frame_of, flat_frame};
+ghost use Rattle.fast_mtc.specs.Time.{time_of, time_at, time_numbered, flat_time, no_time, frame_of, flat_frame, flat_read_frame};
 
 use mtc::{MtcTime, QuarterFrame, TimeCodeType};
 use universal::SysexError;
@@ -27,6 +27,14 @@ pub struct FlatTime {
 pub struct FlatFrame {
     pub piece: u8,
     pub value: u8,
+}
+
+// What a byte is read as: refusal 0 and a quarter frame, or a refusal and zeros.
+#[repr(C)]
+#[derive(Clone, Copy)]
+pub struct FlatReadFrame {
+    pub refusal: u8,
+    pub frame: FlatFrame,
 }
 
 // The data bytes of pieces 0 to 7.
@@ -147,5 +155,22 @@ impl From<QuarterFrame> for FlatFrame {
             piece: q.piece,
             value: q.value,
         }
+    }
+}
+
+// The quarter frame of a byte: no `From`, as neither is a type of this crate.
+#[tactic(auto, unfolding(crate::specs::Time::flat_read_frame))]
+pub fn flat_read_frame(answer: Result<QuarterFrame, SysexError>) -> FlatReadFrame
+    ensures { result ≡ flat_read_frame (answer_of answer) }
+{
+    match answer {
+        Ok(q) => FlatReadFrame {
+            refusal: 0,
+            frame: FlatFrame::from(q),
+        },
+        Err(error) => FlatReadFrame {
+            refusal: error.number(),
+            frame: FlatFrame { piece: 0, value: 0 },
+        },
     }
 }

@@ -1,41 +1,62 @@
--- What a list of quarter frames leaves in a reader, and what it reports: as the code counts it, and what the counts mean. Assumes
+-- What a list of bytes leaves in a reader, and what it reports: as the code counts it, and what the counts mean. Assumes
 -- nothing.
 use Rattle.mtc.specs.declared.reader.MtcSequence.{MtcSequence}
-use Rattle.std.specs.Prelude.{ℕ, ◌+◌, ◌/◌, ◌%◌, cond, List, [], ◌∷◌, map, ◌≡◌, Option, Some, None}
+use Rattle.std.specs.Prelude.{ℕ, ◌+◌, ◌/◌, ◌%◌, cond, leb, List, [], ◌∷◌, map, length, ◌≡◌, Option, Some, None}
 use Rattle.fast_mtc.specs.Generator.{is_set}
 use Rattle.fast_mtc.specs.Reader.{flat_report, report_in}
 use Rattle.fimbrast.specs.declared.feed.FlatFed.{FlatFed}
+use Rattle.mtc.specs.QuarterFrame.{unheard}
 use Rattle.mtc.specs.Reader.{after_byte, event_of}
 use Rattle.mtc.specs.Stream.{byte, after_calls, events}
 use Rattle.mtc.specs.declared.reader.MtcEvent.{MtcEvent}
 use Rattle.mtc.specs.declared.reader.MtcReader.{MtcReader}
+use Rattle.universal.specs.Refusals.{Answer, gives, refused}
 
 -- ---- as it is counted
 
--- A reader after some bytes, its reports, those with a discontinuity, and the last one.
+-- A reader after some bytes, its reports, those with a discontinuity, the last one, and how many bytes were refused.
 pub record Fed : Type 0 where
   pub reader : MtcReader
   pub reports : ℕ
   pub discontinuities : ℕ
   pub last : Option MtcSequence
+  pub refused : ℕ
 
 -- A reader that got nothing yet.
 abbrev pub unfed : MtcReader → Fed
-unfed r = record { reader = r; reports = 0; discontinuities = 0; last = None }
+unfed r = record { reader = r; reports = 0; discontinuities = 0; last = None; refused = 0 }
 
 -- A byte left this reader, and reported this.
 unfoldable pub fed_after : Fed → MtcReader → Option MtcSequence → Fed
-fed_after f r None = record { reader = r; reports = f.reports; discontinuities = f.discontinuities; last = f.last }
+fed_after f r None =
+    record { reader = r; reports = f.reports; discontinuities = f.discontinuities; last = f.last; refused = f.refused }
 fed_after f r (Some s) =
     record {
       reader = r;
       reports = f.reports + 1;
       discontinuities = f.discontinuities + cond s.discontinuity 1 0;
       last = Some s;
+      refused = f.refused;
     }
 
+-- A byte left this reader, and was refused.
+unfoldable pub fed_refused : Fed → MtcReader → Fed
+fed_refused f r =
+    record {
+      reader = r;
+      reports = f.reports;
+      discontinuities = f.discontinuities;
+      last = f.last;
+      refused = f.refused + 1;
+    }
+
+-- A byte left this reader, and was answered this.
+abbrev pub fed_answer : Fed → MtcReader → Answer MtcEvent → Fed
+fed_answer f r (gives e) = fed_after f r e.sequence
+fed_answer f r (refused k) = fed_refused f r
+
 unfoldable pub fed_by : Fed → ℕ → Fed
-fed_by f b = fed_after f (after_byte f.reader b) (event_of f.reader b).sequence
+fed_by f b = fed_answer f (after_byte f.reader b) (event_of f.reader b)
 
 unfoldable pub fed_all : Fed → List ℕ → Fed
 fed_all f [] = f
@@ -51,12 +72,32 @@ flat_fed f =
       reports = f.reports;
       discontinuities = f.discontinuities;
       last = flat_report f.last;
+      refused = f.refused;
     }
 
 -- A report as a number, counted; its third bit is the discontinuity.
+abbrev pub report_counted : FlatFed → ℕ → FlatFed
+report_counted f s =
+    record {
+      reports = f.reports + 1;
+      discontinuities = f.discontinuities + s / 4 % 2;
+      last = s;
+      refused = f.refused;
+    }
+
+-- A refused byte, counted.
+abbrev pub refusal_counted : FlatFed → FlatFed
+refusal_counted f =
+    record {
+      reports = f.reports;
+      discontinuities = f.discontinuities;
+      last = f.last;
+      refused = f.refused + 1;
+    }
+
+-- A byte's number, counted: nothing, a refusal, which is above every event, or a report.
 unfoldable pub flat_counted : FlatFed → ℕ → FlatFed
-flat_counted f s =
-    cond (is_set s) (record { reports = f.reports + 1; discontinuities = f.discontinuities + s / 4 % 2; last = s }) f
+flat_counted f e = cond (is_set (e / 512)) (cond (leb 0x100000000000000 e) (refusal_counted f) (report_counted f (e / 512))) f
 
 -- ---- what it means
 
@@ -85,11 +126,12 @@ unfoldable pub last_report : Option MtcSequence → List MtcEvent → Option Mtc
 last_report l [] = l
 last_report l (e ∷ es) = last_report (later_report l e.sequence) es
 
--- The reader is the one that the calls leave, the counts and the last report are those of the events that they give, and the last
--- report is whole in its number and that reader.
+-- The reader is the one that the calls leave, the counts and the last report are those of the events that they give, as many bytes are
+-- refused as are not heard, and the last report is whole in its number and that reader.
 pub record Feeds (r : MtcReader) (bs : List ℕ) : Type 0 where
   pub reader : (fed r bs).reader ≡ after_calls r (map byte bs)
   pub reports : (fed r bs).reports ≡ total reports_in (events r bs)
   pub discontinuities : (fed r bs).discontinuities ≡ total jump (events r bs)
   pub last : (fed r bs).last ≡ last_report None (events r bs)
+  pub refused : (fed r bs).refused ≡ length (unheard bs)
   pub labels : report_in (fed r bs).reader (flat_report (fed r bs).last) ≡ (fed r bs).last

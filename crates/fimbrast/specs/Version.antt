@@ -2,6 +2,6 @@
 -- makes this file from bindings/rust/Cargo.toml. Assumes nothing.
 use Rattle.std.specs.Prelude.{ℕ, ◌+◌, ◌*◌}
 
--- 0.6.0
+-- 0.7.0
 abbrev pub version : ℕ
-version = 0 * 10000 + 6 * 100 + 0
+version = 0 * 10000 + 7 * 100 + 0

@@ -1,8 +1,8 @@
 // The quarter frame reader.
-ghost use Rattle.std.specs.Prelude.{◌≡◌};
+ghost use Rattle.std.specs.Prelude.{◌≡◌, ◌≤◌};
 ghost use Rattle.mtc.specs.Reader.{fresh, after_byte, event_of, after_full_message};
 ghost use Rattle.fast_mtc.specs.Time.{time_of};
-ghost use Rattle.fast_mtc.specs.Reader.{flat_way, flat_maybe_time, reader_in, reader_fields, flat_event, report_in, flat_maybe_sequence};
+ghost use Rattle.fast_mtc.specs.Reader.{flat_way, flat_maybe_time, reader_in, reader_fields, flat_byte_answer, report_in, flat_maybe_sequence};
 
 use fast_mtc::receive::receive;
 use fast_mtc::report::{FlatMaybeSequence, report_in};
@@ -17,8 +17,8 @@ use mtc::{MtcReader, MtcTime};
 // `fimbrast_report_parts` takes both together.
 pub type FlatReport = u64;
 
-// What a data byte gives, as one number, which comes back in a register: the piece in the lowest byte, the boundary in bit 8, and from
-// bit 9 on the report of the sequence that it ends.
+// What a byte gives, as one number, which comes back in a register: the piece in the lowest byte, the boundary in bit 8, and from bit 9
+// on the report of the sequence that it ends. The highest byte is the refusal, 0 for none; a refused byte gives nothing else.
 pub type FlatEvent = u64;
 
 // `MtcReader::new`: not locked, and stopped.
@@ -28,9 +28,9 @@ pub fn fimbrast_reader_new() -> FlatReader
     FlatReader { words: fresh() }
 }
 
-// `MtcReader::receive`: takes one data byte.
+// `MtcReader::receive`: takes one byte. One of 80H or more is refused by 13, in the number's highest byte, and leaves the reader as it was.
 pub fn fimbrast_receive(reader: &mut [u32; 15], byte: u8) -> FlatEvent
-    ensures { (result ≡ flat_event (event_of (reader_in reader.old) byte)) × (reader_in reader.new ≡ after_byte (reader_in reader.old) byte) }
+    ensures { (result ≡ flat_byte_answer (event_of (reader_in reader.old) byte)) × (reader_in reader.new ≡ after_byte (reader_in reader.old) byte) × (0x80 ≤ byte → reader.new ≡ reader.old) }
 {
     receive(reader, byte)
 }

@@ -4,10 +4,13 @@ ghost use Rattle.mtc.specs.QuarterFrame.{from_byte, to_byte, pieces};
 ghost use Rattle.labels.specs.St12.{frames_per_second, is_valid};
 ghost use Rattle.labels.specs.Time.{new_time, next_valid, frame_count, label_at, add_frames, type_of};
 ghost use Rattle.fast_mtc.specs.Refusal.{refusal_in};
-ghost use Rattle.fast_mtc.specs.Time.{time_of, time_at, flat_time, frame_of, flat_frame};
+ghost use Rattle.fast_mtc.specs.Time.{time_of, time_at, flat_time, frame_of, flat_read_frame};
 
 use fast_mtc::label::{frame_count, number_after, number_at};
-use fast_mtc::time::{EightBytes, FlatFrame, FlatTime, flat_new, time_numbered, time_of_bytes};
+use fast_mtc::time::{
+    EightBytes, FlatFrame, FlatReadFrame, FlatTime, flat_new, flat_read_frame, time_numbered,
+    time_of_bytes,
+};
 use mtc::{MtcTime, QuarterFrame, TimeCodeType};
 
 // The frames of a counting second: 24, 25 or 30.
@@ -61,11 +64,11 @@ pub fn fimbrast_add_frames(time: FlatTime, delta: i32) -> FlatTime
     time_numbered(number_after(MtcTime::from(time), delta))
 }
 
-// `QuarterFrame::from_byte`: the piece and value of a data byte.
-pub fn fimbrast_quarter_frame_read(byte: u8) -> FlatFrame
-    ensures { result ≡ flat_frame (from_byte byte) }
+// `QuarterFrame::from_byte`: the piece and value of a data byte, or refusal 13 and zeros for a byte of 80H or more.
+pub fn fimbrast_quarter_frame_read(byte: u8) -> FlatReadFrame
+    ensures { result ≡ flat_read_frame (from_byte byte) }
 {
-    FlatFrame::from(QuarterFrame::from_byte(byte))
+    flat_read_frame(QuarterFrame::from_byte(byte))
 }
 
 // `QuarterFrame::to_byte`: the data byte of a piece and value.

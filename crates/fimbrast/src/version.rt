@@ -6,12 +6,12 @@ ghost use Rattle.fimbrast.specs.Version.{version};
 pub fn fimbrast_version() -> u32
     ensures { result ≡ version }
 {
-    600
+    700
 }
 
 // The same under a name that has the version. A program refers to it, so that an archive of another version does not link.
-pub fn fimbrast_version_0_6_0() -> u32
+pub fn fimbrast_version_0_7_0() -> u32
     ensures { result ≡ version }
 {
-    600
+    700
 }

@@ -1,8 +1,8 @@
 // The quarter frame reader.
-ghost use Rattle.std.specs.Prelude.{◌≡◌};
+ghost use Rattle.std.specs.Prelude.{◌≡◌, ◌≤◌};
 ghost use Rattle.mtc.specs.Reader.{fresh, after_byte, event_of, after_full_message};
 ghost use Rattle.fast_mtc.specs.Time.{time_of};
-ghost use Rattle.fast_mtc.specs.Reader.{flat_way, flat_maybe_time, reader_in, reader_fields, flat_event, report_in, flat_maybe_sequence};
+ghost use Rattle.fast_mtc.specs.Reader.{flat_way, flat_maybe_time, reader_in, reader_fields, flat_byte_answer, report_in, flat_maybe_sequence};
 
 use fast_mtc::report::FlatMaybeSequence;
 use fast_mtc::time::FlatTime;
@@ -17,10 +17,10 @@ pub extern "C" fn fimbrast_reader_new() -> FlatReader
     fimbrast::reader::fimbrast_reader_new()
 }
 
-// `MtcReader::receive`: takes one data byte.
+// `MtcReader::receive`: takes one byte. One of 80H or more is refused by 13, in the number's highest byte, and leaves the reader as it was.
 #[unsafe(no_mangle)]
 pub extern "C" fn fimbrast_receive(reader: &mut [u32; 15], byte: u8) -> FlatEvent
-    ensures { (result ≡ flat_event (event_of (reader_in reader.old) byte)) × (reader_in reader.new ≡ after_byte (reader_in reader.old) byte) }
+    ensures { (result ≡ flat_byte_answer (event_of (reader_in reader.old) byte)) × (reader_in reader.new ≡ after_byte (reader_in reader.old) byte) × (0x80 ≤ byte → reader.new ≡ reader.old) }
 {
     fimbrast::reader::fimbrast_receive(reader, byte)
 }

@@ -4,9 +4,9 @@ ghost use Rattle.mtc.specs.QuarterFrame.{from_byte, to_byte, pieces};
 ghost use Rattle.labels.specs.St12.{frames_per_second, is_valid};
 ghost use Rattle.labels.specs.Time.{new_time, next_valid, frame_count, label_at, add_frames, type_of};
 ghost use Rattle.fast_mtc.specs.Refusal.{refusal_in};
-ghost use Rattle.fast_mtc.specs.Time.{time_of, time_at, flat_time, frame_of, flat_frame};
+ghost use Rattle.fast_mtc.specs.Time.{time_of, time_at, flat_time, frame_of, flat_read_frame};
 
-use fast_mtc::time::{EightBytes, FlatFrame, FlatTime};
+use fast_mtc::time::{EightBytes, FlatFrame, FlatReadFrame, FlatTime};
 
 // The frames of a counting second: 24, 25 or 30.
 #[unsafe(no_mangle)]
@@ -64,10 +64,10 @@ pub extern "C" fn fimbrast_add_frames(time: FlatTime, delta: i32) -> FlatTime
     fimbrast::time::fimbrast_add_frames(time, delta)
 }
 
-// `QuarterFrame::from_byte`: the piece and value of a data byte.
+// `QuarterFrame::from_byte`: the piece and value of a data byte, or refusal 13 and zeros for a byte of 80H or more.
 #[unsafe(no_mangle)]
-pub extern "C" fn fimbrast_quarter_frame_read(byte: u8) -> FlatFrame
-    ensures { result ≡ flat_frame (from_byte byte) }
+pub extern "C" fn fimbrast_quarter_frame_read(byte: u8) -> FlatReadFrame
+    ensures { result ≡ flat_read_frame (from_byte byte) }
 {
     fimbrast::time::fimbrast_quarter_frame_read(byte)
 }

@@ -12,8 +12,8 @@ pub extern "C" fn fimbrast_version() -> u32
 
 // The same under a name that has the version. A program refers to it, so that an archive of another version does not link.
 #[unsafe(no_mangle)]
-pub extern "C" fn fimbrast_version_0_6_0() -> u32
+pub extern "C" fn fimbrast_version_0_7_0() -> u32
     ensures { result ≡ version }
 {
-    fimbrast::version::fimbrast_version_0_6_0()
+    fimbrast::version::fimbrast_version_0_7_0()
 }

@@ -6,11 +6,12 @@ use crate::times::label;
 use mmc::MmcCommand;
 use mtc::{Direction, MtcGenerator, MtcTime, TimeCodeType};
 
-// A call of an alphabet of three: piece 0, piece 7, a full message.
+// A call of an alphabet of four: piece 0, piece 7, a status byte, a full message.
 fn letter(number: u64) -> Call {
     match number {
         0 => Call::Byte(0x00),
         1 => Call::Byte(0x76),
+        2 => Call::Byte(0xF6),
         _ => Call::FullMessage(label(10, 20, 30, 12, TimeCodeType::Fps25)),
     }
 }
@@ -21,8 +22,8 @@ fn short_list(number: u64) -> Listener {
     let mut rest = number;
     while rest > 0 {
         let less = rest - 1;
-        listener.hear(letter(less % 3));
-        rest = less / 3;
+        listener.take(letter(less % 4));
+        rest = less / 4;
     }
     listener
 }
@@ -65,7 +66,7 @@ fn long_list(number: u64) -> Listener {
     let mut listener = Listener::new();
     for place in 0..7 + seed % 32 {
         seed = next(seed);
-        listener.hear(any_call(seed, place, direction));
+        listener.take(any_call(seed, place, direction));
     }
     listener
 }
@@ -129,9 +130,9 @@ fn lists<F: Fn(u64) -> Listener>(count: u64, list: F) -> Tally
     tally
 }
 
-// Readers reached by every list of up to four calls: 1 + 3 + 9 + 27 + 81 lists.
+// Readers reached by every list of up to four calls: 1 + 4 + 16 + 64 + 256 lists.
 pub(crate) fn short_lists() -> Tally {
-    lists(121, short_list)
+    lists(341, short_list)
 }
 
 // Readers reached by longer lists.

@@ -1,4 +1,4 @@
-// Quarter frames, full messages and user bits: document 01's instances and RP-004/008's published examples.
+// Quarter frames, full messages and user bits: document 01's instances, those of document 02's #105, and RP-004/008's published examples.
 ghost use Rattle.std.specs.Iterator.{IsFinite};
 
 use crate::stream::all_answered;
@@ -6,9 +6,10 @@ use crate::strings::is_message;
 use crate::tally::Tally;
 use crate::times::label;
 use mtc::{
-    Direction, FullMessage, MtcGenerator, MtcReader, MtcSequence, MtcTime, QuarterFrame,
+    Direction, FullMessage, MtcEvent, MtcGenerator, MtcReader, MtcSequence, MtcTime, QuarterFrame,
     TimeCodeType, UserBits,
 };
+use universal::SysexError;
 
 // The eight data bytes of 01:37:52:16 at rate 3.
 const PIECES: [u8; 8] = [0x00, 0x11, 0x24, 0x33, 0x45, 0x52, 0x61, 0x76];
@@ -25,7 +26,7 @@ fn reader_after<'a, I: Iterator<Item = &'a u8>>(bytes: I) -> MtcReader
 {
     let mut reader = MtcReader::new();
     for byte in bytes {
-        reader.receive(*byte);
+        let _ = reader.receive(*byte);
     }
     reader
 }
@@ -51,14 +52,56 @@ fn late() -> bool {
         reader_after([0x76, 0x61].iter()),
         generator,
         16,
+        false,
         sixteenth_only,
     )
+}
+
+// The event reports.
+fn reports(answer: Result<MtcEvent, SysexError>) -> bool {
+    matches!(answer, Ok(event) if event.sequence.is_some())
 }
 
 // After pieces 7 down to 1 the first byte of a forward stream ends a sequence.
 fn first_reports() -> bool {
     let mut reader = reader_after(PIECES[1..].iter().rev());
-    matches!(reader.receive(0x00).sequence, Some(_))
+    reports(reader.receive(0x00))
+}
+
+// F6H after seven good pieces is 13, and the eighth still reports (document 02, #105).
+fn status_passes() -> bool {
+    let mut reader = reader_after(PIECES[..7].iter());
+    matches!(reader.receive(0xF6), Err(SysexError::StatusByte)) && reports(reader.receive(0x76))
+}
+
+// After 76 61 H with C0H between, a forward stream first reports at its sixteenth byte, also with status bytes among its own.
+fn late_with_status() -> bool {
+    let generator = MtcGenerator::new(at_frame(16), Direction::Forward);
+    all_answered(
+        reader_after([0x76, 0xC0, 0x61].iter()),
+        generator,
+        16,
+        true,
+        sixteenth_only,
+    )
+}
+
+// C0H among pieces 7 down to 1 does not keep the first byte from its report, and 91H in the place of 11H does not make it.
+fn first_with_status() -> bool {
+    let mut kept = reader_after([0x76, 0x61, 0x52, 0xC0, 0x45, 0x33, 0x24, 0x11].iter());
+    let mut missing = reader_after([0x76, 0x61, 0x52, 0x45, 0x33, 0x24, 0x91].iter());
+    reports(kept.receive(0x00)) && !reports(missing.receive(0x00))
+}
+
+// A byte of 80H does not set a reader running that was stopped, and 7FH does.
+fn stays_stopped() -> bool {
+    let mut reader = MtcReader::new();
+    reader.full_message(FullMessage {
+        device_id: 0x7F,
+        time: at_frame(16),
+    });
+    let refused = reader.receive(0x80).is_err() && !reader.is_running();
+    refused && reader.receive(0x7F).is_ok() && reader.is_running()
 }
 
 fn full_message() -> bool {
@@ -87,6 +130,10 @@ pub(crate) fn quarter_frames() -> Tally {
         current_is(reader_after(PIECES.iter().rev()), at_frame(15)),
         late(),
         first_reports(),
+        status_passes(),
+        late_with_status(),
+        first_with_status(),
+        stays_stopped(),
         full_message(),
         user_bits(),
     ];

@@ -1,15 +1,17 @@
-// A reader that has heard some calls gets the next twenty-four bytes of a generator: what it answers is held to demand 3.
+// A reader that has got some calls gets the next twenty-four bytes of a generator, alone and with status bytes among them: what it answers
+// is held to demand 3.
 use crate::times::label;
 use mtc::{Direction, FullMessage, MtcGenerator, MtcReader, MtcSequence, MtcTime, TimeCodeType};
+use universal::SysexError;
 
-// What a reader is given: a data byte, or a full message with this time.
+// What a reader is given: a byte, or a full message with this time.
 #[derive(Clone, Copy)]
 pub(crate) enum Call {
     Byte(u8),
     FullMessage(MtcTime),
 }
 
-// A reader, and the pieces of the bytes since its last full message, the newest last: seven at most.
+// A reader, and the pieces of the bytes that it heard since its last full message, the newest last: seven at most.
 #[derive(Clone, Copy)]
 pub(crate) struct Listener {
     reader: MtcReader,
@@ -44,12 +46,14 @@ impl Listener {
         }
     }
 
-    pub(crate) fn hear(&mut self, call: Call) {
+    pub(crate) fn take(&mut self, call: Call) {
         match call {
             Call::Byte(byte) => {
-                self.reader.receive(byte);
-                self.pieces.rotate_left(1);
-                self.pieces[6] = Some(byte / 16 % 8);
+                // A refused byte is none of the last seven.
+                if self.reader.receive(byte).is_ok() {
+                    self.pieces.rotate_left(1);
+                    self.pieces[6] = Some(byte / 16);
+                }
             }
             Call::FullMessage(time) => {
                 self.reader.full_message(FullMessage { device_id: 0, time });
@@ -103,11 +107,18 @@ impl Expected {
     }
 }
 
-// Whether this many bytes of a generator, given to a reader, are all sent and answered rightly: each by its number from 1 on.
+// A status byte that slips in is 13.
+fn is_refused(reader: &mut MtcReader, byte: u8) -> bool {
+    matches!(reader.receive(byte), Err(SysexError::StatusByte))
+}
+
+// Whether this many bytes of a generator, given to a reader, are all sent and answered rightly: each by its number from 1 on. Where it is
+// told so, a status byte slips in before each of them.
 pub(crate) fn all_answered<F: Fn(u8, Option<MtcSequence>) -> bool>(
     mut reader: MtcReader,
     mut generator: MtcGenerator,
     count: u8,
+    slips: bool,
     right: F,
 ) -> bool
     requires { F.IsAlwaysCallable right }
@@ -119,14 +130,21 @@ pub(crate) fn all_answered<F: Fn(u8, Option<MtcSequence>) -> bool>(
             Ok(byte) => byte,
             Err(_) => return false,
         };
-        if !right(number, reader.receive(byte).sequence) {
+        if slips && !is_refused(&mut reader, 0x80 | byte.wrapping_add(number)) {
+            return false;
+        }
+        let event = match reader.receive(byte) {
+            Ok(event) => event,
+            Err(_) => return false,
+        };
+        if !right(number, event.sequence) {
             return false;
         }
     }
     true
 }
 
-// Whether all twenty-four bytes of a generator are answered as demand 3 says of T and a direction.
+// Whether all twenty-four bytes of a generator are answered as demand 3 says of T and a direction, alone and with status bytes among them.
 pub(crate) fn follows(
     listener: &Listener,
     generator: MtcGenerator,
@@ -138,7 +156,17 @@ pub(crate) fn follows(
         direction,
         first: listener.may_report_first(direction),
     };
-    all_answered(listener.reader, generator, 24, |number, sequence| {
+    as_expected(listener.reader, generator, expected, false)
+        && as_expected(listener.reader, generator, expected, true)
+}
+
+fn as_expected(
+    reader: MtcReader,
+    generator: MtcGenerator,
+    expected: Expected,
+    slips: bool,
+) -> bool {
+    all_answered(reader, generator, 24, slips, |number, sequence| {
         expected.allows(number, sequence)
     })
 }

@@ -14,10 +14,13 @@ fn say_report(rt: &impl Print, report: MtcSequence) {
 // A data byte goes into the reader, which may report.
 fn receive(rt: &impl Print, reader: &mut MtcReader, data: u8) {
     say!(rt; " {data:02X}");
-    let stepped = reader.step(data);
-    *reader = stepped.reader;
-    if let Some(report) = stepped.event.sequence {
-        say_report(rt, report);
+    match reader.receive(data) {
+        Err(error) => say!(rt; "  {}\n", Refusal(error)),
+        Ok(event) => {
+            if let Some(report) = event.sequence {
+                say_report(rt, report);
+            }
+        }
     }
 }
 

@@ -17,6 +17,7 @@ fn words(error: SysexError) -> &'static str {
         SysexError::ItemLimit => "more than 256 items",
         SysexError::NoField => "no field under this name",
         SysexError::Track => "more than nine bytes of tracks",
+        SysexError::StatusByte => "a quarter frame byte of 80H or more",
     }
 }
 

@@ -1,8 +1,9 @@
 -- The laws that readers and upper crates cite: quarter frames, the full message and user bits, and what they mean by RP-004/008;
 -- the stream law. Assumes nothing.
 use Rattle.std.specs.Prelude.{Option}
-use Prim.Native.Nat.{ℕ, ◌+◌, ◌*◌, ◌/◌, ◌%◌, ◌<◌}
+use Prim.Native.Nat.{ℕ, ◌+◌, ◌*◌, ◌/◌, ◌%◌, ◌≤◌, ◌<◌}
 use mathlib.Core.Path.{◌≡◌, refl}
+use mathlib.Core.Bool.{not}
 use mathlib.Core.List.{List, [], ◌∷◌, map}
 use lib.Dec.{T}
 use Rattle.labels.specs.St12.{is_valid, label_before}
@@ -13,11 +14,15 @@ use Rattle.mtc.specs.declared.generator.Direction.TheVariants.{Forward, Reverse}
 use Rattle.mtc.specs.declared.generator.MtcGenerator.{MtcGenerator}
 use Rattle.mtc.specs.declared.reader.MtcReader.{MtcReader}
 use Rattle.mtc.specs.Generator.{final, sequence_frames, started, GeneratorCall, after_generator_calls}
-use Rattle.mtc.specs.QuarterFrame.{piece_of, quarter_frame, from_byte, to_byte, masked, pieces}
-use Rattle.mtc.specs.Reader.{fresh, piece_fits, is_sound, raw_of, sequence_of_label, after_byte, event_of, after_full_message}
+use Rattle.mtc.specs.QuarterFrame.{piece_of, quarter_frame, is_heard, heard, from_byte, to_byte, masked, pieces}
+use Rattle.mtc.specs.declared.quarter_frame.QuarterFrame.{QuarterFrame}
+use Rattle.mtc.specs.Reader.{fresh, piece_fits, is_sound, raw_of, sequence_of_label, after_heard, event_heard, after_byte, after_full_message}
 use Rattle.mtc.specs.Ready.{Ready, NotAgainst, eight_pieces, label_of_bytes, ReadsLabel}
 use Rattle.mtc.specs.Rp004.{data_byte, InWidths, data_bytes, sequence, next_label, sequences_from, is_boundary, current_time}
-use Rattle.mtc.specs.Stream.{Call, after_call, after_calls, events, bytes_sent, run_from, StreamLaw, SentLaw}
+use Rattle.mtc.specs.SourceReader.{after_source_calls, source_events, is_heard_call, heard_calls}
+use Rattle.mtc.specs.Stream.{Call, after_call, after_calls, byte_answers, events_among, events, bytes_sent, run_from, Answered, Answers, StreamLaw, SentLaw}
+use Rattle.std.specs.List.{list_all}
+use Rattle.universal.specs.Refusals.{gives, refused, refusal}
 use Rattle.mtc.proofs.GeneratorCalls
 -- A generator's next byte, running and stopped.
 pub use Rattle.mtc.proofs.GeneratorCalls.{sends, stopped_refuses}
@@ -30,6 +35,9 @@ pub use Rattle.mtc.proofs.Sequences.SoundCalls.{as_is, byte_sound}
 -- message of any label is read as it, what is written reads back, and reading accepts the practice's layouts and no other.
 pub use Rattle.mtc.proofs.Messages.MessageBytes.{full_message_bytes_lem, full_message_device, full_message_invalid, full_message_fits, full_message_short, full_message_read, full_message_back, full_message_layout, full_message_reads, are_group_bytes, user_bits_bytes_lem, user_bits_fits, user_bits_short, user_bits_back, user_bits_layout, user_bits_reads}
 use Rattle.mtc.proofs.QuarterFrames
+use Rattle.mtc.proofs.Sequences.HeardBytes
+-- A byte that is not heard is 13, and leaves any reader as it was, also one that no calls leave. A heard one gives an event.
+pub use Rattle.mtc.proofs.Sequences.HeardBytes.{refused_byte, heard_byte}
 use Rattle.mtc.proofs.Sequences.Sending
 use Rattle.mtc.proofs.Sequences.Streams
 -- A valid label's numbers fit their widths.
@@ -41,16 +49,23 @@ pub use Rattle.mtc.proofs.Widths.{valid_in_widths}
 pub byte_written : (n d : ℕ) → n < 8 → d < 16 → to_byte (quarter_frame n d) ≡ data_byte n d
 byte_written = QuarterFrames.byte_written
 
-pub byte_read : (n d : ℕ) → n < 8 → d < 16 → from_byte (data_byte n d) ≡ quarter_frame n d
+pub byte_read : (n d : ℕ) → n < 8 → d < 16 → from_byte (data_byte n d) ≡ gives (quarter_frame n d)
 byte_read = QuarterFrames.byte_read
 
--- Every byte to 7FH is the data byte of what it is read as.
-pub byte_again : (b : ℕ) → b < 128 → data_byte (from_byte b).piece (from_byte b).value ≡ b
+-- No other byte is read: one that is read is below 80H, and is the data byte of what it is read as.
+pub byte_again : (b : ℕ) (q : QuarterFrame) → from_byte b ≡ gives q → (data_byte q.piece q.value ≡ b) × (b < 128)
 byte_again = QuarterFrames.byte_again
 
--- More is taken than the page has: a byte from 80H on is read as the same byte without bit 7.
-pub high_bit_ignored : (b : ℕ) → from_byte (b + 128) ≡ from_byte b
-high_bit_ignored = QuarterFrames.high_bit_ignored
+-- A byte of 80H or more is 13.
+pub status_refused : (b : ℕ) → 128 ≤ b → from_byte b ≡ refused (refusal 13)
+status_refused = QuarterFrames.status_refused
+
+-- A byte below 80H is heard, and one of 80H or more is not.
+pub below_heard : (b : ℕ) → b < 128 → T (is_heard b)
+below_heard = QuarterFrames.below_heard
+
+pub status_unheard : (b : ℕ) → 128 ≤ b → T (not (is_heard b))
+status_unheard = QuarterFrames.status_unheard
 
 -- A label's data bytes one by one.
 pub pieces_each : (t : MtcTime) → pieces t
@@ -85,11 +100,11 @@ pub sends_practice : (g : MtcGenerator) (t : MtcTime) (d : Direction) (n : ℕ) 
 sends_practice = QuarterFrames.sends_practice
 
 -- The event of a data byte has its piece.
-pub event_piece : (r : MtcReader) (n d : ℕ) → n < 8 → d < 16 → (event_of r (data_byte n d)).piece ≡ n
+pub event_piece : (r : MtcReader) (n d : ℕ) → n < 8 → d < 16 → (event_heard r (data_byte n d)).piece ≡ n
 event_piece = QuarterFrames.event_piece
 
 -- Every event has RP-004/008's boundary mark of its piece.
-pub event_boundary : (r : MtcReader) (b : ℕ) → (event_of r b).boundary ≡ is_boundary (event_of r b).piece
+pub event_boundary : (r : MtcReader) (b : ℕ) → (event_heard r b).boundary ≡ is_boundary (event_heard r b).piece
 event_boundary = QuarterFrames.event_boundary
 
 -- Forward the current time that a report of a valid label has is RP-004/008's.
@@ -100,14 +115,20 @@ current_forward = QuarterFrames.current_forward
 pub current_reverse : (t : MtcTime) (p : Option MtcTime) → T (is_valid t) → (sequence_of_label t Reverse p).current ≡ label_before t
 current_reverse = QuarterFrames.current_reverse
 
--- A reader that is ready for a sequence reads it, of every label whose numbers fit their widths, and is ready for the next one.
-pub sequence_read : (r : MtcReader) (d : Direction) (t : MtcTime) → Ready d r → InWidths t → ReadsLabel d (sequence d t) t r
+-- A reader that is ready for a sequence reads it, of every label whose numbers fit their widths, and is ready for the next one; also
+-- where status bytes slip in among its bytes, which are all heard.
+pub sequence_read : (r : MtcReader) (d : Direction) (t : MtcTime) (bs : List ℕ) → Ready d r → InWidths t → heard bs ≡ sequence d t
+    → ReadsLabel d bs t r
 sequence_read = QuarterFrames.sequence_read
+
+-- The page's bytes are all heard, so that it reads them alone too.
+pub sequence_heard : (d : Direction) (t : MtcTime) → InWidths t → heard (sequence d t) ≡ sequence d t
+sequence_heard = QuarterFrames.sequence_heard
 
 -- More is taken than the page has: it reads eight pieces in the direction's order, whatever their nibbles are, as the label that
 -- these make.
-pub any_nibbles_read : (r : MtcReader) (d : Direction) (bs : List ℕ) → Ready d r → map piece_of bs ≡ eight_pieces d
-    → ReadsLabel d bs (label_of_bytes d bs) r
+pub any_nibbles_read : (r : MtcReader) (d : Direction) (bs : List ℕ) → Ready d r → map piece_of (heard bs) ≡ eight_pieces d
+    → ReadsLabel d bs (label_of_bytes d (heard bs)) r
 any_nibbles_read = QuarterFrames.any_nibbles_read
 
 -- In that label the reserved bits of pieces 1, 3, 5 and 7 do not count: 1FH for piece 1 is taken as 11H.
@@ -123,10 +144,44 @@ fresh_ready = QuarterFrames.fresh_ready
 pub full_ready : (r : MtcReader) (d : Direction) (t : MtcTime) → Sound r → NotAgainst d r.direction → Ready d (after_full_message r t)
 full_ready = QuarterFrames.full_ready
 
--- So is one that just got the direction's last piece, whatever calls came before it since it was fresh. It is ready for forward
+-- So is one that just heard the direction's last piece, whatever calls came before it since it was fresh. It is ready for forward
 -- after 76H alone, and right after piece 7 in reverse.
-pub last_piece_ready : (cs : List Call) (b : ℕ) (d : Direction) → piece_of b ≡ final d → Ready d (after_byte (after_calls fresh cs) b)
+pub last_piece_ready : (cs : List Call) (b : ℕ) (d : Direction) → T (is_heard b) → piece_of b ≡ final d
+    → Ready d (after_byte (after_calls fresh cs) b)
 last_piece_ready = QuarterFrames.last_piece_ready
+
+-- ---- bytes that are heard, and those that are not (document 02, #105)
+
+-- In a list each byte that is not heard is answered 13, and each other one by its event.
+pub each_answered : (r : MtcReader) (bs : List ℕ) → Answered bs (events r bs) (byte_answers r bs)
+each_answered = HeardBytes.each_answered
+
+-- The events are what the source's reader gives of the bytes that are heard, and the reader that calls leave is the one that the source's
+-- reader leaves on those that are heard: so the others count nowhere.
+pub events_of_heard : (r : MtcReader) (bs : List ℕ) → events r bs ≡ source_events r (heard bs)
+events_of_heard = HeardBytes.events_of_heard
+
+pub left_by_heard : (r : MtcReader) (cs : List Call) → after_calls r cs ≡ after_source_calls r (heard_calls cs)
+left_by_heard = HeardBytes.left_by_heard
+
+-- The source's reader takes a byte of 80H or more as the same byte without bit 7.
+pub high_bit_ignored : (r : MtcReader) (b : ℕ) → (event_heard r (b + 128) ≡ event_heard r b) × (after_heard r (b + 128) ≡ after_heard r b)
+high_bit_ignored = HeardBytes.high_bit_ignored
+
+-- On bytes below 80H both readers are one: as before.
+pub as_the_source : (r : MtcReader) (bs : List ℕ) → T (list_all is_heard bs) → byte_answers r bs ≡ map gives (source_events r bs)
+as_the_source = HeardBytes.as_the_source
+
+pub left_as_the_source : (r : MtcReader) (cs : List Call) → T (list_all is_heard_call cs) → after_calls r cs ≡ after_source_calls r cs
+left_as_the_source = HeardBytes.left_as_the_source
+
+-- Every generator's bytes are heard, whatever its record is.
+pub sent_heard : (g : MtcGenerator) (n : ℕ) → T (list_all is_heard (bytes_sent n g))
+sent_heard = HeardBytes.sent_heard
+
+-- Where all are heard, none is left out.
+pub all_heard : (bs : List ℕ) → T (list_all is_heard bs) → heard bs ≡ bs
+all_heard = HeardBytes.all_heard
 
 -- ---- streams
 
@@ -135,9 +190,14 @@ last_piece_ready = QuarterFrames.last_piece_ready
 pub sent_law : SentLaw
 sent_law = Sending.sent_law
 
--- The answers of a reader to these twenty-four bytes, after any list of calls from fresh on.
+-- The answers of a reader to these twenty-four bytes, after any list of calls from fresh on, with any bytes that are not heard among them.
 pub stream_law : StreamLaw
 stream_law = Streams.stream_law
+
+-- The same of the twenty-four alone.
+pub stream_alone : (calls : List Call) (g : MtcGenerator) (t : MtcTime) (d : Direction) → T (is_valid t)
+    → Answers calls d t (events (after_calls fresh calls) (bytes_sent 24 (run_from g t d)))
+stream_alone = Streams.stream_alone
 
 -- No list of calls leaves a generator's last piece above 7 where it was not above 7 before, and so none after it was started.
 pub generator_calls : (g : MtcGenerator) → T (piece_fits g.last) → (cs : List GeneratorCall)
@@ -160,10 +220,14 @@ calls_more r c cs = refl
 
 -- No call leaves the reader as it was, and no byte gives an event.
 pub calls_none : (r : MtcReader) → (after_calls r [] ≡ r) × (events r [] ≡ [])
-unfolding after_calls events
+unfolding after_calls byte_answers events_among
 calls_none r = (refl, refl)
 
--- The event of one more byte stands before those of the bytes after it.
-pub events_more : (r : MtcReader) (b : ℕ) (bs : List ℕ) → events r (b ∷ bs) ≡ event_of r b ∷ events (after_byte r b) bs
-unfolding events
-events_more r b bs = refl
+-- The event of one more byte stands before those of the bytes after it; one that is not heard gives none.
+pub events_more : (r : MtcReader) (b : ℕ) (bs : List ℕ) → T (is_heard b) → events r (b ∷ bs) ≡ event_heard r b ∷ events (after_heard r b) bs
+unfolding byte_answers events_among
+events_more r b bs h = let x = heard_byte r b h in rw (x.0, x.1)
+
+pub events_same : (r : MtcReader) (b : ℕ) (bs : List ℕ) → T (not (is_heard b)) → events r (b ∷ bs) ≡ events r bs
+unfolding byte_answers events_among
+events_same r b bs h = let x = refused_byte r b h in rw (x.0, x.1)

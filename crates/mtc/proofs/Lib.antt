@@ -1,4 +1,5 @@
 mod GeneratorCalls
+pub mod Instances
 pub mod Laws
 mod Messages
 mod QuarterFrames

@@ -2,17 +2,18 @@
 -- are RP-004/008's, where the label's counts fit their widths, so of every valid one; what is sent and read beyond that; and which
 -- readers are ready. Assumes nothing.
 use Rattle.std.specs.Prelude.{Option, Some, None}
-use Prim.Native.Nat.{ℕ, zero, suc, ◌+◌, ◌*◌, ◌/◌, ◌%◌, ◌<◌}
+use Prim.Native.Nat.{ℕ, zero, suc, ◌+◌, ◌*◌, ◌/◌, ◌%◌, ◌≤◌, ◌<◌}
+use mathlib.Core.Bool.{Bool, true, false, not, cond}
 use mathlib.Core.List.{List, [], ◌∷◌, ◌++◌, map, reverse, append-nil}
 use mathlib.Core.Logic.{inl}
 use mathlib.Core.Path.{◌≡◌, refl, sym, ◌∙◌, ap, ap₂, subst}
 use native.Mathlib.Omega.{arith}
-use lib.Dec.{T}
+use lib.Dec.{T, leb→le, le→leb}
 use lib.IntN.{pos, negsuc}
 use lib.ListN.{length, get_or}
 use Rattle.mtc.specs.Generator.{first, final, sequence_frames, sent_at}
-use Rattle.mtc.specs.QuarterFrame.{piece_of, value_of, quarter_frame, from_byte, to_byte, pieces, masked}
-use Rattle.mtc.specs.Reader.{fresh, Sound, or_fresh, control, raw_of, sequence_of_label, after_byte, event_of, after_full_message}
+use Rattle.mtc.specs.QuarterFrame.{piece_of, value_of, quarter_frame, is_heard, heard, from_byte, to_byte, pieces, masked}
+use Rattle.mtc.specs.Reader.{fresh, Sound, or_fresh, control, raw_of, sequence_of_label, event_heard, after_byte, after_full_message}
 use Rattle.mtc.specs.Ready.{Starts, Ready, NotAgainst, eight_pieces, label_of_bytes, after_bytes, ReadsLabel}
 use Rattle.mtc.specs.Rp004.{data_byte, type_code, InWidths, data_bytes, sequence, next_label, sequences_from, is_boundary, current_time}
 use Rattle.labels.specs.St12.{label, is_valid, label_after, label_before}
@@ -22,7 +23,13 @@ use Rattle.labels.specs.declared.time.MtcTime.{MtcTime}
 use Rattle.mtc.specs.declared.generator.Direction.{Direction}
 use Rattle.mtc.specs.declared.generator.Direction.TheVariants.{Forward, Reverse}
 use Rattle.mtc.specs.declared.generator.MtcGenerator.{MtcGenerator}
+use Rattle.mtc.specs.declared.quarter_frame.QuarterFrame.{QuarterFrame}
 use Rattle.mtc.specs.declared.reader.MtcReader.{MtcReader}
+use Rattle.universal.specs.Refusals.{gives, refused, refusal}
+use Rattle.universal.proofs.Tests.{holds_true}
+use Rattle.std.specs.List.{list_all}
+use borrow.Author.Tests.{lt-leb}
+use Rattle.mtc.proofs.Sequences.HeardBytes.{heard_byte, all_heard, sent_heard}
 use Rattle.mtc.proofs.Sequences.LabelNibbles.{bits_code, nibble, Values, nibbles_in_order, assembled, values, split, split_pieces, raw_values}
 use Rattle.labels.proofs.Laws.{moved_valid, moved_by_sum, moved_by_one, moved_back_one}
 use Rattle.mtc.proofs.Widths.{valid_in_widths}
@@ -41,22 +48,35 @@ byte_written n d h k =
     let j : d % 16 ≡ d = omega arith in
     ap₂ data_byte i j
 
-pub byte_read : (n d : ℕ) → n < 8 → d < 16 → from_byte (data_byte n d) ≡ quarter_frame n d
+pub byte_read : (n d : ℕ) → n < 8 → d < 16 → from_byte (data_byte n d) ≡ gives (quarter_frame n d)
 byte_read n d h k =
+    let l : T (is_heard (data_byte n d)) = le→leb (data_byte n d) 0x7F (omega arith) in
     let i : data_byte n d / 16 % 8 ≡ n = omega arith in
     let j : data_byte n d % 16 ≡ d = omega arith in
-    ap₂ quarter_frame i j
+    rw (holds_true (is_heard (data_byte n d)) l) (ap gives (ap₂ quarter_frame i j))
 
--- Every byte to 7FH is the data byte of what it is read as.
-pub byte_again : (b : ℕ) → b < 128 → data_byte (from_byte b).piece (from_byte b).value ≡ b
-byte_again b h = omega arith
+-- Every byte that is read is the data byte of what it is read as.
+pub byte_again : (b : ℕ) (q : QuarterFrame) → from_byte b ≡ gives q → (data_byte q.piece q.value ≡ b) × (b < 128)
+byte_again b q = go (is_heard b) refl
+  where
+    go : (t : Bool) → is_heard b ≡ t → cond t (gives (quarter_frame (piece_of b) (value_of b))) (refused (refusal 13)) ≡ gives q
+        → (data_byte q.piece q.value ≡ b) × (b < 128)
+    go true h e =
+        let l : b ≤ 0x7F = leb→le b 0x7F (rw h tt) in
+        let same : quarter_frame (piece_of b) (value_of b) ≡ q = cc e in
+        (rw (← same) (omega arith), omega arith)
+    go false h e = absurd (cc e)
 
--- A byte from 80H on is read as the same byte without bit 7.
-pub high_bit_ignored : (b : ℕ) → from_byte (b + 128) ≡ from_byte b
-high_bit_ignored b =
-    let i : (b + 128) / 16 % 8 ≡ b / 16 % 8 = omega arith in
-    let j : (b + 128) % 16 ≡ b % 16 = omega arith in
-    ap₂ quarter_frame i j
+-- A byte of 80H or more is refused.
+pub status_refused : (b : ℕ) → 128 ≤ b → from_byte b ≡ refused (refusal 13)
+status_refused b h = rw (lt-leb b 0x7F (omega arith))
+
+-- A byte below it is heard, and one of it or more is not.
+pub below_heard : (b : ℕ) → b < 128 → T (is_heard b)
+below_heard b h = le→leb b 0x7F (omega arith)
+
+pub status_unheard : (b : ℕ) → 128 ≤ b → T (not (is_heard b))
+status_unheard b h = rw (lt-leb b 0x7F (omega arith)) tt
 
 -- ---- the pieces of a label
 
@@ -164,17 +184,17 @@ pub current_reverse : (t : MtcTime) (p : Option MtcTime) → T (is_valid t) → 
 current_reverse t p h = moved_back_one t h
 
 -- The event of a data byte has its piece.
-pub event_piece : (r : MtcReader) (n d : ℕ) → n < 8 → d < 16 → (event_of r (data_byte n d)).piece ≡ n
+pub event_piece : (r : MtcReader) (n d : ℕ) → n < 8 → d < 16 → (event_heard r (data_byte n d)).piece ≡ n
 event_piece r n d h k = omega arith
 
 -- Every event has RP-004/008's boundary mark of its piece.
-pub event_boundary : (r : MtcReader) (b : ℕ) → (event_of r b).boundary ≡ is_boundary (event_of r b).piece
+pub event_boundary : (r : MtcReader) (b : ℕ) → (event_heard r b).boundary ≡ is_boundary (event_heard r b).piece
 event_boundary r b = refl
 
 -- ---- eight bytes, read
 
--- Bytes of eight pieces in a direction's order are read as the label of their values.
-module _ (r : MtcReader) (d : Direction) (bs : List ℕ) (v : Values) (h : Ready d r) (e : map split bs ≡ nibbles_in_order d v) where
+-- Bytes, those heard among which are of eight pieces in a direction's order, are read as the label of their values.
+module _ (r : MtcReader) (d : Direction) (bs : List ℕ) (v : Values) (h : Ready d r) (e : map split (heard bs) ≡ nibbles_in_order d v) where
   reports_are : reports_of (events r bs) ≡ silent 7 ++ (Some (sequence_of_label (assembled v) d r.previous) ∷ [])
   unfolding run
   reports_are =
@@ -198,10 +218,19 @@ module _ (r : MtcReader) (d : Direction) (bs : List ℕ) (v : Values) (h : Ready
       }
 
 -- A reader that is ready for a sequence reads it.
-pub sequence_read : (r : MtcReader) (d : Direction) (t : MtcTime) → Ready d r → InWidths t → ReadsLabel d (sequence d t) t r
-sequence_read r d t h w =
-    let e : map split (sequence d t) ≡ nibbles_in_order d (values t) = ap (map split) (sym (in_practice t d w)) ∙ split_pieces t d in
-    subst (λ (u : MtcTime). ReadsLabel d (sequence d t) u r) (raw_values t w) (values_read r d (sequence d t) (values t) h e)
+pub sequence_read : (r : MtcReader) (d : Direction) (t : MtcTime) (bs : List ℕ) → Ready d r → InWidths t → heard bs ≡ sequence d t
+    → ReadsLabel d bs t r
+sequence_read r d t bs h w k =
+    let e : map split (heard bs) ≡ nibbles_in_order d (values t) = ap (map split) (k ∙ sym (in_practice t d w)) ∙ split_pieces t d in
+    subst (λ (u : MtcTime). ReadsLabel d bs u r) (raw_values t w) (values_read r d bs (values t) h e)
+
+-- The bytes of a sequence are heard.
+pub sequence_heard : (d : Direction) (t : MtcTime) → InWidths t → heard (sequence d t) ≡ sequence d t
+unfolding bytes_sent
+sequence_heard d t w =
+    let g : MtcGenerator = sent_at t d (final d) in
+    let e : bytes_sent 8 (run_from g t d) ≡ sequence d t = sends_first g t d 0 ∙ append-nil (in_order d (pieces t)) ∙ in_practice t d w in
+    all_heard (sequence d t) (subst (λ (l : List ℕ). T (list_all is_heard l)) e (sent_heard (run_from g t d) 8))
 
 length_map : {A B : Type 0} (f : A → B) (l : List A) → length (map f l) ≡ length l
 length_map f [] = refl
@@ -271,19 +300,19 @@ module _ (a b c d e f g h : ℕ) where
           ∷ []
 
 -- It reads eight pieces in the direction's order, whatever their nibbles are.
-pub any_nibbles_read : (r : MtcReader) (d : Direction) (bs : List ℕ) → Ready d r → map piece_of bs ≡ eight_pieces d
-    → ReadsLabel d bs (label_of_bytes d bs) r
-any_nibbles_read r d bs h k = go d bs h k (eight_of bs (sym (length_map piece_of bs) ∙ ap length k ∙ all d))
+pub any_nibbles_read : (r : MtcReader) (d : Direction) (bs : List ℕ) → Ready d r → map piece_of (heard bs) ≡ eight_pieces d
+    → ReadsLabel d bs (label_of_bytes d (heard bs)) r
+any_nibbles_read r d bs h k = go d (heard bs) refl h k (eight_of (heard bs) (sym (length_map piece_of (heard bs)) ∙ ap length k ∙ all d))
   where
     all : (w : Direction) → length (eight_pieces w) ≡ 8
     all Forward = refl
     all Reverse = refl
 
-    go : (w : Direction) (bs : List ℕ) → Ready w r → map piece_of bs ≡ eight_pieces w → Eight bs → ReadsLabel w bs (label_of_bytes w bs) r
-    go Forward bs h k (eight a b c d e f g i) =
-        values_read r Forward bs (values_in a b c d e f g i Forward) h (split_eight a b c d e f g i Forward k)
-    go Reverse bs h k (eight a b c d e f g i) =
-        values_read r Reverse bs (values_in a b c d e f g i Reverse) h (split_eight a b c d e f g i Reverse k)
+    go : (w : Direction) (l : List ℕ) → heard bs ≡ l → Ready w r → map piece_of l ≡ eight_pieces w → Eight l → ReadsLabel w bs (label_of_bytes w l) r
+    go Forward l q h k (eight a b c d e f g i) =
+        values_read r Forward bs (values_in a b c d e f g i Forward) h (ap (map split) q ∙ split_eight a b c d e f g i Forward k)
+    go Reverse l q h k (eight a b c d e f g i) =
+        values_read r Reverse bs (values_in a b c d e f g i Reverse) h (ap (map split) q ∙ split_eight a b c d e f g i Reverse k)
 
 -- Bits that the page reserves do not count.
 pub reserved_ignored : (a b c d e f g h : ℕ)
@@ -312,10 +341,14 @@ full_ready r d t h n =
     }
 
 -- So is one that just got the direction's last piece, whatever calls came before it.
-pub last_piece_ready : (cs : List Call) (b : ℕ) (d : Direction) → piece_of b ≡ final d → Ready d (after_byte (after_calls fresh cs) b)
+pub last_piece_ready : (cs : List Call) (b : ℕ) (d : Direction) → T (is_heard b) → piece_of b ≡ final d
+    → Ready d (after_byte (after_calls fresh cs) b)
 unfolding newest after_calls
-last_piece_ready cs b d e =
-    let p = past (byte b ∷ []) (newest [] cs) (after_calls fresh cs) (past cs [] fresh fresh_past) in
-    record { sound = p.sound; starts = starts_after_last d _ (after_byte (after_calls fresh cs) b) p.shape (last_is _ _ _ ∙ ap Some e) }
+last_piece_ready cs b d h e =
+    let r : MtcReader = after_calls fresh cs in
+    let p = past (byte b ∷ []) (newest [] cs) r (past cs [] fresh fresh_past) in
+    let last : (after_byte r b).last ≡ Some (final d) =
+    ap (λ (x : MtcReader). x.last) (heard_byte r b h).1 ∙ last_is _ _ _ ∙ ap Some e in
+    record { sound = p.sound; starts = starts_after_last d _ (after_byte r b) p.shape last }
 
 -- ---- a discontinuity

@@ -16,12 +16,11 @@ use lib.Seq.{take_all}
 use Rattle.std.specs.List.{list_all}
 use Rattle.std.proofs.lemmas.List.Folds.{list_all_more}
 use Rattle.mtc.specs.Generator.{after}
-use Rattle.mtc.specs.QuarterFrame.{from_byte}
-use Rattle.mtc.specs.Reader.{Standing, nibbles_fit, piece_fits, is_sound, or_fresh, fresh, Control, control, direction_between, ordered, out_of_order, order_of, number_of, stored, reader_by_number, report_by_number, event_with, after_piece, report_of, after_byte, event_of}
+use Rattle.mtc.specs.Reader.{Standing, nibbles_fit, piece_fits, is_sound, or_fresh, fresh, Control, control, direction_between, ordered, out_of_order, order_of, number_of, stored, reader_by_number, report_by_number, event_with, after_piece, report_of}
 use Rattle.mtc.specs.declared.generator.Direction.{Direction}
-use Rattle.mtc.specs.declared.quarter_frame.QuarterFrame.{QuarterFrame}
 use Rattle.mtc.specs.declared.reader.MtcEvent.{MtcEvent}
 use Rattle.mtc.specs.declared.reader.MtcReader.{MtcReader}
+use Rattle.universal.specs.Refusals.{Answer, gives}
 
 -- ---- both of two tests
 
@@ -141,27 +140,19 @@ module _ (r : Control) (p : ℕ) where
 
 -- ---- one byte
 
-module _ (q : QuarterFrame) (b : ℕ) (e : q ≡ from_byte b) where
-  pub value_small : q.value ≤ 15
-  value_small = rw e (omega arith)
-
-module _ (r₀ : MtcReader) (b : ℕ) {r : MtcReader} {q : QuarterFrame} {o : Standing} {n : ℕ}
-    (er : r ≡ or_fresh r₀) (eq : q ≡ from_byte b) (eo : o ≡ order_of (control r) q.piece) (en : n ≡ number_of (control r) o q.piece) where
-  after_byte_lem : reader_by_number r o n q.piece q.value ≡ after_byte r₀ b
+module _ (r : MtcReader) (p v : ℕ) {o : Standing} {n : ℕ} (eo : o ≡ order_of (control r) p) (en : n ≡ number_of (control r) o p) where
+  piece_left : reader_by_number r o n p v ≡ after_piece r p v
   unfolding after_piece
-  after_byte_lem = rw (en, eo, eq, er)
+  piece_left = rw (en, eo)
 
-  event_byte : event_with q.piece (report_by_number r o n q.piece q.value) ≡ event_of r₀ b
+  piece_reported : report_by_number r o n p v ≡ report_of r p v
   unfolding report_of
-  event_byte = rw (en, eo, eq, er)
+  piece_reported = rw (en, eo)
 
-  -- The reader and the event that a byte leaves and gives.
-  abbrev pub Steps : MtcReader → MtcEvent → Type 0
-  Steps s e = (s ≡ after_byte r₀ b) × (e ≡ event_of r₀ b)
-
-  pub keeps : {s : MtcReader} {e : MtcEvent} → (n ≡ 0 → ⊥) → (n ≡ 8 → ⊥) → s ≡ stored r o n q.piece q.value
-      → e ≡ event_with q.piece None → Steps s e
+  -- A piece that is kept and ends nothing.
+  pub keeps : {s : MtcReader} {a : Answer MtcEvent} → (n ≡ 0 → ⊥) → (n ≡ 8 → ⊥) → s ≡ stored r o n p v → a ≡ gives (event_with p None)
+      → (s ≡ after_piece r p v) × (a ≡ gives (event_with p (report_of r p v)))
   keeps z w x y =
-      (x ∙ rw (← after_byte_lem, ne_eqb n 0 z, ne_eqb n 8 w), y ∙ rw (← event_byte, ne_eqb n 8 w))
+      (x ∙ rw (← piece_left, ne_eqb n 0 z, ne_eqb n 8 w), y ∙ rw (← piece_reported, ne_eqb n 8 w))
 
 -- ---- a whole sequence

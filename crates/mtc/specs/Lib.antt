@@ -6,5 +6,6 @@ pub mod Reader
 pub mod Ready
 pub mod Rp004
 pub mod Rp004Messages
+pub mod SourceReader
 pub mod Stream
 pub mod UserBits

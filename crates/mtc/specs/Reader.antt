@@ -1,8 +1,9 @@
--- What mtc.rs's reader does, on every record: one definition for each public call of src/reader.rt. The count, the first and
--- last piece and the direction decide what becomes of a piece; nibbles, times and marks are carried along. Assumes nothing.
+-- What mtc.rs's reader does, on every record, but that it hears no byte of 80H or more (document 02, #105): one definition for each public
+-- call of src/reader.rt. The count, the first and last piece and the direction decide what becomes of a piece; nibbles, times and marks are
+-- carried along. Assumes nothing.
 use Rattle.std.specs.Prelude.{ℕ, zero, suc, ◌+◌, ◌*◌, ◌%◌, ◌≤◌, ◌<◌, Bool, true, false, not, cond, ◌&&◌, ◌||◌, List, ◌≡◌, T, leb, ltb, eqb, ℤ, pos, negsuc, length, get_or, set, replicate, Option, Some, None}
 use Rattle.mtc.specs.Generator.{first, after, sequence_frames}
-use Rattle.mtc.specs.QuarterFrame.{piece_of, value_of}
+use Rattle.mtc.specs.QuarterFrame.{piece_of, value_of, is_heard}
 use Rattle.labels.specs.Time.{add_frames, raw_time, bits_of}
 use Rattle.labels.specs.declared.time.MtcTime.{MtcTime}
 use Rattle.mtc.specs.declared.generator.Direction.{Direction}
@@ -10,6 +11,7 @@ use Rattle.mtc.specs.declared.generator.Direction.TheVariants.{Forward, Reverse}
 use Rattle.mtc.specs.declared.reader.MtcEvent.{MtcEvent}
 use Rattle.mtc.specs.declared.reader.MtcReader.{MtcReader}
 use Rattle.mtc.specs.declared.reader.MtcSequence.{MtcSequence}
+use Rattle.universal.specs.Refusals.{Answer, gives, refused, refusal}
 
 -- ---- fresh readers
 
@@ -218,13 +220,20 @@ report_of r p v = report_by_number r (order_of (control r) p) (number_of (contro
 
 -- ---- the calls
 
--- The reader that a data byte leaves.
-abbrev pub after_byte : MtcReader → ℕ → MtcReader
-after_byte r byte = after_piece (or_fresh r) (piece_of byte) (value_of byte)
+-- The reader that a heard byte leaves, and what that byte gives.
+abbrev pub after_heard : MtcReader → ℕ → MtcReader
+after_heard r byte = after_piece (or_fresh r) (piece_of byte) (value_of byte)
 
--- What a data byte gives.
-abbrev pub event_of : MtcReader → ℕ → MtcEvent
-event_of r byte = event_with (piece_of byte) (report_of (or_fresh r) (piece_of byte) (value_of byte))
+abbrev pub event_heard : MtcReader → ℕ → MtcEvent
+event_heard r byte = event_with (piece_of byte) (report_of (or_fresh r) (piece_of byte) (value_of byte))
+
+-- The reader that any byte leaves: one that is not heard leaves it as it was, whatever it was (document 02, #105).
+abbrev pub after_byte : MtcReader → ℕ → MtcReader
+after_byte r byte = cond (is_heard byte) (after_heard r byte) r
+
+-- What any byte is answered: its event, or 13.
+abbrev pub event_of : MtcReader → ℕ → Answer MtcEvent
+event_of r byte = cond (is_heard byte) (gives (event_heard r byte)) (refused (refusal 13))
 
 -- Where a report's labels stay: the reader that it leaves has both, and without a report those that it had.
 abbrev pub ReportLabels : Option MtcSequence → MtcReader → MtcReader → Type 0

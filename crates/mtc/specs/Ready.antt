@@ -33,12 +33,12 @@ eight_pieces d = in_order d (0 ∷ 1 ∷ 2 ∷ 3 ∷ 4 ∷ 5 ∷ 6 ∷ 7 ∷ [])
 abbrev pub label_of_bytes : Direction → List ℕ → MtcTime
 label_of_bytes d bs = raw_of (map value_of (in_order d bs))
 
--- The reader that data bytes leave.
+-- The reader that bytes leave.
 abbrev pub after_bytes : MtcReader → List ℕ → MtcReader
 after_bytes r bs = after_calls r (map byte bs)
 
--- Eight bytes are read as a label: seven report nothing, the eighth reports the label, and the reader is ready for the next
--- sequence, with the label as the previous one.
+-- Bytes are read as a label: eight are heard, of which seven report nothing and the eighth reports the label, and the reader is ready for
+-- the next sequence, with the label as the previous one.
 pub record ReadsLabel (d : Direction) (bs : List ℕ) (t : MtcTime) (r : MtcReader) : Type 0 where
   pub reports : map (λ e. e.sequence) (events r bs) ≡ silent 7 ++ (Some (sequence_of_label t d r.previous) ∷ [])
   pub ready : Ready d (after_bytes r bs)

@@ -1,10 +1,10 @@
 -- Demand 3's claim on quarter frames, as document 01 reads it ("Sequence"): a reader that got any list of calls from fresh on,
--- then the twenty-four bytes of a generator that was located at a valid time and set running in a direction. The lists are
--- folded with the definitions in the contracts of the calls. Assumes nothing.
+-- then the twenty-four bytes of a generator that was located at a valid time and set running in a direction. Bytes that are not heard may
+-- stand anywhere among both (document 02, #105). The lists are folded with the definitions in the contracts of the calls. Assumes nothing.
 use Rattle.mtc.specs.declared.reader.MtcSequence.{MtcSequence}
-use Rattle.std.specs.Prelude.{ℕ, zero, suc, Bool, true, false, List, [], ◌∷◌, ◌++◌, map, reverse, ◌⊎◌, ◌≢◌, ◌≡◌, T, ℤ, pos, neg_ℤ, length, take, get_or, replicate, Option, Some, None}
+use Rattle.std.specs.Prelude.{ℕ, zero, suc, Bool, true, false, not, cond, List, [], ◌∷◌, ◌++◌, map, reverse, ◌⊎◌, ◌≢◌, ◌≡◌, T, ℤ, pos, neg_ℤ, length, take, get_or, replicate, Option, Some, None}
 use Rattle.mtc.specs.Generator.{next_byte, after_next_byte, located, with_direction, with_running}
-use Rattle.mtc.specs.QuarterFrame.{piece_of, pieces}
+use Rattle.mtc.specs.QuarterFrame.{piece_of, pieces, is_heard, heard}
 use Rattle.mtc.specs.Reader.{fresh, after_byte, event_of, after_full_message}
 use Rattle.labels.specs.St12.{is_valid}
 use Rattle.labels.specs.Time.{add_frames}
@@ -14,7 +14,7 @@ use Rattle.mtc.specs.declared.generator.Direction.TheVariants.{Forward, Reverse}
 use Rattle.mtc.specs.declared.generator.MtcGenerator.{MtcGenerator}
 use Rattle.mtc.specs.declared.reader.MtcEvent.{MtcEvent}
 use Rattle.mtc.specs.declared.reader.MtcReader.{MtcReader}
-use Rattle.universal.specs.Refusals.{Answer, gives, refused}
+use Rattle.universal.specs.Refusals.{Answer, gives, refused, refusal}
 
 -- ---- the generator's bytes
 
@@ -34,7 +34,7 @@ bytes_sent (suc n) g = byte_answered (next_byte g) ++ bytes_sent n (after_next_b
 
 -- ---- the reader's calls
 
--- A call of `receive` with a data byte, or of `full_message` with a label, whatever the device.
+-- A call of `receive` with any byte, or of `full_message` with a label, whatever the device.
 pub data Call : Type 0 where
   byte : ℕ → Call
   full : MtcTime → Call
@@ -49,18 +49,29 @@ unfoldable pub after_calls : MtcReader → List Call → MtcReader
 after_calls r [] = r
 after_calls r (c ∷ cs) = after_calls (after_call r c) cs
 
--- What a list of data bytes gives.
-unfoldable pub events : MtcReader → List ℕ → List MtcEvent
-events r [] = []
-events r (b ∷ bs) = event_of r b ∷ events (after_byte r b) bs
+-- What each of a list of bytes is answered.
+unfoldable pub byte_answers : MtcReader → List ℕ → List (Answer MtcEvent)
+byte_answers r [] = []
+byte_answers r (b ∷ bs) = event_of r b ∷ byte_answers (after_byte r b) bs
 
--- The bytes since the last full message, the newest first, on top of those before.
+-- The events among answers.
+unfoldable pub events_among : List (Answer MtcEvent) → List MtcEvent
+events_among [] = []
+events_among (gives e ∷ rest) = e ∷ events_among rest
+events_among (refused r ∷ rest) = events_among rest
+
+-- What a list of bytes gives.
+abbrev pub events : MtcReader → List ℕ → List MtcEvent
+events r bs = events_among (byte_answers r bs)
+
+-- The bytes heard since the last full message, the newest first, on top of those before.
 unfoldable pub newest : List ℕ → List Call → List ℕ
 newest bs [] = bs
-newest bs (byte b ∷ cs) = newest (b ∷ bs) cs
+newest bs (byte b ∷ cs) = newest (cond (is_heard b) (b ∷ bs) bs) cs
 newest bs (full t ∷ cs) = newest [] cs
 
--- The last seven bytes, in the order in which they came. They are fewer where a full message stands after the first of them.
+-- The last seven bytes that were heard, in the order in which they came. They are fewer where a full message stands after the first of
+-- them.
 abbrev pub last_seven : List Call → List ℕ
 last_seven cs = reverse (take 7 (newest [] cs))
 
@@ -113,11 +124,27 @@ pub record Answers (calls : List Call) (d : Direction) (t : MtcTime) (es : List 
   -- no other byte reports
   pub others : (n : ℕ) → n ≢ 1 → n ≢ 8 → n ≢ 16 → n ≢ 24 → nth_report n es ≡ None
 
--- The stream law: after any list of calls from fresh on, whatever the generator's record was, for every valid T and each direction.
+-- Bytes with their answers, where those that are heard give these events in their order: any other byte is answered 13.
+pub data Answered : List ℕ → List MtcEvent → List (Answer MtcEvent) → Type 0 where
+  no_byte : Answered [] [] []
+  by_event : (b : ℕ) (e : MtcEvent) (bs : List ℕ) (es : List MtcEvent) (rest : List (Answer MtcEvent))
+      → T (is_heard b) → Answered bs es rest → Answered (b ∷ bs) (e ∷ es) (gives e ∷ rest)
+  by_13 : (b : ℕ) (bs : List ℕ) (es : List MtcEvent) (rest : List (Answer MtcEvent))
+      → T (not (is_heard b)) → Answered bs es rest → Answered (b ∷ bs) es (refused (refusal 13) ∷ rest)
+
+-- A reader that got these calls is given bytes. Where the heard ones among them are the twenty-four from T on, this holds.
+pub record AnswersAmong (calls : List Call) (d : Direction) (t : MtcTime) (bs : List ℕ) : Type 0 where
+  -- every byte that is not heard is answered 13, and every other one gives its event
+  pub each : Answered bs (events (after_calls fresh calls) bs) (byte_answers (after_calls fresh calls) bs)
+  -- the events are those of the twenty-four, which alone count
+  pub answers : Answers calls d t (events (after_calls fresh calls) bs)
+
+-- The stream law: after any list of calls from fresh on, whatever the generator's record was, for every valid T and each direction, and
+-- for any bytes of which those that are heard are the generator's twenty-four.
 abbrev pub StreamLaw : Type 0
 StreamLaw =
-    (calls : List Call) (g : MtcGenerator) (t : MtcTime) (d : Direction) → T (is_valid t)
-    → Answers calls d t (events (after_calls fresh calls) (bytes_sent 24 (run_from g t d)))
+    (calls : List Call) (g : MtcGenerator) (t : MtcTime) (d : Direction) (bs : List ℕ) → T (is_valid t)
+    → heard bs ≡ bytes_sent 24 (run_from g t d) → AnswersAmong calls d t bs
 
 -- A label's eight data bytes in a direction's order.
 abbrev pub in_order : Direction → List ℕ → List ℕ

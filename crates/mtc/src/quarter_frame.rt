@@ -1,9 +1,11 @@
 // The data byte of the quarter frame message F1H: 0nnn dddd, piece nnn and value dddd (RP-004/008, p. 1), and the eight
 // data bytes of a label (p. 2).
 ghost use Rattle.std.specs.Prelude.{◌≡◌};
+ghost use Rattle.universal.specs.Refusals.{answer_of};
 ghost use Rattle.mtc.specs.QuarterFrame.{from_byte, to_byte, pieces};
 
 use labels::MtcTime;
+use universal::SysexError;
 
 // A data byte's piece, 0 (frames, low nibble) to 7 (hours, high nibble, and rate), and its value of four bits.
 #[derive(Clone, Copy)]
@@ -13,14 +15,17 @@ pub struct QuarterFrame {
 }
 
 impl QuarterFrame {
-    // The piece and the value of a data byte; bit 7 is ignored.
-    pub fn from_byte(byte: u8) -> Self
-        ensures { result ≡ from_byte byte }
+    // The piece and the value of a data byte, or 13 for a byte of 80H or more.
+    pub fn from_byte(byte: u8) -> Result<Self, SysexError>
+        ensures { answer_of result ≡ from_byte byte }
     {
-        QuarterFrame {
+        if byte > 0x7F {
+            return Err(SysexError::StatusByte);
+        }
+        Ok(QuarterFrame {
             piece: byte / 16 % 8,
             value: byte % 16,
-        }
+        })
     }
 
     // The data byte 0nnn dddd.

@@ -1,8 +1,9 @@
 // The quarter frame reader: assembles full sequences, and gives the lock, the direction and the current time, which is the
 // assembled time plus two frames forward and minus one frame in reverse (RP-004/008, p. 3).
 ghost use Rattle.std.specs.Prelude.{◌≡◌, ◌≤◌, cond, T, eqb, Some};
+ghost use Rattle.universal.specs.Refusals.{gives, answer_of};
 ghost use Rattle.labels.specs.Time.{add_frames};
-ghost use Rattle.mtc.specs.Reader.{fresh, nibbles_fit, piece_fits, is_sound, or_fresh, ordered, raw_of, offset, direction_of, jumps, sequence_of_label, sequence_of, completed, with_piece, passed, stored, event_with, after_byte, event_of, after_full_message};
+ghost use Rattle.mtc.specs.Reader.{fresh, nibbles_fit, piece_fits, is_sound, or_fresh, ordered, raw_of, offset, direction_of, jumps, sequence_of_label, sequence_of, completed, with_piece, passed, stored, event_with, after_piece, report_of, after_byte, event_of, after_full_message};
 
 use crate::full_message::FullMessage;
 use crate::generator::Direction;
@@ -10,6 +11,7 @@ use crate::order::{Order, number_of, order_of};
 use crate::quarter_frame::QuarterFrame;
 use crate::user_bits::all_nibbles;
 use labels::MtcTime;
+use universal::SysexError;
 
 // The end of a full sequence: the assembled label with its counts as received, the current time, the direction, and whether
 // the label is not the previous one plus two frames, or minus two in reverse.
@@ -30,7 +32,8 @@ pub struct MtcEvent {
     pub sequence: Option<MtcSequence>,
 }
 
-// The reader's record. One with a count or piece above 7 or a nibble above 15, which no call leaves, is taken as fresh.
+// The reader's record. One with a count or piece above 7 or a nibble above 15, which no calls leave from a fresh reader on, is taken as
+// fresh.
 #[derive(Clone, Copy, Default)]
 pub struct MtcReader {
     pub nibbles: [u8; 8],
@@ -44,11 +47,11 @@ pub struct MtcReader {
     pub time: Option<MtcTime>,
 }
 
-// What one data byte gives, with the reader that it leaves.
+// What one byte gives or is refused by, with the reader that it leaves.
 #[derive(Clone, Copy)]
 pub struct Stepped {
     pub reader: MtcReader,
-    pub event: MtcEvent,
+    pub event: Result<MtcEvent, SysexError>,
 }
 
 impl MtcReader {
@@ -59,9 +62,9 @@ impl MtcReader {
         MtcReader::default()
     }
 
-    // Takes one data byte, and answers what it gives.
-    pub fn receive(&mut self, byte: u8) -> MtcEvent
-        ensures { (result ≡ event_of self.old byte) × (self.new ≡ after_byte self.old byte) }
+    // Takes one byte, and answers what it gives. One of 80H or more is 13, and changes nothing.
+    pub fn receive(&mut self, byte: u8) -> Result<MtcEvent, SysexError>
+        ensures { (answer_of result ≡ event_of self.old byte) × (self.new ≡ after_byte self.old byte) }
     {
         let q = (*self).step(byte);
         *self = q.reader;
@@ -75,32 +78,38 @@ impl MtcReader {
         *self = (*self).informed(message);
     }
 
-    // One data byte, by value. A piece that is not the next one in the direction drops the partial sequence and the lock: the
-    // next piece in the other order changes the direction, any other piece, also a repeated one, only breaks the order. A
-    // sequence starts at the first piece of the direction.
-    #[tactic(auto, unfolding(crate::specs::Reader::after_piece, crate::specs::Reader::report_of))]
+    // One byte, by value. One of 80H or more is refused before the record is looked at.
     pub fn step(self, byte: u8) -> Stepped
-        ensures { (result.reader ≡ after_byte self byte) × (result.event ≡ event_of self byte) }
+        ensures { (result.reader ≡ after_byte self byte) × (answer_of result.event ≡ event_of self byte) }
     {
-        let r = self.or_fresh();
-        let q = QuarterFrame::from_byte(byte);
-        let p = q.piece;
-        let o = order_of(r, p);
-        let n = number_of(r, o, p);
-        if n == 0 {
-            return Stepped {
-                reader: r.passed(o, p),
-                event: event(p, None),
-            };
+        match QuarterFrame::from_byte(byte) {
+            Ok(q) => self.or_fresh().hear(q),
+            Err(error) => Stepped {
+                reader: self,
+                event: Err(error),
+            },
         }
-        let s = r.stored(o, n, p, q.value);
+    }
+
+    // One quarter frame. A piece that is not the next one in the direction drops the partial sequence and the lock: the next
+    // piece in the other order changes the direction, any other piece, also a repeated one, only breaks the order. A sequence
+    // starts at the first piece of the direction.
+    #[tactic(auto, unfolding(crate::specs::Reader::after_piece, crate::specs::Reader::report_of))]
+    fn hear(self, q: QuarterFrame) -> Stepped
+        requires { T (is_sound self) × ((q.piece ≤ 7) × (q.value ≤ 15)) }
+        ensures { (result.reader ≡ after_piece self q.piece q.value) × (answer_of result.event ≡ gives (event_with q.piece (report_of self q.piece q.value))) }
+    {
+        let p = q.piece;
+        let o = order_of(self, p);
+        let n = number_of(self, o, p);
+        if n == 0 {
+            return gave(self.passed(o, p), event(p, None));
+        }
+        let s = self.stored(o, n, p, q.value);
         if n == 8 {
             return s.complete(p);
         }
-        Stepped {
-            reader: s,
-            event: event(p, None),
-        }
+        gave(s, event(p, None))
     }
 
     // A full message, by value: its label is the time, and the reader is stopped until the next data byte.
@@ -202,18 +211,26 @@ impl MtcReader {
     #[tactic(auto, unfolding(crate::specs::Reader::sequence_of))]
     fn complete(self, p: u8) -> Stepped
         requires { T (nibbles_fit 8 self.nibbles) }
-        ensures { (result.reader ≡ completed self) × (result.event ≡ event_with p (Some (sequence_of self))) }
+        ensures { (result.reader ≡ completed self) × (answer_of result.event ≡ gives (event_with p (Some (sequence_of self)))) }
     {
         let s = report(raw(self.nibbles), way(self.direction), self.previous);
-        Stepped {
-            reader: MtcReader {
-                locked: true,
-                previous: Some(s.raw),
-                time: Some(s.current),
-                ..self
-            },
-            event: event(p, Some(s)),
-        }
+        let left = MtcReader {
+            locked: true,
+            previous: Some(s.raw),
+            time: Some(s.current),
+            ..self
+        };
+        gave(left, event(p, Some(s)))
+    }
+}
+
+// A reader with the event that was given.
+fn gave(reader: MtcReader, event: MtcEvent) -> Stepped
+    ensures { (result.reader ≡ reader) × (answer_of result.event ≡ gives event) }
+{
+    Stepped {
+        reader,
+        event: Ok(event),
     }
 }
 

@@ -2,7 +2,7 @@
 use crate::case::{Answer, Held, Input, Taken};
 use fast_mtc::generator::{FlatByte, FlatGenerator};
 use fast_mtc::report::FlatMaybeSequence;
-use fast_mtc::time::{FlatFrame, FlatTime};
+use fast_mtc::time::{FlatFrame, FlatReadFrame, FlatTime};
 use fast_mtc::words::{FlatMaybeTime, FlatReader, FlatReaderFields, label_word, rate_mark};
 use fimbrast::generator::{
     fimbrast_generator_forward, fimbrast_generator_reverse, fimbrast_next_byte,
@@ -27,6 +27,16 @@ impl Taken for FlatFrame {
 impl Held for FlatFrame {
     fn held(self, answer: Answer<'_>) -> Option<Answer<'_>> {
         answer.is(self.piece)?.is(self.value)
+    }
+}
+
+// The published Rust reads every byte.
+impl Held for FlatReadFrame {
+    fn held(self, answer: Answer<'_>) -> Option<Answer<'_>> {
+        if self.refusal != 0 {
+            return None;
+        }
+        answer.is(self.frame)
     }
 }
 
@@ -199,7 +209,8 @@ impl Held for FlatMaybeSequence {
     }
 }
 
-// The event is the piece, the boundary in the bit above its byte, and the report above that.
+// The event is the piece, the boundary in the bit above its byte, and the report above that. The stored bytes are all below 80H, so that
+// none is refused.
 pub(crate) fn receive(mut reader: FlatReader, byte: u8, answer: Answer<'_>) -> Option<Answer<'_>> {
     let event = fimbrast_receive(&mut reader.words, byte);
     let piece = (event & 0xFF) as u8;

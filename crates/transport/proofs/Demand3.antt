@@ -17,11 +17,12 @@ use Rattle.mmc.specs.Writings.{string_answer, string_of, body_of}
 use Rattle.mmc.proofs.StringLaws.{locate_play_back}
 use Rattle.mmc.proofs.WritingLaws.{string_accepted, accepted_reads_back}
 use Rattle.labels.specs.St12.{is_valid}
-use Rattle.mtc.specs.Stream.{Call, run_from}
+use Rattle.mtc.specs.Reader.{fresh}
+use Rattle.mtc.specs.Stream.{Call, Answers, run_from, bytes_sent, after_calls, events}
 use Rattle.mtc.specs.declared.generator.Direction.TheVariants.{Forward, Reverse}
 use Rattle.mtc.specs.declared.generator.MtcGenerator.{MtcGenerator}
 use Rattle.labels.specs.declared.time.MtcTime.{MtcTime}
-use Rattle.mtc.proofs.Laws.{stream_law}
+use Rattle.mtc.proofs.Laws.{stream_law, all_heard, sent_heard}
 use Rattle.universal.proofs.Tests.{holds_true}
 use Rattle.universal.specs.Message.{is_addressed}
 use Rattle.universal.specs.Refusals.{Answer, gives}
@@ -60,16 +61,23 @@ promised gs device own s g calls t b k a e =
       whole = ap (λ (q : Run). q.stop) o ∙ ap (λ (w : Walk MmcCommand). w.stop) b.whole;
       each = ap (λ (q : Run). q.answers) o;
       valid = v;
-      answers = rw r (stream_law calls (applied_all device own g e.before) t Forward v);
+      answers = λ bs h. stream_law calls (applied_all device own g e.before) t Forward bs v (h ∙ ap (bytes_sent 24) r);
     }
 
 pub demand3 : Demand3
 demand3 gs device own out n g calls t h k a e =
     promised gs device own (string_of Commands device gs out n) g calls t (accepted_reads_back Commands device gs out n h) k a e
 
+-- The twenty-four alone are answered so.
+pub promised_alone : (s : List ℕ) (device own : ℕ) (g : MtcGenerator) (calls : List Call) (t : MtcTime) → Promised s device own g calls t
+    → Answers calls Forward t (events (after_calls fresh calls) (bytes_sent 24 (obeyed s own g).generator))
+promised_alone s device own g calls t p =
+    let sent : List ℕ = bytes_sent 24 (obeyed s own g).generator in
+    (p.answers sent (all_heard sent (sent_heard (obeyed s own g).generator 24))).answers
+
 -- In reverse it is the stream law.
 pub demand3_reverse : Demand3Reverse
-demand3_reverse g calls t v = stream_law calls g t Reverse v
+demand3_reverse g calls t bs v h = stream_law calls g t Reverse bs v h
 
 -- ---- by what is written
 

@@ -17,7 +17,7 @@ use Rattle.mtc.specs.Generator.{next_byte, after_next_byte, started}
 use Rattle.mtc.specs.QuarterFrame.{pieces}
 use Rattle.mtc.specs.Reader.{fresh, nibbles_fit, is_sound, or_fresh, order_of, number_of, sequence_of, after_piece, report_of}
 use Rattle.labels.specs.St12.{label, is_valid}
-use Rattle.mtc.specs.Stream.{bytes_sent, byte, after_calls, events}
+use Rattle.mtc.specs.Stream.{bytes_sent, byte, after_calls, byte_answers, events_among, events}
 use Rattle.labels.specs.Time.{add_frames, bits_of}
 use Rattle.mtc.specs.UserBits.{group_bytes}
 use mathlib.Core.Bool.{false}
@@ -173,7 +173,7 @@ table =
     ∷ []
 
 pub instances : map (λ (r : Row). r.given) table ≡ map (λ (r : Row). r.stated) table
-unfolding table group_bytes pieces events bytes_sent after_calls next_byte after_next_byte nibbles_fit is_sound or_fresh order_of number_of sequence_of after_piece report_of add_frames string_answer string_left string_state after_items opened_commands begun or_failed ready admitted W.writing_after closed_message whole_message command_item locate_target_item locate_field_item standard_item standard_fits standard_list is_valid opening overlay read_from walk_from next_command next split_at prefixes_at measured length_of command_length read_command command_by_name read_locate part_of is_inside
+unfolding table group_bytes pieces byte_answers events_among bytes_sent after_calls next_byte after_next_byte nibbles_fit is_sound or_fresh order_of number_of sequence_of after_piece report_of add_frames string_answer string_left string_state after_items opened_commands begun or_failed ready admitted W.writing_after closed_message whole_message command_item locate_target_item locate_field_item standard_item standard_fits standard_list is_valid opening overlay read_from walk_from next_command next split_at prefixes_at measured length_of command_length read_command command_by_name read_locate part_of is_inside
 instances = refl
 
 -- ---- targets (document 02, #103)

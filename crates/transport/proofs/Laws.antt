@@ -1,8 +1,9 @@
 -- The laws that readers and upper crates cite: demand 3, what a string's commands leave, what one call leaves, and what a target
 -- resolves to. Assumes nothing.
 
--- Demand 3: by what the list reads back as; in reverse; and by what is written, without a sign and with one.
-pub use Rattle.transport.proofs.Demand3.{demand3, demand3_reverse, demand3_written, demand3_unsigned, demand3_negative}
+-- Demand 3: by what the list reads back as; in reverse; and by what is written, without a sign and with one. Of the twenty-four bytes
+-- alone, without any others among them, it is what it was before document 02's #105.
+pub use Rattle.transport.proofs.Demand3.{demand3, demand3_reverse, demand3_written, demand3_unsigned, demand3_negative, promised_alone}
 -- In any data the commands read have acted, those before a cut too; a refused command leaves the generator and holds up none; Locate
 -- and then Play leave it located and running forward.
 pub use Rattle.transport.proofs.Obeying.{obey_more, read_acts, cut_acts, refused_unchanged, refused_passes, applied_append, answers_each, target_played}

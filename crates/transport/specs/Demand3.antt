@@ -1,8 +1,8 @@
 -- Demand 3, as document 01 reads it ("Sequence", second paragraph): a list of commands is written, its string is read back from the
 -- bytes left in the buffer, its commands are applied one by one as they are read, and a reader gets the generator's next twenty-four
--- bytes. The lists are folded with the definitions in the contracts of the calls: `string_answer` and `string_of` with those of
--- the writer, `message_from` and `next_command` with those of the reading, `applied` with that of the transport, `bytes_sent`,
--- `after_calls` and `events` with those of generator and reader. Assumes nothing.
+-- bytes, among which status bytes may slip in (document 02, #105). The lists are folded with the definitions in the contracts of the calls:
+-- `string_answer` and `string_of` with those of the writer, `message_from` and `next_command` with those of the reading, `applied` with that
+-- of the transport, `bytes_sent`, `after_calls` and `byte_answers` with those of generator and reader. Assumes nothing.
 use Rattle.std.specs.Prelude.{ℕ, zero, suc, ◌≤◌, ◌≡◌, false, List, [], ◌∷◌, ◌++◌, T, Option, Some, None}
 use Rattle.transport.specs.Transport.{Reply, Outcome, by_sign, resolved, applied}
 use Rattle.mmc.specs.declared.command.MmcCommand.{MmcCommand}
@@ -15,9 +15,9 @@ use Rattle.mmc.specs.Command.{next_command}
 use Rattle.mmc.specs.Message.{message_from}
 use Rattle.mmc.specs.Strings.{Given, given, Walk, walk, reads_of, commands_read}
 use Rattle.mmc.specs.Writings.{string_answer, string_of, header_of, body_of}
-use Rattle.mtc.specs.Reader.{fresh}
 use Rattle.labels.specs.St12.{is_valid}
-use Rattle.mtc.specs.Stream.{Call, Answers, run_from, bytes_sent, after_calls, events}
+use Rattle.mtc.specs.QuarterFrame.{heard}
+use Rattle.mtc.specs.Stream.{Call, AnswersAmong, run_from, bytes_sent}
 use Rattle.mtc.specs.declared.generator.Direction.TheVariants.{Forward, Reverse}
 use Rattle.mtc.specs.declared.generator.MtcGenerator.{MtcGenerator}
 use Rattle.labels.specs.declared.time.MtcTime.{MtcTime}
@@ -107,12 +107,12 @@ pub record Promised (s : List ℕ) (device own : ℕ) (g : MtcGenerator) (calls 
   pub each : (obeyed s own g).answers ≡ answers_to device own g (commands_read (body_of s)).items
   -- T is a valid time
   pub valid : T (is_valid t)
-  -- what the reader answers to the generator's next twenty-four bytes
-  pub answers : Answers calls Forward t (events (after_calls fresh calls) (bytes_sent 24 (obeyed s own g).generator))
+  -- what the reader answers to the generator's next twenty-four bytes, with any bytes that are not heard among them
+  pub answers : (bs : List ℕ) → heard bs ≡ bytes_sent 24 (obeyed s own g).generator → AnswersAmong calls Forward t bs
 
 -- Demand 3: for every list of commands, each with its lent source, whose writing into any buffer is accepted (its close answers a
 -- length, which is so just where none of its calls is refused: `accepted_none_refused` of mmc), every device that addresses the
--- transport's own, any generator, and any list of calls that the reader got before, from fresh on.
+-- transport's own, any generator, and any list of calls that the reader got before, from fresh on, refused ones included.
 abbrev pub Demand3 : Type 0
 Demand3 =
     (gs : List (Given Commands)) (device own : ℕ) (out : List ℕ) (n : ℕ) (g : MtcGenerator) (calls : List Call) (t : MtcTime)
@@ -123,8 +123,8 @@ Demand3 =
 -- In reverse: the generator located at T and set running in reverse, in place of the string.
 abbrev pub Demand3Reverse : Type 0
 Demand3Reverse =
-    (g : MtcGenerator) (calls : List Call) (t : MtcTime) → T (is_valid t)
-    → Answers calls Reverse t (events (after_calls fresh calls) (bytes_sent 24 (run_from g t Reverse)))
+    (g : MtcGenerator) (calls : List Call) (t : MtcTime) (bs : List ℕ) → T (is_valid t)
+    → heard bs ≡ bytes_sent 24 (run_from g t Reverse) → AnswersAmong calls Reverse t bs
 
 -- A list that is written with Locate to a target and Play at its end.
 abbrev pub ending_at : List (Given Commands) → List ℕ → List ℕ → StandardTimeCode → List (Given Commands)

@@ -14,7 +14,7 @@ use lib.ListN.{length, take, drop, get_or, set, length-set, length-append, get_o
 use lib.Seq.{length-sets, sets-eq, set_out, get_or-set_same, get_or-set_other}
 use Rattle.std.proofs.lemmas.List.Edits.{sets}
 use Rattle.universal.specs.declared.error.SysexError.{SysexError}
-use Rattle.universal.specs.declared.error.SysexError.TheVariants.{DataByte, Length, OutOfRange, BufferTooSmall, Device, Source, Target, Stopped, End, ItemLimit, NoField, Track}
+use Rattle.universal.specs.declared.error.SysexError.TheVariants.{DataByte, Length, OutOfRange, BufferTooSmall, Device, Source, Target, Stopped, End, ItemLimit, NoField, Track, StatusByte}
 use Rattle.universal.specs.Refusals.{Refusal, refusal, too_small, gives, refused, refusal_of, needed_of, error_of, error_from_10}
 use Rattle.universal.specs.Overlay.{overlay}
 use Rattle.universal.specs.Emission.{Emission, sent, refusing, check, resume, ◌then◌, answer_in, answer, reached, reached_in, fitted}
@@ -151,6 +151,7 @@ error_back End = refl
 error_back ItemLimit = refl
 error_back NoField = refl
 error_back Track = refl
+error_back StatusByte = refl
 
 -- The answer by the refusal and the length.
 pub answer_by : (e : Emission) (room : ℕ) → answer e room ≡ answer_in e.stop (length e.bytes) room

@@ -2,7 +2,7 @@
 -- 02's, and answers that may be a refusal. Contracts and reference definitions speak in these numbers. Assumes nothing.
 use Rattle.std.specs.Prelude.{ℕ, cond, List, [], ◌∷◌, eqb, Result, Ok, Err}
 use Rattle.universal.specs.declared.error.SysexError.{SysexError}
-use Rattle.universal.specs.declared.error.SysexError.TheVariants.{DataByte, Length, OutOfRange, BufferTooSmall, Device, Source, Target, Stopped, End, ItemLimit, NoField, Track}
+use Rattle.universal.specs.declared.error.SysexError.TheVariants.{DataByte, Length, OutOfRange, BufferTooSmall, Device, Source, Target, Stopped, End, ItemLimit, NoField, Track, StatusByte}
 
 -- A refusal: its number, and the values given with it.
 pub record Refusal : Type 0 where
@@ -31,6 +31,7 @@ refusal_of End = refusal 9
 refusal_of ItemLimit = refusal 10
 refusal_of NoField = refusal 11
 refusal_of Track = refusal 12
+refusal_of StatusByte = refusal 13
 
 -- The first of a refusal's values, or 0.
 abbrev pub first_of : List ℕ → ℕ
@@ -43,7 +44,7 @@ needed_of r = first_of r.values
 
 -- The refusal of a number from 10 on; a number that is no refusal's is taken as 10.
 unfoldable pub error_from_10 : ℕ → SysexError
-error_from_10 n = cond (eqb n 11) NoField (cond (eqb n 12) Track ItemLimit)
+error_from_10 n = cond (eqb n 11) NoField (cond (eqb n 12) Track (cond (eqb n 13) StatusByte ItemLimit))
 
 -- The refusal of a number, likewise.
 unfoldable pub error_of : ℕ → ℕ → SysexError

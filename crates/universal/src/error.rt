@@ -30,6 +30,8 @@ pub enum SysexError {
     NoField,
     // 12: more than nine bytes of tracks, a track outside 1 to 58, or no armed track to be the lowest.
     Track,
+    // 13: a quarter frame's byte of 80H or more, which is a status byte.
+    StatusByte,
 }
 
 // Numbers and back are functions, and no `From`: refusal 4 has two numbers, and every number has a refusal.
@@ -51,6 +53,7 @@ impl SysexError {
             SysexError::ItemLimit => 10,
             SysexError::NoField => 11,
             SysexError::Track => 12,
+            SysexError::StatusByte => 13,
         }
     }
 
@@ -94,6 +97,7 @@ impl SysexError {
         match number {
             11 => SysexError::NoField,
             12 => SysexError::Track,
+            13 => SysexError::StatusByte,
             _ => SysexError::ItemLimit,
         }
     }

@@ -6,8 +6,8 @@ use mathlib.Core.Path.{◌≡◌, refl, sym, ◌∙◌}
 use native.Mathlib.Omega.{arith}
 use lib.Dec.{eqb, le→leb}
 use lib.ListN.{length, length-set}
-use Rattle.mtc.specs.QuarterFrame.{piece_of, value_of}
-use Rattle.mtc.specs.Reader.{Standing, is_sound, Sound, or_fresh, control, order_of, number_of, passed, stored, completed, informed, after_piece, report_of, after_byte, event_of, after_full_message}
+use Rattle.mtc.specs.QuarterFrame.{piece_of, value_of, is_heard}
+use Rattle.mtc.specs.Reader.{Standing, is_sound, Sound, or_fresh, control, order_of, number_of, passed, stored, completed, informed, after_piece, report_of, after_heard, event_heard, after_byte, after_full_message}
 use Rattle.labels.specs.declared.time.MtcTime.{MtcTime}
 use Rattle.mtc.specs.declared.reader.MtcReader.{MtcReader}
 use Rattle.universal.proofs.Tests.{holds_true}
@@ -76,15 +76,18 @@ module _ (r : MtcReader) (h : Sound r) where
   pub as_is : or_fresh r ≡ r
   as_is = sym (or_fresh_sound r (sym (holds_true (is_sound r) h.is_sound_record))).0
 
-  -- A sound reader takes a byte and a full message as it is.
-  pub by_piece : (b : ℕ) → after_byte r b ≡ after_piece r (piece_of b) (value_of b)
+  -- A sound reader takes a byte that is heard and a full message as it is.
+  pub by_piece : (b : ℕ) → after_heard r b ≡ after_piece r (piece_of b) (value_of b)
   by_piece b = rw as_is
 
-  pub report_by_piece : (b : ℕ) → (event_of r b).sequence ≡ report_of r (piece_of b) (value_of b)
+  pub report_by_piece : (b : ℕ) → (event_heard r b).sequence ≡ report_of r (piece_of b) (value_of b)
   report_by_piece b = rw as_is
 
+  pub heard_sound : (b : ℕ) → Sound (after_heard r b)
+  heard_sound b = rw (by_piece b) (piece_sound (piece_of b) (value_of b) (omega arith) (omega arith))
+
   pub byte_sound : (b : ℕ) → Sound (after_byte r b)
-  byte_sound b = rw (by_piece b) (piece_sound (piece_of b) (value_of b) (omega arith) (omega arith))
+  byte_sound b = picked Sound (is_heard b) (heard_sound b) h
 
   pub full_sound : (t : MtcTime) → Sound (after_full_message r t)
   full_sound t = rw as_is (informed_sound r h t)

@@ -13,7 +13,7 @@ use lib.ListN.{length, get_or}
 use Rattle.mtc.specs.QuarterFrame.{piece_of, value_of}
 -- A sound reader's bounds.
 pub use Rattle.mtc.specs.Reader.{Bounds}
-use Rattle.mtc.specs.Reader.{Sound, Standing, nibbles_fit, piece_fits, or_fresh, control, order_after, order_of, starts, number_after, number_of, passed, stored, completed, reader_by_number, report_by_number, raw_of, direction_of, sequence_of_label, sequence_of, ReportLabels, event_with, after_piece, report_of, after_byte, event_of}
+use Rattle.mtc.specs.Reader.{Sound, Standing, nibbles_fit, piece_fits, or_fresh, control, order_after, order_of, starts, number_after, number_of, passed, stored, completed, reader_by_number, report_by_number, raw_of, direction_of, sequence_of_label, sequence_of, ReportLabels, event_with, after_piece, report_of, after_heard, event_heard}
 use Rattle.mtc.specs.declared.reader.MtcReader.{MtcReader}
 use Rattle.mtc.proofs.ReaderCalls.{both_hold, nibble_small, sound, sound_count, sound_first, sound_last, sound_nibbles}
 use Rattle.mtc.proofs.Sequences.SoundCalls.{as_is}
@@ -59,11 +59,11 @@ module _ (r : MtcReader) (o : Standing) (p v n : ℕ) (eo : order_after (control
   unfolding report_of
   said = ap₂ (λ (x : Standing) (k : ℕ). report_by_number r x k p v) stands its_number
 
--- A piece, by how it stands to those before it and by its number, leaves this reader and gives this event.
+-- The piece of a byte that is heard, by how it stands to those before it and by its number, leaves this reader and gives this event.
 pub piece_stands : (r : MtcReader) → Sound r → (b n : ℕ) (o : Standing) → order_after (control r) r.last r.direction (piece_of b) ≡ o
     → number_after (cond o.next r.count 0) (starts o.direction (piece_of b)) ≡ n
-    → (after_byte r b ≡ reader_by_number r o n (piece_of b) (value_of b))
-    × (event_of r b ≡ event_with (piece_of b) (report_by_number r o n (piece_of b) (value_of b)))
+    → (after_heard r b ≡ reader_by_number r o n (piece_of b) (value_of b))
+    × (event_heard r b ≡ event_with (piece_of b) (report_by_number r o n (piece_of b) (value_of b)))
 piece_stands r h b n o eo en =
     let a : after_piece r (piece_of b) (value_of b) ≡ reader_by_number r o n (piece_of b) (value_of b)
     = left r o (piece_of b) (value_of b) n eo en in
@@ -89,8 +89,8 @@ labels_by r o n p v = go (eqb n 0) (eqb n 8) refl refl
     go false true ex ey = (refl, refl)
     go false false ex ey = (refl, refl)
 
--- So after a data byte: a report's labels stand in the reader, and without a report those that it had.
-pub report_labels : (r : MtcReader) (b : ℕ) → ReportLabels (event_of r b).sequence (or_fresh r) (after_byte r b)
+-- So after a byte that is heard: a report's labels stand in the reader, and without a report those that it had.
+pub report_labels : (r : MtcReader) (b : ℕ) → ReportLabels (event_heard r b).sequence (or_fresh r) (after_heard r b)
 unfolding after_piece report_of
 report_labels r b =
     let o = order_of (control (or_fresh r)) (piece_of b) in

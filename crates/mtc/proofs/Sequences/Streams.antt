@@ -2,7 +2,7 @@
 use Rattle.mtc.specs.declared.reader.MtcSequence.{MtcSequence}
 use Rattle.std.specs.Prelude.{Option, Some, None}
 use Prim.Native.Nat.{ℕ, zero, suc, ◌+◌}
-use mathlib.Core.Bool.{Bool, true, false, not}
+use mathlib.Core.Bool.{Bool, true, false, not, cond}
 use mathlib.Core.List.{List, [], ◌∷◌, ◌++◌, map, reverse, reverse_aux, append-nil}
 use mathlib.Core.Logic.{◌⊎◌, inl, inr, ◌≢◌}
 use mathlib.Core.Path.{◌≡◌, refl, sym, ◌∙◌, ap, ap₂}
@@ -11,12 +11,13 @@ use borrow.Author.Tests.{eq-eqb}
 use lib.Dec.{T}
 use lib.ListN.{length, take, set, get_or}
 use Rattle.mtc.specs.Generator.{first, sequence_frames, opposite}
-use Rattle.mtc.specs.QuarterFrame.{piece_of, pieces}
-use Rattle.mtc.specs.Reader.{Sound, fresh, is_sound, nibbles_fit, offset, same_time, jumps, sequence_of_label, report_of, after_piece, after_byte, after_full_message}
+use Rattle.mtc.specs.QuarterFrame.{piece_of, is_heard, heard, pieces}
+use Rattle.mtc.specs.Reader.{Sound, fresh, is_sound, nibbles_fit, offset, same_time, jumps, sequence_of_label, report_of, after_piece, after_heard, after_byte, after_full_message}
 use Rattle.mtc.specs.Ready.{after_bytes}
 use Rattle.mtc.specs.Rp004.{InWidths}
 use Rattle.labels.specs.St12.{is_valid}
-use Rattle.mtc.specs.Stream.{Call, byte, full, run_from, bytes_sent, after_calls, events, silent, newest, last_seven, nth_report, frames, shifted, report_with, seven_before, StreamLaw}
+use Rattle.mtc.specs.Stream.{Call, byte, full, run_from, bytes_sent, after_calls, events, silent, newest, last_seven, nth_report, frames, shifted, report_with, seven_before, Answers, StreamLaw}
+use Rattle.mtc.specs.SourceReader.{source_events}
 use Rattle.labels.specs.Time.{add_frames, bits_of}
 use Rattle.labels.specs.declared.time.MtcTime.{MtcTime}
 use Rattle.mtc.specs.declared.generator.Direction.{Direction}
@@ -31,7 +32,8 @@ use Rattle.mtc.proofs.Sequences.WholeSequences.{run, leave, left, round, run_fir
 use Rattle.mtc.proofs.Sequences.Sending.{later_label, eight_bytes, sends_three}
 use Rattle.mtc.proofs.Sequences.ReaderShapes.{history, Shape, idle, piece_shape, Begun, Quiet, first_byte}
 use Rattle.mtc.proofs.Sequences.SequenceStarts.{starts_next}
-use Rattle.mtc.proofs.Sequences.SoundCalls.{by_piece, report_by_piece, byte_sound, full_sound, same_length}
+use Rattle.mtc.proofs.Sequences.SoundCalls.{by_piece, report_by_piece, heard_sound, byte_sound, full_sound, same_length}
+use Rattle.mtc.proofs.Sequences.HeardBytes.{events_of_heard, all_heard, each_answered, sent_heard}
 
 -- ---- lists
 
@@ -67,7 +69,7 @@ silent_else a b c d n h1 h8 h16 h24 =
 
 -- ---- any list of calls
 
--- What any list of calls from fresh on leaves, with the bytes since the last full message.
+-- What any list of calls from fresh on leaves, with the bytes heard since the last full message.
 pub record Past (bs : List ℕ) (r : MtcReader) : Type 0 where
   pub sound : Sound r
   pub shape : Shape bs r
@@ -82,16 +84,15 @@ fresh_past = record { sound = fresh_sound; shape = idle refl }
 pub past : (cs : List Call) (bs : List ℕ) (r : MtcReader) → Past bs r → Past (newest bs cs) (after_calls r cs)
 unfolding newest after_calls
 past [] bs r h = h
-past (byte b ∷ cs) bs r h =
-    past cs (b ∷ bs) (after_byte r b)
-    (record {
-      sound = byte_sound r h.sound b;
-      shape = rw (by_piece r h.sound b) (piece_shape bs r h.shape b _);
-    })
+past (byte b ∷ cs) bs r h = past cs (cond (is_heard b) (b ∷ bs) bs) (after_byte r b) (go (is_heard b))
+  where
+    go : (t : Bool) → Past (cond t (b ∷ bs) bs) (cond t (after_heard r b) r)
+    go true = record { sound = heard_sound r h.sound b; shape = rw (by_piece r h.sound b) (piece_shape bs r h.shape b _) }
+    go false = h
 past (full t ∷ cs) bs r h =
     past cs [] (after_full_message r t) (record { sound = full_sound r h.sound t; shape = idle refl })
 
--- No call leaves a record that is taken as fresh.
+-- No list of calls from fresh on leaves a record that is taken as fresh.
 pub calls_sound : (cs : List Call) → T (is_sound (after_calls fresh cs))
 calls_sound cs = (past cs [] fresh fresh_past).sound.is_sound_record
 
@@ -100,29 +101,37 @@ calls_sound cs = (past cs [] fresh fresh_past).sound.is_sound_record
 abbrev pub reports_of : List MtcEvent → List (Option MtcSequence)
 reports_of = map (λ (e : MtcEvent). e.sequence)
 
-pub reports_run : (bs : List ℕ) (r : MtcReader) → Sound r → reports_of (events r bs) ≡ run r (map split bs)
-unfolding events run
-reports_run [] r h = refl
-reports_run (b ∷ bs) r h =
+heard_run : (bs : List ℕ) (r : MtcReader) → Sound r → reports_of (source_events r bs) ≡ run r (map split bs)
+unfolding source_events run
+heard_run [] r h = refl
+heard_run (b ∷ bs) r h =
     ap₂ ◌∷◌ (report_by_piece r h b)
-    (reports_run bs (after_byte r b) (byte_sound r h b) ∙ ap (λ (s : MtcReader). run s (map split bs)) (by_piece r h b))
+    (heard_run bs (after_heard r b) (heard_sound r h b) ∙ ap (λ (s : MtcReader). run s (map split bs)) (by_piece r h b))
 
--- The reader that bytes leave: it is sound, and the one that their pieces leave.
+-- Those of any bytes are those of the heard pieces.
+pub reports_run : (bs : List ℕ) (r : MtcReader) → Sound r → reports_of (events r bs) ≡ run r (map split (heard bs))
+reports_run bs r h = ap reports_of (events_of_heard r bs) ∙ heard_run (heard bs) r h
+
+-- The reader that bytes leave: it is sound, and the one that the heard pieces leave.
 pub bytes_sound : (bs : List ℕ) (r : MtcReader) → Sound r → Sound (after_bytes r bs)
 unfolding after_calls
 bytes_sound [] r h = h
 bytes_sound (b ∷ bs) r h = bytes_sound bs (after_byte r b) (byte_sound r h b)
 
-pub bytes_leave : (bs : List ℕ) (r : MtcReader) → Sound r → after_bytes r bs ≡ leave r (map split bs)
+pub bytes_leave : (bs : List ℕ) (r : MtcReader) → Sound r → after_bytes r bs ≡ leave r (map split (heard bs))
 unfolding after_calls leave
 bytes_leave [] r h = refl
-bytes_leave (b ∷ bs) r h =
-    bytes_leave bs (after_byte r b) (byte_sound r h b) ∙ ap (λ (s : MtcReader). leave s (map split bs)) (by_piece r h b)
+bytes_leave (b ∷ bs) r h = go (is_heard b) (bytes_leave bs)
+  where
+    go : (t : Bool) → ((s : MtcReader) → Sound s → after_bytes s bs ≡ leave s (map split (heard bs)))
+        → after_bytes (cond t (after_heard r b) r) bs ≡ leave r (map split (cond t (b ∷ heard bs) (heard bs)))
+    go true more = more (after_heard r b) (heard_sound r h b) ∙ ap (λ (s : MtcReader). leave s (map split (heard bs))) (by_piece r h b)
+    go false more = more r h
 
-length_events : (bs : List ℕ) (r : MtcReader) → length (events r bs) ≡ length bs
-unfolding events
-length_events [] r = refl
-length_events (b ∷ bs) r = ap suc (length_events bs (after_byte r b))
+length_heard : (bs : List ℕ) (r : MtcReader) → length (source_events r bs) ≡ length bs
+unfolding source_events
+length_heard [] r = refl
+length_heard (b ∷ bs) r = ap suc (length_heard bs (after_heard r b))
 
 -- The nibbles of three sequences.
 three : (a b c : MtcTime) (d : Direction) → map split (eight_bytes d a ++ (eight_bytes d b ++ eight_bytes d c))
@@ -226,7 +235,8 @@ seven_before_lem d bs h = map_reverse_aux piece_of (take 7 bs) [] ∙ ap reverse
     go Forward = refl
     go Reverse = refl
 
-module _ (calls : List Call) (g : MtcGenerator) (t : MtcTime) (d : Direction) (valid : T (is_valid t)) where
+module _ (calls : List Call) (g : MtcGenerator) (t : MtcTime) (d : Direction) (bs : List ℕ) (valid : T (is_valid t))
+    (sent : heard bs ≡ bytes_sent 24 (run_from g t d)) where
   abbrev bytes : List ℕ
   bytes = newest [] calls
 
@@ -243,7 +253,7 @@ module _ (calls : List Call) (g : MtcGenerator) (t : MtcTime) (d : Direction) (v
   t₄ = later_label d t₂
 
   abbrev es : List MtcEvent
-  es = events reader (bytes_sent 24 (run_from g t d))
+  es = events reader bs
 
   abbrev after8 : Eighth (values t) d (second t t₂ t₄ d bytes reader before)
   after8 = after_eight t t₂ t₄ d bytes reader before
@@ -255,8 +265,8 @@ module _ (calls : List Call) (g : MtcGenerator) (t : MtcTime) (d : Direction) (v
 
   reported_are : reports_of es ≡ listed_reports
   reported_are =
-      ap (λ (l : List ℕ). reports_of (events reader l)) (sends_three g t d)
-      ∙ reports_run (eight_bytes d t ++ (eight_bytes d t₂ ++ eight_bytes d t₄)) reader before.sound
+      reports_run bs reader before.sound
+      ∙ ap (λ (l : List ℕ). run reader (map split l)) (sent ∙ sends_three g t d)
       ∙ ap (run reader) (three t t₂ t₄ d)
       ∙ all_reports t t₂ t₄ d bytes reader before
 
@@ -313,13 +323,29 @@ module _ (calls : List Call) (g : MtcGenerator) (t : MtcTime) (d : Direction) (v
   no_other zero a b c e = refl
   no_other (suc n) a b c e = place n ∙ silent_else _ _ _ _ n a b c e
 
+  twenty_four : length es ≡ 24
+  twenty_four =
+      ap length (events_of_heard reader bs) ∙ length_heard (heard bs) reader ∙ ap length (sent ∙ sends_three g t d)
+      ∙ length_three t t₂ t₄ d
+
 pub stream_law : StreamLaw
-stream_law calls g t d valid =
+stream_law calls g t d bs valid sent =
     record {
-      count = length_events (bytes_sent 24 (run_from g t d)) _ ∙ ap length (sends_three g t d) ∙ length_three t _ _ d;
-      first = first_report calls g t d valid;
-      eighth = eighth_report calls g t d valid;
-      sixteenth = sixteenth_report calls g t d valid;
-      twenty_fourth = last_report calls g t d valid;
-      others = no_other calls g t d valid;
+      each = each_answered (after_calls fresh calls) bs;
+      answers =
+          record {
+            count = twenty_four calls g t d bs valid sent;
+            first = first_report calls g t d bs valid sent;
+            eighth = eighth_report calls g t d bs valid sent;
+            sixteenth = sixteenth_report calls g t d bs valid sent;
+            twenty_fourth = last_report calls g t d bs valid sent;
+            others = no_other calls g t d bs valid sent;
+          };
     }
+
+-- The twenty-four alone.
+pub stream_alone : (calls : List Call) (g : MtcGenerator) (t : MtcTime) (d : Direction) → T (is_valid t)
+    → Answers calls d t (events (after_calls fresh calls) (bytes_sent 24 (run_from g t d)))
+stream_alone calls g t d valid =
+    let sent : List ℕ = bytes_sent 24 (run_from g t d) in
+    (stream_law calls g t d sent valid (all_heard sent (sent_heard (run_from g t d) 24))).answers

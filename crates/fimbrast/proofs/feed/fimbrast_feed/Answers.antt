@@ -11,11 +11,12 @@ loop-byte-init c = before_all _ _ _ (rw none_reported)
 
 pub counted-f-requires : goal.counted-f-requires
 counted-f-requires c =
-    (omega (arith, c.loop-byte.invariant.reports), omega (arith, c.loop-byte.invariant.discontinuities))
+    let i = c.loop-byte.invariant in
+    (omega (arith, i.reports), omega (arith, i.discontinuities), omega (arith, i.refused))
 
 pub loop-byte-preserved : goal.loop-byte-preserved
 loop-byte-preserved c =
-    after_one _ _ _ _ _ _ _ _ c.loop-byte.invariant c.loop-byte-test.true c.receive-event.ensures c.counted-f.ensures
+    after_one _ _ _ _ _ _ _ _ c.loop-byte.invariant c.loop-byte-test.true c.receive.ensures.0 c.receive.ensures.1 c.receive.ensures.2 c.counted-f.ensures
 
 pub returns : goal.returns
 returns c = after_all _ _ _ _ _ c.loop-byte.invariant c.loop-byte-test.false

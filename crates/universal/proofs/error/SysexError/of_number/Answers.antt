@@ -77,4 +77,5 @@ returns-in_default c =
       ne_eqb _ _ others.1,
       ne_eqb c.args.number 11 (λ q. omega (arith, c.if-number-gt9.false)),
       ne_eqb c.args.number 12 (λ q. omega (arith, c.if-number-gt9.false)),
+      ne_eqb c.args.number 13 (λ q. omega (arith, c.if-number-gt9.false)),
     )
