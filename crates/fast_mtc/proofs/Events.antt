@@ -9,7 +9,7 @@ use borrow.Author.Tests.{ne_eqb}
 use lib.Dec.{lit≤}
 use lib.ListN.{get_or}
 use Rattle.fast_mtc.specs.Generator.{direction_at, flat_direction, is_set}
-use Rattle.fast_mtc.specs.Reader.{bit_of, flat_report, flat_event, flat_byte_answer, report_in}
+use Rattle.fast_mtc.specs.Reader.{bit_of, flat_report, flat_event, flat_byte_answer, refused_from, report_in}
 use Rattle.fast_mtc.specs.Refusal.{refusal_in}
 use Rattle.universal.specs.Refusals.{Refusal, gives, refused, refusal}
 use Rattle.mtc.specs.QuarterFrame.{piece_of, value_of, is_heard}
@@ -59,37 +59,37 @@ pub event_report : (p : ℕ) (s : Option MtcSequence) → p ≤ 255 → flat_eve
 unfolding flat_event
 event_report p s h = let b : bit_of (event_with p s).boundary ≤ 1 = bit_small (event_with p s).boundary in omega (arith, h, b)
 
--- Every event of a piece is below the numbers of refused bytes.
 report_small : (s : Option MtcSequence) → flat_report s ≤ 7
 unfolding flat_report
 report_small None = lit≤ tt
 report_small (Some s) = let r : flat_report (Some s) ≤ 7 = (report_is s _ _ refl refl).1 in r
 
-pub event_small : (p : ℕ) (s : Option MtcSequence) → p ≤ 255 → flat_event (event_with p s) < 0x100000000000000
+-- Every event of a piece is below the numbers of refused bytes.
+pub event_small : (p : ℕ) (s : Option MtcSequence) → p ≤ 255 → flat_event (event_with p s) < refused_from
 unfolding flat_event
 event_small p s h =
     let b : bit_of (event_with p s).boundary ≤ 1 = bit_small (event_with p s).boundary in
     let r : flat_report s ≤ 7 = report_small s in
     omega (arith, h, b, r)
 
--- The number of a byte that gives an event is the event's, and that of a refused one is the refusal's, a byte of 256 to the seventh.
+-- The number of a byte that gives an event is the event's, and that of a refused one has the refusal's in the highest byte.
 pub given_number : (e : MtcEvent) → flat_byte_answer (gives e) ≡ flat_event e
 unfolding flat_byte_answer
 given_number e = refl
 
-pub refused_number : (r : Refusal) → flat_byte_answer (refused r) ≡ r.number * 0x100000000000000
+pub refused_number : (r : Refusal) → flat_byte_answer (refused r) ≡ r.number * refused_from
 unfolding flat_byte_answer
 refused_number r = refl
 
 -- So the highest byte of any byte's number is its refusal, 0 where it has none.
-pub highest_byte : (r : MtcReader) (b : ℕ) → flat_byte_answer (event_of r b) / 0x100000000000000 ≡ refusal_in (event_of r b)
+pub highest_byte : (r : MtcReader) (b : ℕ) → flat_byte_answer (event_of r b) / refused_from ≡ refusal_in (event_of r b)
 unfolding flat_byte_answer refusal_in
 highest_byte r b = go (is_heard b)
   where
-    go : (t : Bool) → flat_byte_answer (cond t (gives (event_heard r b)) (refused (refusal 13))) / 0x100000000000000
+    go : (t : Bool) → flat_byte_answer (cond t (gives (event_heard r b)) (refused (refusal 13))) / refused_from
         ≡ refusal_in (cond t (gives (event_heard r b)) (refused (refusal 13)))
     go true =
-        let l : flat_event (event_heard r b) < 0x100000000000000
+        let l : flat_event (event_heard r b) < refused_from
         = event_small (piece_of b) (report_of (or_fresh r) (piece_of b) (value_of b)) (omega arith) in
         omega (arith, l)
     go false = refl

@@ -128,10 +128,14 @@ flat_report (Some s) = 1 + flat_direction s.direction * 2 + bit_of s.discontinui
 unfoldable pub flat_event : MtcEvent → ℕ
 flat_event e = e.piece + bit_of e.boundary * 256 + flat_report e.sequence * 512
 
+-- From this number on, which has 1 in the highest byte, a byte was refused; every event is below it.
+abbrev pub refused_from : ℕ
+refused_from = 0x100000000000000
+
 -- What a byte is answered, as one number: an event's, or a refusal's number in the highest byte alone.
 unfoldable pub flat_byte_answer : Answer MtcEvent → ℕ
 flat_byte_answer (gives e) = flat_event e
-flat_byte_answer (refused r) = r.number * 0x100000000000000
+flat_byte_answer (refused r) = r.number * refused_from
 
 -- A label, or all zeros.
 abbrev pub label_or : Option MtcTime → MtcTime

@@ -13,7 +13,7 @@ use lib.Dec.{T, lit≤}
 use lib.ListN.{length, drop, get_or, drop_of_length-le}
 use lib.Seq.{drop-cons}
 use Rattle.fast_mtc.proofs.Laws.{event_small, given_number, refused_number, event_report, none_reported, some_reported, jump_reported, report_back, kept_back}
-use Rattle.fast_mtc.specs.Reader.{flat_report, flat_event, flat_byte_answer, reader_in, report_in}
+use Rattle.fast_mtc.specs.Reader.{flat_report, flat_event, flat_byte_answer, refused_from, reader_in, report_in}
 use Rattle.fimbrast.specs.Feed.{Fed, unfed, fed_after, fed_refused, fed_answer, fed_by, fed_all, fed, flat_fed, flat_counted, reports_in, jump, later_report, total, last_report, Feeds}
 use Rattle.fimbrast.specs.declared.feed.FlatFed.{FlatFed}
 use Rattle.mtc.proofs.Laws.{Sound, as_is, byte_sound, report_labels, heard_byte, refused_byte, calls_none, calls_more, events_more, events_same}
@@ -105,11 +105,11 @@ left_by f b = go (after_byte f.reader b) (event_of f.reader b)
     go r (refused k) = refl
 
 -- The number of a byte's answer, counted.
-report_of_number : (f : Fed) (r : MtcReader) (s : Option MtcSequence) (e : ℕ) → e / 512 ≡ flat_report s → e < 0x100000000000000
+report_of_number : (f : Fed) (r : MtcReader) (s : Option MtcSequence) (e : ℕ) → e / 512 ≡ flat_report s → e < refused_from
     → flat_counted (flat_fed f) e ≡ flat_fed (fed_after f r s)
 unfolding flat_counted flat_fed fed_after
 report_of_number f r None e h l = rw (h, none_reported)
-report_of_number f r (Some s) e h l = rw (lt-leb 0x100000000000000 e l, h, some_reported s, jump_reported s)
+report_of_number f r (Some s) e h l = rw (lt-leb refused_from e l, h, some_reported s, jump_reported s)
 
 number_counted : (f : Fed) (b : ℕ) → flat_counted (flat_fed f) (flat_byte_answer (event_of f.reader b)) ≡ flat_fed (fed_by f b)
 unfolding fed_by flat_counted flat_fed fed_refused

@@ -3,7 +3,7 @@
 use Rattle.mtc.specs.declared.reader.MtcSequence.{MtcSequence}
 use Rattle.std.specs.Prelude.{ℕ, ◌+◌, ◌/◌, ◌%◌, cond, leb, List, [], ◌∷◌, map, length, ◌≡◌, Option, Some, None}
 use Rattle.fast_mtc.specs.Generator.{is_set}
-use Rattle.fast_mtc.specs.Reader.{flat_report, report_in}
+use Rattle.fast_mtc.specs.Reader.{flat_report, refused_from, report_in}
 use Rattle.fimbrast.specs.declared.feed.FlatFed.{FlatFed}
 use Rattle.mtc.specs.QuarterFrame.{unheard}
 use Rattle.mtc.specs.Reader.{after_byte, event_of}
@@ -97,7 +97,7 @@ refusal_counted f =
 
 -- A byte's number, counted: nothing, a refusal, which is above every event, or a report.
 unfoldable pub flat_counted : FlatFed → ℕ → FlatFed
-flat_counted f e = cond (is_set (e / 512)) (cond (leb 0x100000000000000 e) (refusal_counted f) (report_counted f (e / 512))) f
+flat_counted f e = cond (is_set (e / 512)) (cond (leb refused_from e) (refusal_counted f) (report_counted f (e / 512))) f
 
 -- ---- what it means
 

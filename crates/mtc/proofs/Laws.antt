@@ -116,7 +116,7 @@ pub current_reverse : (t : MtcTime) (p : Option MtcTime) → T (is_valid t) → 
 current_reverse = QuarterFrames.current_reverse
 
 -- A reader that is ready for a sequence reads it, of every label whose numbers fit their widths, and is ready for the next one; also
--- where status bytes slip in among its bytes, which are all heard.
+-- where status bytes slip in among the sequence's own.
 pub sequence_read : (r : MtcReader) (d : Direction) (t : MtcTime) (bs : List ℕ) → Ready d r → InWidths t → heard bs ≡ sequence d t
     → ReadsLabel d bs t r
 sequence_read = QuarterFrames.sequence_read
