@@ -2,6 +2,7 @@
 // counts on past the end of the buffer, so that a refusal for room gives the needed length.
 ghost use Rattle.universal.specs.Refusals.{answer_of};
 ghost use Rattle.std.specs.Prelude.{◌≡◌, ◌<◌, ◌∷◌, [], length, Some, None};
+ghost use lib.Dec.{leb};
 ghost use Rattle.universal.specs.Overlay.{overlay};
 ghost use Rattle.universal.specs.Emission.{answer, reached};
 ghost use Rattle.universal.specs.Midi1.{is_addressed, has_sub_id2, class_id};
@@ -67,7 +68,14 @@ fn class_id(real_time: bool) -> u8
 pub fn all_low(bytes: &[u8]) -> bool
     ensures { result ≡ all_low bytes.now }
 {
-    bytes.iter().all(|&byte| byte <= 0x7F)
+    bytes.iter().all(|&byte| is_low(byte))
+}
+
+// One byte of them, a call of its own so that a wrong bound is refused by this equation.
+fn is_low(byte: u8) -> bool
+    ensures { result ≡ leb byte 127 }
+{
+    byte <= 0x7F
 }
 
 // Puts F7H at a position, and answers the whole length, or that the buffer is too small for it.
