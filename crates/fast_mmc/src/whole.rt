@@ -101,6 +101,7 @@ fn is_low(number: u64) -> bool
 }
 
 // True only where counts, subframes and rate are in range: the highest bits of the word and of one sum say it of all at once.
+#[tactic(auto, using(crate::proofs::WordRanges::counts_in_range))]
 fn is_in_range(word: u64) -> bool
     ensures { result ≡ true → WordInRange word }
 {

@@ -42,6 +42,10 @@ round_sum : (c x y d : ℕ) → ((c + x) % d + y) % d ≡ (c + (x + y) % d) % d
 round_sum c x y d =
     mod-add-mod (c + x) d y ∙ ap (λ (k : ℕ). k % d) (add_assoc c x y) ∙ sym (add-mod-mod c (x + y) d)
 
+pub moved_count : (t : MtcTime) (z : ℤ) → frame_count (add_frames t z) ≡ (frame_count t + mod_z z (day_of t.rate)) % day_of t.rate
+unfolding add_frames
+moved_count t z = count_of_label (frame_count t + mod_z z (day_of t.rate)) t.rate
+
 moved_twice : (r : TimeCodeType) (c : ℕ) (a b : ℤ)
     → label_at (frame_count (label_at (c + mod_z a (day_of r)) r) + mod_z b (day_of r)) r ≡ label_at (c + mod_z (a +ℤ b) (day_of r)) r
 moved_twice r c a b =

@@ -1,11 +1,11 @@
 -- A writing one call at a time, for crates above: what an opening, an item and a close are, and which test decides them. Assumes
 -- nothing.
-use Rattle.std.specs.Prelude.{None}
+use Rattle.std.specs.Prelude.{None, Some}
 use Prim.Native.Nat.{ℕ, ◌+◌, ◌≤◌, ◌<◌}
 use mathlib.Core.Path.{◌≡◌, refl}
-use mathlib.Core.Bool.{true}
+use mathlib.Core.Bool.{Bool, true, false, cond, ◌&&◌}
 use mathlib.Core.List.{List, [], ◌∷◌}
-use lib.Dec.{lit≤}
+use lib.Dec.{leb, ltb, lit≤}
 use lib.ListN.{length}
 use Rattle.mmc.specs.Names.{NamesSent}
 use Rattle.mmc.specs.declared.command.MmcCommand.TheVariants as C
@@ -14,13 +14,14 @@ use Rattle.mmc.specs.Item.{command_item, is_subframes, locate_target_item, stand
 use Rattle.mmc.specs.Length.{within}
 use Rattle.mmc.specs.Named.{extent_of}
 use Rattle.mmc.specs.Strings.{Given}
-use Rattle.mmc.specs.Write.{Writing, or_failed, opened_commands, begun, admitted, writing_past, writing_after, closed_message, whole_message}
+use Rattle.mmc.specs.Write.{Writing, or_failed, opened_commands, begun, ready, admitted, writing_past, writing_after, closed_message, whole_message}
 use Rattle.mmc.specs.Writings.{State, opened, after_item, after_items, opening_of, string_state, string_answer, string_left}
 use Rattle.codes.specs.declared.time_code.StandardTimeCode.{StandardTimeCode}
 use Rattle.codes.specs.TimeCode.{standard_fits, standard_list}
 use Rattle.universal.specs.Emission.{Emission, sent, refusing, check, resume, ◌then◌, answer_in}
 use Rattle.universal.specs.Message.{header}
 use Rattle.universal.specs.Overlay.{overlay}
+use Rattle.universal.specs.Refusals.{refusal}
 use Rattle.universal.proofs.Laws.{opening_device, opening_plain}
 -- A writing in its limits has its own refusal, if any; one with a refusal repeats it; one without takes an item; and what a close
 -- does by the position.
@@ -44,6 +45,26 @@ unfolding begun
 begun_after e = refl
 
 -- ---- an item
+
+-- The refusal of a writing: its own, or 10 past its limits.
+pub or_failed_stop : (w : Writing) → (or_failed w).stop ≡ cond (leb w.items 256 && leb w.at 40000) w.stop (Some (refusal 10))
+unfolding or_failed
+or_failed_stop w = go (leb w.items 256 && leb w.at 40000)
+  where
+    go : (b : Bool)
+        → (cond b w (record { at = w.at; items = w.items; stop = Some (refusal 10) })).stop ≡ cond b w.stop (Some (refusal 10))
+    go true = refl
+    go false = refl
+
+-- Its refusal for the next item: that, or 10 where 256 were accepted.
+pub ready_stop : (w : Writing) → ready w ≡ (resume [] (or_failed w).stop (check (ltb w.items 256) 10)).stop
+unfolding ready
+ready_stop w = refl
+
+-- What goes out of an item comes after that refusal.
+pub admitted_after : (w : Writing) (e : Emission) → admitted w e ≡ resume [] (ready w) e
+unfolding admitted
+admitted_after w e = refl
 
 -- The writing moves on by what went out.
 pub writing_after_moves : (w : Writing) (e : Emission) → writing_after w e ≡ writing_past w (extent_of (admitted w e))

@@ -3,22 +3,22 @@
 -- readers are ready. Assumes nothing.
 use Rattle.std.specs.Prelude.{Option, Some, None}
 use Prim.Native.Nat.{ℕ, zero, suc, ◌+◌, ◌*◌, ◌/◌, ◌%◌, ◌≤◌, ◌<◌}
-use mathlib.Core.Bool.{Bool, true, false, not, cond}
+use mathlib.Core.Bool.{Bool, true, false, not, cond, ◌&&◌}
 use mathlib.Core.List.{List, [], ◌∷◌, ◌++◌, map, reverse, append-nil}
 use mathlib.Core.Logic.{inl}
 use mathlib.Core.Path.{◌≡◌, refl, sym, ◌∙◌, ap, ap₂, subst}
 use native.Mathlib.Omega.{arith}
-use lib.Dec.{T, leb→le, le→leb}
+use lib.Dec.{T, eqb, eqb→eq, leb→le, le→leb}
 use lib.IntN.{pos, negsuc}
 use lib.ListN.{length, get_or}
 use Rattle.mtc.specs.Generator.{first, final, sequence_frames, sent_at}
 use Rattle.mtc.specs.QuarterFrame.{piece_of, value_of, quarter_frame, is_heard, heard, from_byte, to_byte, pieces, masked}
-use Rattle.mtc.specs.Reader.{fresh, Sound, or_fresh, control, raw_of, sequence_of_label, event_heard, after_byte, after_full_message}
+use Rattle.mtc.specs.Reader.{fresh, Sound, or_fresh, control, raw_of, same_time, sequence_of_label, event_heard, after_byte, after_full_message}
 use Rattle.mtc.specs.Ready.{Starts, Ready, NotAgainst, eight_pieces, label_of_bytes, after_bytes, ReadsLabel}
 use Rattle.mtc.specs.Rp004.{data_byte, type_code, InWidths, data_bytes, sequence, next_label, sequences_from, is_boundary, current_time}
 use Rattle.labels.specs.St12.{label, is_valid, label_after, label_before}
 use Rattle.mtc.specs.Stream.{Call, byte, run_from, bytes_sent, after_calls, events, newest, silent, in_order}
-use Rattle.labels.specs.Time.{add_frames, bits_of, rate_at}
+use Rattle.labels.specs.Time.{add_frames, bits_of, rate_at, type_of}
 use Rattle.labels.specs.declared.time.MtcTime.{MtcTime}
 use Rattle.mtc.specs.declared.generator.Direction.{Direction}
 use Rattle.mtc.specs.declared.generator.Direction.TheVariants.{Forward, Reverse}
@@ -31,7 +31,7 @@ use Rattle.std.specs.List.{list_all}
 use borrow.Author.Tests.{lt-leb}
 use Rattle.mtc.proofs.Sequences.HeardBytes.{heard_byte, all_heard, sent_heard}
 use Rattle.mtc.proofs.Sequences.LabelNibbles.{bits_code, nibble, Values, nibbles_in_order, assembled, values, split, split_pieces, raw_values}
-use Rattle.labels.proofs.Laws.{moved_valid, moved_by_sum, moved_by_one, moved_back_one}
+use Rattle.labels.proofs.Laws.{rate_back, moved_valid, moved_by_sum, moved_by_one, moved_back_one}
 use Rattle.mtc.proofs.Widths.{valid_in_widths}
 use Rattle.mtc.proofs.Sequences.WholeSequences.{run, leave, Eight, eight, eight_of, left, round, round_left}
 use Rattle.mtc.proofs.Sequences.Sending.{later_label, sends_first, sends_next}
@@ -352,3 +352,26 @@ last_piece_ready cs b d h e =
     record { sound = p.sound; starts = starts_after_last d _ (after_byte r b) p.shape last }
 
 -- ---- a discontinuity
+
+five_parts : (a b c d e : Bool) → T (a && (b && (c && (d && e)))) → T a × T b × T c × T d × T e
+five_parts false b c d e h = absurd h
+five_parts true false c d e h = absurd h
+five_parts true true false d e h = absurd h
+five_parts true true true false e h = absurd h
+five_parts true true true true e h = (tt, tt, tt, tt, h)
+
+-- The two labels that the reader compares are one where its test says so.
+pub same_label : (t u : MtcTime) → T (same_time t u) → t ≡ u
+same_label t u h =
+    let k = five_parts (eqb t.hours u.hours) (eqb t.minutes u.minutes) (eqb t.seconds u.seconds)
+    (eqb t.frames u.frames) (eqb (bits_of t.rate) (bits_of u.rate)) h in
+    let r : t.rate ≡ u.rate =
+    sym (rate_back t.rate) ∙ ap type_of (eqb→eq (bits_of t.rate) (bits_of u.rate) k.4) ∙ rate_back u.rate in
+    λ i.
+    record {
+      hours = eqb→eq t.hours u.hours k.0 i;
+      minutes = eqb→eq t.minutes u.minutes k.1 i;
+      seconds = eqb→eq t.seconds u.seconds k.2 i;
+      frames = eqb→eq t.frames u.frames k.3 i;
+      rate = r i;
+    }
