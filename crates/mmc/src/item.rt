@@ -211,12 +211,28 @@ fn put_field(out: &mut [u8], place: Position, source: &[u8], field: InfoField) -
     }
 }
 
-// What a string is made of: a command or a field. `emission` is what goes out of one before the check that refuses it, `meaning` what a
-// name and data are read as.
-pub trait Item {
-    ghost kind: { Kind };
+// Where a writer lets an item be put. It has no name outside this crate, so a writer alone can ask for it.
+#[derive(Clone, Copy)]
+pub struct Slot {
+    pub place: Position,
+}
 
+// What a writer puts. This trait has no name outside this crate: a writer takes commands and fields, and nothing else.
+pub trait Puts {
+    // What goes out of one before the check that refuses it.
     ghost emission: { List ℕ → Self → Emission };
+
+    // Puts it into a buffer. Its parts lie in the lent source.
+    fn put(self, out: &mut [u8], slot: Slot, source: &[u8]) -> Put
+        ensures result_value { put_of result ≡ extent_of (emission source.now self) }
+        ensures out_after { out.new ≡ overlay out.old slot.place.at (emission source.now self).bytes }
+        // A name of three bytes at most, a count byte and 127 bytes of data.
+        ensures length_at_most { result.len ≤ 131 };
+}
+
+// What a string is made of: a command or a field. `meaning` is what a name and data are read as.
+pub trait Item: Puts {
+    ghost kind: { Kind };
 
     ghost meaning: { List ℕ → List ℕ → Part → Part → Self };
 
@@ -224,22 +240,21 @@ pub trait Item {
     fn kind() -> Kind
         ensures { result ≡ kind };
 
-    // Puts it into a buffer. Its parts lie in the lent source.
-    fn put(self, out: &mut [u8], place: Position, source: &[u8]) -> Put
-        ensures result_value { put_of result ≡ extent_of (emission source.now self) }
-        ensures out_after { out.new ≡ overlay out.old place.at (emission source.now self).bytes }
-        // A name of three bytes at most, a count byte and 127 bytes of data.
-        ensures length_at_most { result.len ≤ 131 };
-
     // The one that stands at a place of a string.
     fn read(body: &[u8], place: ItemPlace) -> Self
         ensures { result ≡ parts_as meaning body.now place };
 }
 
+impl Puts for MmcCommand {
+    ghost emission = { command_item };
+
+    fn put(self, out: &mut [u8], slot: Slot, source: &[u8]) -> Put {
+        put_command(out, slot.place, source, self)
+    }
+}
+
 impl Item for MmcCommand {
     ghost kind = { Commands };
-
-    ghost emission = { command_item };
 
     ghost meaning = { λ (x y : List ℕ). command_of_case (read_command x y) };
 
@@ -247,28 +262,26 @@ impl Item for MmcCommand {
         Kind::Commands
     }
 
-    fn put(self, out: &mut [u8], place: Position, source: &[u8]) -> Put {
-        put_command(out, place, source, self)
-    }
-
     fn read(body: &[u8], place: ItemPlace) -> MmcCommand {
         command::read(body, place)
+    }
+}
+
+impl Puts for InfoField {
+    ghost emission = { field_item };
+
+    fn put(self, out: &mut [u8], slot: Slot, source: &[u8]) -> Put {
+        put_field(out, slot.place, source, self)
     }
 }
 
 impl Item for InfoField {
     ghost kind = { Fields };
 
-    ghost emission = { field_item };
-
     ghost meaning = { λ (x y : List ℕ). field_of_case (read_field x y) };
 
     fn kind() -> Kind {
         Kind::Fields
-    }
-
-    fn put(self, out: &mut [u8], place: Position, source: &[u8]) -> Put {
-        put_field(out, place, source, self)
     }
 
     fn read(body: &[u8], place: ItemPlace) -> InfoField {

@@ -9,7 +9,7 @@ ghost use Rattle.mmc.specs.Write.{writing_of, opens_at, writing_past, or_failed,
 
 use crate::command::MmcCommand;
 use crate::field::InfoField;
-use crate::item::Item;
+use crate::item::{Item, Puts, Slot};
 use crate::message::{COMMAND, RESPONSE};
 use crate::named::{Position, Put};
 use universal::{SysexError, Universal, close};
@@ -34,7 +34,7 @@ pub struct Wrote {
     pub checked: Result<(), SysexError>,
 }
 
-// The writer of an opening. No `From`: with one, anyone could make a writer at a position.
+// The writer of an opening. No `From`: not every number is the position of an opening.
 fn opened_writer(opened: Result<usize, SysexError>) -> Writer
     ensures { writing_of result ≡ opens_at (answer_of opened) }
 {
@@ -159,7 +159,10 @@ impl Writer {
         ensures out_after { out.new ≡ out_after (writing_of self) out.old (I.emission source.now item) }
     {
         match self.ready() {
-            Ok(()) => self.after(item.put(out, Position { at: self.at }, source)),
+            Ok(()) => {
+                let place = Position { at: self.at };
+                self.after(item.put(out, Slot { place }, source))
+            }
             Err(e) => self.failed(e),
         }
     }

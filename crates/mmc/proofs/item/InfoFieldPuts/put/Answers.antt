@@ -1,8 +1,8 @@
--- `mmc::item::InfoFieldItem::put`: no item is longer than 131 bytes. Assumes nothing.
+-- `mmc::item::InfoFieldPuts::put`: no item is longer than 131 bytes. Assumes nothing.
 use native.Mathlib.Omega.{arith}
 use mathlib.Core.Path.{ap}
 use Rattle.mmc.proofs.Writing.ItemPuts.{field_small}
-use Rattle.mmc.proofs.item.InfoFieldItem.put.Goals as goal
+use Rattle.mmc.proofs.item.InfoFieldPuts.put.Goals as goal
 
 pub returns-clause-length_at_most : goal.returns-clause-length_at_most
 returns-clause-length_at_most c =
