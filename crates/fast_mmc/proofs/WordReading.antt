@@ -6,8 +6,8 @@ use mathlib.Core.Bool.{Bool, true, false, cond, true≢false}
 use mathlib.Core.Logic.{⊎_elim}
 use mathlib.Core.List.{List, [], ◌∷◌}
 use native.Mathlib.Omega.{arith}
-use borrow.Author.Tests.{leb-true, ltb-true}
-use lib.Dec.{eqb, leb, ltb}
+use borrow.Author.Tests.{leb-true, ltb-true, eqb-true, eqb-false}
+use lib.Dec.{eqb, leb, ltb, lit<}
 use Rattle.universal.proofs.Tests.{and_parts}
 use lib.ListN.{length, get_or, take}
 use lib.Seq.{drop-cons}
@@ -16,7 +16,7 @@ use Rattle.mmc.specs.declared.length.Kind.TheVariants.{Commands}
 use Rattle.mmc.specs.declared.length.Length.TheVariants.{Fixed, Count}
 use Rattle.mmc.specs.declared.part.Part.{Part}
 use Rattle.mmc.specs.Command as K
-use Rattle.mmc.specs.Command.{CommandCase, command_by_name, read_command, command_of_case, next_command}
+use Rattle.mmc.specs.Command.{CommandCase, command_by_name, read_command, read_locate, command_of_case, next_command}
 use Rattle.mmc.specs.Length.{command_length, within}
 use Rattle.mmc.specs.Part.{part, part_of}
 use Rattle.mmc.specs.Split.{next, next_item_of}
@@ -30,7 +30,7 @@ use Rattle.fast_mmc.specs.Clauses.{AloneWord, ShortWord, longer, alone_word}
 use Rattle.universal.specs.Refusals.{refusal_of}
 use Rattle.universal.specs.declared.error.SysexError.{SysexError}
 use Rattle.codes.proofs.Laws.{standard_parts}
-use Rattle.mmc.proofs.ReadingLaws.{command_length_lem, names_read, unknown_byte, below_range, by_byte, part_inside, command_refused, command_prefixed, command_end, command_alone, command_no_count, command_few_data, command_counted}
+use Rattle.mmc.proofs.ReadingLaws.{command_length_lem, names_read, locate_cut, locate_unknown, unknown_byte, below_range, by_byte, part_inside, command_refused, command_prefixed, command_end, command_alone, command_no_count, command_few_data, command_counted}
 
 -- ---- the bytes of a time code
 
@@ -180,6 +180,31 @@ pub counted_bounds : (name : ℕ) → within 64 120 name ≡ true → (64 ≤ na
 counted_bounds name h = let p = and_parts (leb 64 name) (ltb name 120) h in (leb-true _ _ p.0, ltb-true _ _ p.1)
 
 -- ---- a name with a count
+
+-- A name's word is that of the case that its byte is read as.
+pub byte_word : (d : List ℕ) (n a : Part) (x k : ℕ) (m : CommandCase) → x ≡ k → command_by_name k d ≡ m
+    → command_word (command_of_case m n a) ≡ command_word (command_of_case (command_by_name x d) n a)
+byte_word d n a x k m e r =
+    ap (λ (c : CommandCase). command_word (command_of_case c n a)) (sym r ∙ ap (λ (y : ℕ). command_by_name y d) (sym e))
+
+-- A name that has a count, and is none of the known ones, is another command.
+pub counted_other : (d : List ℕ) (n a : Part) (x : ℕ) → 64 ≤ x → (x ≡ 64 → ⊥) → (x ≡ 68 → ⊥) → (x ≡ 76 → ⊥)
+    → command_word (Other n a) ≡ command_word (command_of_case (command_by_name x d) n a)
+counted_other d n a x h p q r =
+    let apart : (k : ℕ) → k < 64 → x ≡ k → ⊥ = λ k l e. omega (arith, h, l, e) in
+    let other : command_by_name x d ≡ K.other =
+    unknown_byte d n a x
+    (((((((((((((tt, apart 1 (lit< tt)), apart 2 (lit< tt)), apart 3 (lit< tt)), apart 4 (lit< tt)), apart 5 (lit< tt)), apart 6 (lit< tt)), apart 7 (lit< tt)), apart 9 (lit< tt)), apart 13 (lit< tt)), p), q), r)) in
+    sym (ap (λ (c : CommandCase). command_word (command_of_case c n a)) other)
+
+-- Data of a Locate that is too short for a time, and does not begin with the sub-command of a register, is another command.
+pub locate_few : (d : List ℕ) (n a : Part) → 2 ≤ length d → length d < 6 → (get_or d 0 0 ≡ 0 → ⊥)
+    → Other n a ≡ command_of_case (read_locate d) n a
+locate_few d n a few short none = go (eqb (get_or d 0 0) 1) refl
+  where
+    go : (b : Bool) → eqb (get_or d 0 0) 1 ≡ b → Other n a ≡ command_of_case (read_locate d) n a
+    go true e = locate_cut d n a few (eqb-true _ _ e) short
+    go false e = locate_unknown d n a few none (eqb-false _ _ e)
 
 -- ---- the next command of a string
 

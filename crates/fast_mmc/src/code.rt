@@ -231,7 +231,7 @@ pub fn flat_name(name: Option<u8>) -> u8
 impl From<Result<[u8; 5], SysexError>> for FlatCodeBytes {
     ghost from_gives = { λ written f. (f.refusal ≡ refusal_in (answer_of written)) × (f.code.bytes ≡ five_bytes (answer_of written)) };
 
-    #[tactic(auto, unfolding(fast_mtc::specs::Refusal::refusal_in))]
+    #[tactic(auto, using(fast_mtc::proofs::Laws::in_gives, fast_mtc::proofs::Laws::in_refused))]
     fn from(written: Result<[u8; 5], SysexError>) -> FlatCodeBytes {
         match written {
             Ok(bytes) => FlatCodeBytes {
@@ -249,7 +249,7 @@ impl From<Result<[u8; 5], SysexError>> for FlatCodeBytes {
 impl From<Result<[u8; 2], SysexError>> for FlatShortBytes {
     ghost from_gives = { λ written f. (f.refusal ≡ refusal_in (answer_of written)) × (f.code.bytes ≡ two_bytes (answer_of written)) };
 
-    #[tactic(auto, unfolding(fast_mtc::specs::Refusal::refusal_in))]
+    #[tactic(auto, using(fast_mtc::proofs::Laws::in_gives, fast_mtc::proofs::Laws::in_refused))]
     fn from(written: Result<[u8; 2], SysexError>) -> FlatShortBytes {
         match written {
             Ok(bytes) => FlatShortBytes {

@@ -103,7 +103,7 @@ fn other_word(item: ItemPlace) -> u64
 }
 
 // The command of a name that has a count, and of its data, which lie at this place of the string.
-#[tactic(auto, unfolding(crate::specs::Word::command_word, mmc::specs::Command::command_by_name))]
+#[tactic(auto, unfolding(crate::specs::Word::command_word), using(crate::proofs::WordReading::counted_other))]
 fn read_word(name: u8, data: &[u8], item: ItemPlace) -> u64
     requires { (64 ≤ name) × (name < 120) }
     ensures { result ≡ command_word (command_of_case (command_by_name name «data».now) item.name item.«data») }
@@ -117,7 +117,7 @@ fn read_word(name: u8, data: &[u8], item: ItemPlace) -> u64
 }
 
 // Locate, by its sub-command.
-#[tactic(auto, unfolding(crate::specs::Word::command_word, mmc::specs::Command::read_locate))]
+#[tactic(auto, unfolding(crate::specs::Word::command_word), using(mmc::proofs::ReadingLaws::locate_register, mmc::proofs::ReadingLaws::locate_to_time))]
 fn locate_word(data: &[u8], item: ItemPlace) -> u64
     ensures { result ≡ command_word (command_of_case (read_locate «data».now) item.name item.«data») }
 {
