@@ -67,6 +67,11 @@ finished g = record { generator = g; answer = gives Done }
 abbrev pub unchanged : MtcGenerator → ℕ → Outcome
 unchanged g n = record { generator = g; answer = refused (refusal n) }
 
+-- Done, with the generator that was left; 7 where there is none.
+abbrev pub outcome_with : MtcGenerator → Option MtcGenerator → Outcome
+outcome_with g (Some left) = finished left
+outcome_with g None = unchanged g 7
+
 -- ---- the commands
 
 -- Stopped.

@@ -2,7 +2,8 @@
 // one by one, and a refused one leaves the generator as it was.
 ghost use Rattle.std.specs.Prelude.{◌≡◌};
 ghost use Rattle.universal.specs.Refusals.{refusal_of, refused};
-ghost use Rattle.transport.specs.Transport.{before_midnight, resolved, applied_of, finished, acted, applied};
+ghost use Rattle.mtc.specs.Generator.{with_running};
+ghost use Rattle.transport.specs.Transport.{before_midnight, resolved, applied_of, finished, playing, outcome_with, acted, applied};
 
 use mmc::{MmcCommand, StandardTimeCode};
 use mtc::{Direction, MtcGenerator, MtcTime};
@@ -22,7 +23,9 @@ pub struct Applied {
     pub answer: Result<Reply, SysexError>,
 }
 
-// A label's count taken backwards from midnight (document 02, #103); minus zero is zero.
+// A label's count taken backwards from midnight (document 02, #103); minus zero is zero. Few targets come here; as a part of `apply` it would
+// make every command save registers.
+#[inline(never)]
 #[tactic(auto, using(labels::proofs::Laws::count_below))]
 fn before_midnight(time: MtcTime) -> MtcTime
     ensures { result ≡ before_midnight time }
@@ -51,16 +54,6 @@ fn resolve(code: StandardTimeCode) -> Option<MtcTime>
     Some(moved)
 }
 
-// The command was done, and left this generator.
-fn done(generator: MtcGenerator) -> Applied
-    ensures { applied_of result ≡ finished generator }
-{
-    Applied {
-        generator,
-        answer: Ok(Reply::Done),
-    }
-}
-
 // The command was refused, and the generator stays.
 fn unchanged(generator: MtcGenerator, error: SysexError) -> Applied
     ensures { applied_of result ≡ record { generator = generator; answer = refused (refusal_of error) } }
@@ -71,39 +64,59 @@ fn unchanged(generator: MtcGenerator, error: SysexError) -> Applied
     }
 }
 
-// Located at the target and stopped, or 7.
+// `set_running` in place, so that the record stays whole in registers.
+fn run(mut generator: MtcGenerator, running: bool) -> MtcGenerator
+    ensures { result ≡ with_running generator running }
+{
+    generator.running = running;
+    generator
+}
+
+// Located at the target and stopped, or none.
 #[tactic(auto, unfolding(crate::specs::Transport::acted))]
-fn locate(generator: MtcGenerator, code: StandardTimeCode) -> Applied
-    ensures { applied_of result ≡ acted generator (MmcCommand.LocateTarget code) }
+fn locate(generator: MtcGenerator, code: StandardTimeCode) -> Option<MtcGenerator>
+    ensures { outcome_with generator result ≡ acted generator (MmcCommand.LocateTarget code) }
 {
     match resolve(code) {
         Some(time) => {
             let there = generator.locate(time);
-            done(there.set_running(false))
+            Some(run(there, false))
         }
-        None => unchanged(generator, SysexError::Target),
+        None => None,
     }
 }
 
 // Running forward.
-#[tactic(auto, unfolding(crate::specs::Transport::acted))]
-fn play(generator: MtcGenerator) -> Applied
-    ensures { applied_of result ≡ acted generator MmcCommand.Play }
+fn play(generator: MtcGenerator) -> MtcGenerator
+    ensures { result ≡ playing generator }
 {
-    let turned = generator.set_direction(Direction::Forward);
-    done(turned.set_running(true))
+    run(generator.set_direction(Direction::Forward), true)
 }
 
-// What a command does to the generator.
+// The generator after a command; none after a Locate without a label to go to.
 #[tactic(auto, unfolding(crate::specs::Transport::acted))]
+fn generator_after(generator: MtcGenerator, command: MmcCommand) -> Option<MtcGenerator>
+    ensures { outcome_with generator result ≡ acted generator command }
+{
+    match command {
+        MmcCommand::Stop | MmcCommand::Pause => Some(run(generator, false)),
+        MmcCommand::Play | MmcCommand::DeferredPlay => Some(play(generator)),
+        MmcCommand::LocateTarget(code) => locate(generator, code),
+        _ => Some(generator),
+    }
+}
+
+// What a command does to the generator. One record is made for all commands: made anew in each case, it is put together byte by byte.
 fn act(generator: MtcGenerator, command: MmcCommand) -> Applied
     ensures { applied_of result ≡ acted generator command }
 {
-    match command {
-        MmcCommand::Stop | MmcCommand::Pause => done(generator.set_running(false)),
-        MmcCommand::Play | MmcCommand::DeferredPlay => play(generator),
-        MmcCommand::LocateTarget(code) => locate(generator, code),
-        _ => done(generator),
+    let left = generator_after(generator, command);
+    Applied {
+        generator: left.unwrap_or(generator),
+        answer: match left {
+            Some(_) => Ok(Reply::Done),
+            None => Err(SysexError::Target),
+        },
     }
 }
 
